@@ -1,12 +1,13 @@
 //! The reader's hold on the credit book.
 
 ghost use Rattle.std.specs.Prelude.{◌≡◌, ◌+◌, ◌<◌, ◌≤◌, true, IfErr, OnErr, OnOk};
-ghost use Rattle.connection.specs.Limits.{MayRefuse, MayTurnAway, one_more};
+ghost use Rattle.connection.specs.Limits.{MayRefuse, MayTurnAway, Tally, one_more};
 ghost use Rattle.connbook.specs.Receipts.{counted_of};
 
 use callworker::Shared;
 use connbook::{AdmitFault, Receipt};
 use h2frame::StreamId;
+use std::marker::Model;
 use std::sync::ledger::{Ledger, Share};
 use std::sync::{Arc, Wait};
 
@@ -20,8 +21,6 @@ pub(crate) struct Intake<A: Ledger, B: Ledger, C: Ledger> {
 }
 
 impl<A: Ledger, B: Ledger, C: Ledger> Model for Intake<A, B, C> {
-    ghost use Rattle.connection.specs.Limits.{Tally};
-
     ghost Value = { Tally };
 
     ghost view = { λ i. record { calls = i.calls.amount; came = i.came.amount } };
@@ -76,16 +75,16 @@ impl<A: Ledger, B: Ledger, C: Ledger> Intake<A, B, C> {
     }
 
     /// Where the reader meets the writer, which hands in its share: no more was announced on the connection than came.
-    pub(crate) fn audit(&mut self, rt: &impl Wait, told: Share<C>)
+    pub(crate) fn audit(self, rt: &impl Wait, told: Share<C>)
         requires told { told.parts ≡ C.parts }
-        ensures within { told.amount ≤ self.old.came }
+        ensures within { told.amount ≤ self.came }
     {
         let mut told = told;
         let Intake {
             shared,
-            came,
-            calls,
+            mut came,
+            mut calls,
         } = self;
-        shared.book.lock(rt).audit(came, calls, &mut told);
+        shared.book.lock(rt).audit(&mut came, &mut calls, &mut told);
     }
 }

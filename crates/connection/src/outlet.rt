@@ -1,6 +1,6 @@
 //! The writer's hold on the credit book.
 
-ghost use Rattle.std.specs.Prelude.{◌≡◌, ◌<◌};
+ghost use Rattle.std.specs.Prelude.{◌≡◌, ◌<◌, ℕ};
 ghost use Rattle.slotwriter.specs.Written.{LeadsTo};
 
 use callworker::Shared;
@@ -9,31 +9,46 @@ use device::ConnWrite;
 use flow::MAX_LIVE;
 use h2frame::StreamId;
 use slotwriter::SlotWriter;
+use std::marker::Model;
 use std::sync::ledger::{Ledger, Share};
 use std::sync::{Arc, Wait};
 
-/// The credit book, and the share of the one who announces credit.
+/// The credit book, and the share of the one who announces credit: all parts of its ledger. Its value is how much was announced on the
+/// connection.
 #[derive(Drop)]
 pub(crate) struct Outlet<A: Ledger, B: Ledger, C: Ledger> {
-    pub(crate) shared: Arc<Shared<A, B, C>>,
-    pub(crate) told: Share<C>,
-    ghost some: { 0 < told.parts },
+    shared: Arc<Shared<A, B, C>>,
+    told: Share<C>,
+}
+
+impl<A: Ledger, B: Ledger, C: Ledger> Model for Outlet<A, B, C> {
+    ghost Value = { ℕ };
+
+    ghost view = { λ o. o.told.amount };
+
+    ghost invariant = { λ o. (o.told.parts ≡ C.parts) × (0 < C.parts) };
 }
 
 impl<A: Ledger, B: Ledger, C: Ledger> Outlet<A, B, C> {
     pub(crate) fn new(shared: Arc<Shared<A, B, C>>, told: Share<C>) -> Outlet<A, B, C>
-        requires { 0 < told.parts }
-        ensures told { result.told ≡ told }
+        requires { (told.parts ≡ C.parts) × (0 < C.parts) }
+        ensures { result ≡ told.amount }
     {
         Outlet { shared, told }
     }
 
     /// The share of the one who announces credit.
     pub(crate) fn into_share(self) -> Share<C>
-        ensures { result ≡ self.told }
+        ensures amount { result.amount ≡ self }
+        ensures parts { result.parts ≡ C.parts }
     {
         let Outlet { told, .. } = self;
         told
+    }
+
+    /// What the threads of the connection share.
+    pub(crate) fn shared(&self) -> &Shared<A, B, C> {
+        &self.shared
     }
 
     /// The greatest stream that was admitted.
@@ -53,9 +68,7 @@ impl<A: Ledger, B: Ledger, C: Ledger> Outlet<A, B, C> {
         rt: &impl Wait,
         writing: &mut SlotWriter<W>,
     ) -> bool
-        ensures leads { LeadsTo W.contents W.failed self.old.told.amount writing.old
-            self.new.told.amount writing.new }
-        ensures parts { self.new.told.parts ≡ self.old.told.parts }
+        ensures { LeadsTo W.contents W.failed self.old writing.old self.new writing.new }
     {
         let Outlet { shared, told, .. } = self;
         let mut book = shared.book.lock(rt);

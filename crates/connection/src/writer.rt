@@ -45,13 +45,13 @@ impl<A: Ledger, B: Ledger, C: Ledger, W: ConnWrite + Drop, G: Gate + Drop> Write
     fn write(self, rt: &impl Wait) -> Parted<C, W>
         // The run granted on the connection what the share counts.
         ensures sent { (before : Option (List ℕ))
-            → Led W.contents W.failed before self.outlet.told.amount self.writing
+            → Led W.contents W.failed before self.outlet self.writing
             → HasSent W.contents W.failed before result.told.amount
             (taken result.written.orders) result.written.senders.places.items
             result.written.ending result.written.is_faultless result.written.resets.items
             result.written.blamed.items result.written.device }
         ensures name { out_name result.written.orders ≡ out_name self.writing.inbox.ring }
-        ensures parts { result.told.parts ≡ self.outlet.told.parts }
+        ensures parts { result.told.parts ≡ C.parts }
     {
         let mut writer = self;
         'turns: for _ in rt.forever() {
@@ -72,15 +72,14 @@ impl<A: Ledger, B: Ledger, C: Ledger, W: ConnWrite + Drop, G: Gate + Drop> Write
 
     /// Writes what can be written, and waits where that is nothing. Whether no more is to be written.
     fn turn(&mut self, rt: &impl Wait) -> bool
-        ensures leads { LeadsTo W.contents W.failed self.old.outlet.told.amount self.old.writing
-            self.new.outlet.told.amount self.new.writing }
+        ensures leads { LeadsTo W.contents W.failed self.old.outlet self.old.writing
+            self.new.outlet self.new.writing }
         ensures over { result ≡ true → LeadsOutTo W.contents W.failed
-            self.old.outlet.told.amount self.old.writing
-            self.new.outlet.told.amount self.new.writing }
-        ensures parts { self.new.outlet.told.parts ≡ self.old.outlet.told.parts }
+            self.old.outlet self.old.writing
+            self.new.outlet self.new.writing }
         ensures flushed { result ≡ true → IsFlushed self.new.writing }
     {
-        let mark = self.outlet.shared.writer.mark();
+        let mark = self.outlet.shared().writer.mark();
         let (filled, is_silent) = self.write_once(rt);
         match self.writing.rest(filled, is_silent) {
             Rest::None => {
@@ -137,22 +136,21 @@ impl<A: Ledger, B: Ledger, C: Ledger, W: ConnWrite + Drop, G: Gate + Drop> Write
     /// Waits for what is to be written.
     fn wait(&self, rt: &impl Wait, mark: u64) {
         self.outlet
-            .shared
+            .shared()
             .writer
             .wait_past(rt, mark, Duration::from_millis(STEP));
     }
 
     /// Takes what orders wait, and writes a buffer's worth of frames. Why there aren't more, and whether there was none.
     fn write_once(&mut self, rt: &impl Wait) -> (Filled, bool)
-        ensures leads { LeadsTo W.contents W.failed self.old.outlet.told.amount self.old.writing
-            self.new.outlet.told.amount self.new.writing }
+        ensures leads { LeadsTo W.contents W.failed self.old.outlet self.old.writing
+            self.new.outlet self.new.writing }
         ensures over { result.0 ≡ filling.Over → LeadsOutTo W.contents W.failed
-            self.old.outlet.told.amount self.old.writing
-            self.new.outlet.told.amount self.new.writing }
+            self.old.outlet self.old.writing
+            self.new.outlet self.new.writing }
         ensures stopped { result.0 ≡ filling.Stopped → LeadsOutTo W.contents W.failed
-            self.old.outlet.told.amount self.old.writing
-            self.new.outlet.told.amount self.new.writing }
-        ensures parts { self.new.outlet.told.parts ≡ self.old.outlet.told.parts }
+            self.old.outlet self.old.writing
+            self.new.outlet self.new.writing }
         ensures flushed { IsFlushed self.new.writing }
     {
         self.drain(rt);
@@ -185,8 +183,8 @@ impl<A: Ledger, B: Ledger, C: Ledger, W: ConnWrite + Drop, G: Gate + Drop> Write
 
     /// Orders were taken: there is room for others. A call that was opened by one of them after the writer had stopped is woken.
     fn tell_taken(&self) {
-        self.outlet.shared.reader.ring();
-        if self.outlet.shared.has_stopped() {
+        self.outlet.shared().reader.ring();
+        if self.outlet.shared().has_stopped() {
             self.writing.wake_all();
         }
     }
@@ -202,7 +200,7 @@ impl<A: Ledger, B: Ledger, C: Ledger, W: ConnWrite + Drop, G: Gate + Drop> Write
         match self.writing.take_next(last) {
             Took::Nothing => return false,
             Took::Early => {
-                self.outlet.shared.reader.ring();
+                self.outlet.shared().reader.ring();
                 return false;
             }
             Took::One => {}
@@ -241,7 +239,7 @@ impl<A: Ledger, B: Ledger, C: Ledger, W: ConnWrite + Drop, G: Gate + Drop> Write
 
     /// The writer has ended a stream: its call is cut, and its worker woken only then, so that it sees that.
     fn cut(&self, rt: &impl Wait, id: StreamId) {
-        self.outlet.shared.book.lock(rt).cut(id);
+        self.outlet.shared().book.lock(rt).cut(id);
         self.writing.wake(id);
     }
 
@@ -258,9 +256,8 @@ impl<A: Ledger, B: Ledger, C: Ledger, W: ConnWrite + Drop, G: Gate + Drop> Write
 
     /// Owes the peer what credit is due, and warns it where the server is to stop.
     fn announce(&mut self, rt: &impl Wait)
-        ensures leads { LeadsTo W.contents W.failed self.old.outlet.told.amount self.old.writing
-            self.new.outlet.told.amount self.new.writing }
-        ensures parts { self.new.outlet.told.parts ≡ self.old.outlet.told.parts }
+        ensures leads { LeadsTo W.contents W.failed self.old.outlet self.old.writing
+            self.new.outlet self.new.writing }
     {
         let Writer {
             outlet,
@@ -290,7 +287,7 @@ impl<A: Ledger, B: Ledger, C: Ledger, W: ConnWrite + Drop, G: Gate + Drop> Write
         ensures stays { Stays W.contents W.failed self.old.writing self.new.writing }
     {
         if self.writing.release_all() {
-            self.outlet.shared.reader.ring();
+            self.outlet.shared().reader.ring();
         }
     }
 
@@ -310,7 +307,7 @@ impl<A: Ledger, B: Ledger, C: Ledger, W: ConnWrite + Drop, G: Gate + Drop> Write
     /// The calls whose last frame is in the buffer take no more DATA.
     fn end_local(&self, rt: &impl Wait) {
         let outlet = &self.outlet;
-        let mut book = outlet.shared.book.lock(rt);
+        let mut book = outlet.shared().book.lock(rt);
         for id in self.writing.ended() {
             book.end_local(*id);
         }
@@ -326,11 +323,11 @@ impl<A: Ledger, B: Ledger, C: Ledger, W: ConnWrite + Drop, G: Gate + Drop> Write
     /// Nothing can be written now. Once the input has ended no window opens, so the calls that wait for one are cut. Where the writer has
     /// ended the connection, all that it writes is written.
     fn idle(&self, rt: &impl Wait) {
-        if self.outlet.shared.has_stopped() {
+        if self.outlet.shared().has_stopped() {
             self.gate.writing_ended();
         }
         let outlet = &self.outlet;
-        let mut book = outlet.shared.book.lock(rt);
+        let mut book = outlet.shared().book.lock(rt);
         for number in 0..self.writing.slots() {
             let Some(id) = self.writing.stuck(number) else {
                 continue;
@@ -344,8 +341,8 @@ impl<A: Ledger, B: Ledger, C: Ledger, W: ConnWrite + Drop, G: Gate + Drop> Write
 
     /// Nothing more is written: no call is live, and the workers that wait for room are woken to see that.
     fn stop(&self, rt: &impl Wait) {
-        self.outlet.shared.book.lock(rt).stop();
-        self.outlet.shared.stop();
+        self.outlet.shared().book.lock(rt).stop();
+        self.outlet.shared().stop();
         self.writing.wake_all();
     }
 }
@@ -396,8 +393,7 @@ where
     G: Gate + Send + Sync + Drop + 'static,
     R: Threads + Wait + Copy + Send + Sync + Drop + 'static,
     requires none { taken taking ≡ [] }
-    requires untold { outlet.told.amount ≡ 0 }
-    requires told { outlet.told.parts ≡ C.parts }
+    requires untold { outlet ≡ 0 }
     ensures begun { IfOk result (λ writing. W.contents writing.promise.device.value
         ≡ W.contents device) }
     ensures ring { IfOk result (λ writing. writing.promise.orders.value ≡ taking) }
@@ -423,12 +419,12 @@ where
     let write = move || -> Parted<C, W>
         ensures name { out_name result.written.orders ≡ out_name writer.writing.inbox.ring }
         ensures sent { (before : Option (List ℕ))
-            → Led W.contents W.failed before writer.outlet.told.amount writer.writing
+            → Led W.contents W.failed before writer.outlet writer.writing
             → HasSent W.contents W.failed before result.told.amount
             (taken result.written.orders) result.written.senders.places.items
             result.written.ending result.written.is_faultless result.written.resets.items
             result.written.blamed.items result.written.device }
-        ensures parts { result.told.parts ≡ writer.outlet.told.parts }
+        ensures parts { result.told.parts ≡ C.parts }
     { writer.write(&rt) };
     match Builder::new()
         .stack_size(STACK)

@@ -33,5 +33,5 @@ spawn_with-requires-clause-keeps g c = λ κs within r claims.
       claims.0 ∙ (ap out_name c.new-writing.ensures.ring ∙ ap out_name (sym c.of-2.ensures)),
       claims.1.0 (contents c.of.result.value)
           (subst (λ (credit : ℕ). Led contents failed (contents c.of.result.value) credit c.new-writing.result) (sym c.requires.untold) c.new-writing.ensures.led),
-      claims.1.1 ∙ c.requires.told,
+      claims.1.1,
     ) in kept

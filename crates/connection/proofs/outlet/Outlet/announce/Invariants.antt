@@ -3,5 +3,5 @@ use Rattle.slotwriter.specs.Written.{LeadsTo}
 use Rattle.connection.proofs.outlet.Outlet.announce.Given as goal
 
 abbrev pub invariant-calls : goal.invariant-calls
-invariant-calls g l = (0 < l.told.parts) × (l.told.parts ≡ l.fn.self.told.parts)
-    × LeadsTo g.W.ConnWrite.contents g.W.ConnWrite.failed l.fn.self.told.amount l.fn.writing l.told.amount l.writing
+invariant-calls g l = (0 < l.told.parts) × (l.told.parts ≡ g.C.Ledger.parts)
+    × LeadsTo g.W.ConnWrite.contents g.W.ConnWrite.failed l.fn.self l.fn.writing l.told.amount l.writing

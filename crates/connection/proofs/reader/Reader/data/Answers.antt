@@ -5,15 +5,17 @@ use Rattle.connection.proofs.Heard.{with-one, with-quiet}
 use Rattle.connection.proofs.Tallies.{bytes-justified, covers-bytes, may-refuse}
 use Rattle.connection.proofs.reader.Reader.data.Goals as goal
 
-pub returns-clause-reads : goal.returns-clause-reads
-returns-clause-reads g c =
-    with-quiet _ _ _ _ _ _ _ _ _ _ c.note_credit.ensures.reading c.note_credit.ensures.same
-    (with-one _ _ (events.Data c.args.id c.args.bytes c.args.flow) (fate_of c.receive-receipt.result c.data-decided.result.second) _ _ _ _ _ _ _
-    (λ told reads covers.
-    bytes-justified c.args.id c.args.flow c.args.bytes told c.receive-receipt.result c.data-decided.result.second
-    (may-refuse c.receive-receipt.result _ _ c.receive-receipt.ensures.justified (omega (arith, covers.came)))
-    (c.data-decided.ensures.missed told reads))
-    (λ told covers.
-    covers-bytes (events.Data c.args.id c.args.bytes c.args.flow) (fate_of c.receive-receipt.result c.data-decided.result.second) told _ _ c.receive-receipt.result c.args.flow
-    c.receive-receipt.ensures.calls c.receive-receipt.ensures.counted refl covers)
-    c.act.ensures.ends (c.data-decided.ensures.decides c.args.flow) c.data-decided.ensures.aligns c.act.ensures.acts)
+pub returns : goal.returns
+returns g c = record {
+  reads =
+      with-quiet _ _ _ _ _ _ _ _ _ _ c.note_credit.ensures.reading c.note_credit.ensures.same
+      (with-one _ _ (events.Data c.args.id c.args.bytes c.args.flow) (fate_of c.receive-receipt.result c.data-decided.result.second) _ _ _ _ _ _ _
+      (λ told reads covers.
+      bytes-justified c.args.id c.args.flow c.args.bytes told c.receive-receipt.result c.data-decided.result.second
+      (may-refuse c.receive-receipt.result _ _ c.receive-receipt.ensures.justified (omega (arith, covers.came)))
+      (c.data-decided.ensures.missed told reads))
+      (λ told covers.
+      covers-bytes (events.Data c.args.id c.args.bytes c.args.flow) (fate_of c.receive-receipt.result c.data-decided.result.second) told _ _ c.receive-receipt.result c.args.flow
+      c.receive-receipt.ensures.calls c.receive-receipt.ensures.counted refl covers)
+      c.act.ensures.ends (c.data-decided.ensures.decides c.args.flow) c.data-decided.ensures.aligns c.act.ensures.acts);
+}

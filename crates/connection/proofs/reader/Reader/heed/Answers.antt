@@ -12,12 +12,14 @@ events-init g c =
       omega (arith, gives.1, c.args.events.ok.0, ap (λ (es : List InEvent). length es) gives.0),
     )
 
-pub returns-then-is_some-clause-reads : goal.returns-then-is_some-clause-reads
-returns-then-is_some-clause-reads g c =
-    let step = subst (λ (o : Option InEvent). into_iter_steps c.events.event-iterator o c.next.new.self) c.in-Some.is c.next.ensures.steps in
-    let ending = some-end c.follow-end.result (sym c.is_some.ensures ∙ c.if-is_some.true) in
-    with-events _ _ _ _ _ _ _ _ _ (parts-more c.events.yielded c.in-Some.event _ _ _ c.events.invariant.1 step.0)
-    (with-stop _ _ _ _ ending.0 _ _ _ _ _ ending.1 (with-then _ _ _ c.events.yielded (c.in-Some.event ∷ []) _ _ _ _ _ _ _ c.events.invariant.0 c.follow-end.ensures.reads))
+pub returns-then-is_some : goal.returns-then-is_some
+returns-then-is_some g c = record {
+  reads =
+      let step = subst (λ (o : Option InEvent). into_iter_steps c.events.event-iterator o c.next.new.self) c.in-Some.is c.next.ensures.steps in
+      let ending = some-end c.follow-end.result (sym c.is_some.ensures ∙ c.if-is_some.true) in
+      with-events _ _ _ _ _ _ _ _ _ (parts-more c.events.yielded c.in-Some.event _ _ _ c.events.invariant.1 step.0)
+      (with-stop _ _ _ _ ending.0 _ _ _ _ _ ending.1 (with-then _ _ _ c.events.yielded (c.in-Some.event ∷ []) _ _ _ _ _ _ _ c.events.invariant.0 c.follow-end.ensures.reads));
+}
 
 pub events-preserved : goal.events-preserved
 events-preserved g c =

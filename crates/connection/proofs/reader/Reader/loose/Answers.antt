@@ -5,12 +5,14 @@ use Rattle.connection.proofs.Heard.{with-one, with-quiet}
 use Rattle.connection.proofs.Tallies.{covers-bytes, may-refuse}
 use Rattle.connection.proofs.reader.Reader.loose.Goals as goal
 
-pub returns-clause-reads : goal.returns-clause-reads
-returns-clause-reads g c =
-    with-quiet _ _ _ _ _ _ _ _ _ _ c.note_credit.ensures.reading c.note_credit.ensures.same
-    (with-one _ _ (events.Loose c.args.flow) (Received c.receive-receipt.result) _ _ _ _ _ _ _
-    (λ told reads covers. may-refuse c.receive-receipt.result _ _ c.receive-receipt.ensures.justified (omega (arith, covers.came)))
-    (λ told covers.
-    covers-bytes (events.Loose c.args.flow) (Received c.receive-receipt.result) told _ _ c.receive-receipt.result c.args.flow
-    c.receive-receipt.ensures.calls c.receive-receipt.ensures.counted refl covers)
-    c.act.ensures.ends (c.loose-decided.ensures.decides c.args.flow) c.loose-decided.ensures.aligns c.act.ensures.acts)
+pub returns : goal.returns
+returns g c = record {
+  reads =
+      with-quiet _ _ _ _ _ _ _ _ _ _ c.note_credit.ensures.reading c.note_credit.ensures.same
+      (with-one _ _ (events.Loose c.args.flow) (Received c.receive-receipt.result) _ _ _ _ _ _ _
+      (λ told reads covers. may-refuse c.receive-receipt.result _ _ c.receive-receipt.ensures.justified (omega (arith, covers.came)))
+      (λ told covers.
+      covers-bytes (events.Loose c.args.flow) (Received c.receive-receipt.result) told _ _ c.receive-receipt.result c.args.flow
+      c.receive-receipt.ensures.calls c.receive-receipt.ensures.counted refl covers)
+      c.act.ensures.ends (c.loose-decided.ensures.decides c.args.flow) c.loose-decided.ensures.aligns c.act.ensures.acts);
+}

@@ -1,4 +1,3 @@
-use Rattle.std.proofs.Common.{ap}
 use Rattle.slotwriter.proofs.WrittenSteps.{to-still}
 use Rattle.connection.proofs.writer.Writer.turn.Goals as goal
 
@@ -8,9 +7,9 @@ returns-in-Over-clause-over g c = λ yes. c.write_once-filled.ensures.over (c.re
 pub returns-in-Idle-clause-leads : goal.returns-in-Idle-clause-leads
 returns-in-Idle-clause-leads g c =
     to-still g.W.ConnWrite.contents g.W.ConnWrite.failed _ _ _ _ _ _ c.write_once-filled.ensures.leads c.reset_left.ensures.leads
-    (ap (λ outlet. outlet.told.amount) c.reset_left.ensures.outlet)
+    c.reset_left.ensures.outlet
 
 pub returns-in-None-clause-leads : goal.returns-in-None-clause-leads
 returns-in-None-clause-leads g c =
     to-still g.W.ConnWrite.contents g.W.ConnWrite.failed _ _ _ _ _ _ c.write_once-filled.ensures.leads c.reset_between.ensures.leads
-    (ap (λ outlet. outlet.told.amount) c.reset_between.ensures.outlet)
+    c.reset_between.ensures.outlet

@@ -1,7 +1,5 @@
-use Rattle.std.proofs.Common.{◌≡◌}
 use Rattle.slotwriter.specs.Written.{LeadsTo}
 use Rattle.connection.proofs.writer.Writer.write.Given as goal
 
 abbrev pub invariant-turns : goal.invariant-turns
-invariant-turns g l = LeadsTo g.W.ConnWrite.contents g.W.ConnWrite.failed l.fn.self.outlet.told.amount l.fn.self.writing l.writer.outlet.told.amount l.writer.writing
-    × (l.writer.outlet.told.parts ≡ l.fn.self.outlet.told.parts)
+invariant-turns g l = LeadsTo g.W.ConnWrite.contents g.W.ConnWrite.failed l.fn.self.outlet l.fn.self.writing l.writer.outlet l.writer.writing
