@@ -1,8 +1,8 @@
 //! The threads that serve a port.
 //!
-//! One thread takes connections, and starts a thread for each that it takes. Where all that come are served, a thread whose
-//! connection has ended takes connections too, beside that one: so a client that makes a connection a call seldom waits for a
-//! thread to start. Where only so many are served, each has a thread of its own.
+//! One thread takes connections, and starts a thread for each that it takes. Where all that come are served, the first of these
+//! take further connections too once theirs have ended, beside that one: so a client that makes a connection a call seldom waits
+//! for a thread to start. Where only so many are served, each has a thread of its own.
 
 use crate::log::{Logs, ended_of};
 use crate::reporter::Reporter;
@@ -12,14 +12,14 @@ use connection::STACK;
 use handlers::Methods;
 use std::alloc::{AllocError, Global};
 use std::net::{SocketAddr, TcpListener, TcpStream};
-use std::sync::atomic::{AtomicUsize, Ordering};
 use std::sync::{Arc, Wait};
 use std::thread::{Builder, JoinHandle, Threads};
 use std::time::{Clock, Duration};
 use std::{io, thread};
 
-/// How many threads whose connections have ended wait for a next one at most. One more ends.
-const MOST_WAITING: usize = 16;
+/// How many threads take further connections once theirs have ended: the first that were started. Blocks that a thread holds since
+/// its start keep the heap from being given back up to where they lie, and a thread of a crowd has them above all of the crowd's.
+const STAYING: usize = 16;
 
 /// How long no connection is taken after one could not be, in milliseconds.
 const PAUSE: u64 = 10;
@@ -36,12 +36,11 @@ pub struct Service<L> {
     pub stop: Option<Arc<Stop>>,
 }
 
-/// A port, and how many threads whose connections have ended wait for a next one.
+/// A port, and how connections to it are served.
 #[derive(Drop)]
 struct Port<L> {
     listener: TcpListener,
     service: Service<L>,
-    waiting: AtomicUsize,
 }
 
 /// What a thread does once the connection that it was started for has ended.
@@ -70,14 +69,7 @@ where
         Some(stop) => Some(Arc::try_clone(stop)?),
         None => None,
     };
-    let port = Arc::new(
-        alloc,
-        Port {
-            listener,
-            service,
-            waiting: AtomicUsize::new(0),
-        },
-    )?;
+    let port = Arc::new(alloc, Port { listener, service })?;
     let Some(stop) = stop else {
         take_all(rt, alloc, &port);
         return Ok(());
@@ -111,14 +103,21 @@ where
     }
 }
 
-/// Takes all connections that come.
+/// Takes all connections that come. The threads that serve the first of them stay.
 fn take_all<R, L>(rt: R, alloc: Global, port: &Arc<Port<L>>)
 where
     R: Print + Threads + Wait + Clock + Copy + Send + Sync + Drop + 'static,
     L: Logs + Send + Sync + Drop + 'static,
 {
+    let mut to_stay = STAYING;
     for _ in rt.forever() {
-        if serve_next(rt, alloc, port, Afterwards::TakesMore).is_err() {
+        let afterwards = match to_stay {
+            0 => Afterwards::Ends,
+            _ => Afterwards::TakesMore,
+        };
+        if serve_next(rt, alloc, port, afterwards).is_ok() {
+            to_stay = to_stay.saturating_sub(1);
+        } else {
             pause(&rt);
         }
     }
@@ -184,45 +183,30 @@ where
     Ok(())
 }
 
-/// Takes one connection after another, and serves each to its end, until enough other threads wait for the next one.
+/// Takes one connection after another, and serves each to its end.
 fn take_more<R, L>(rt: R, alloc: Global, port: &Port<L>)
 where
     R: Print + Threads + Wait + Clock + Copy + Send + Sync + Drop + 'static,
     L: Logs + Send + Sync + Drop + 'static,
 {
     for _ in rt.forever() {
-        let others = port.waiting.fetch_add(1, Ordering::SeqCst);
-        let taken = if others < MOST_WAITING {
-            Some(port.listener.accept())
-        } else {
-            None
-        };
-        port.waiting.fetch_sub(1, Ordering::SeqCst);
-        let Some(taken) = taken else {
-            return;
-        };
-        if serve_taken(rt, alloc, &port.service, taken).is_err() {
+        if serve_taken(rt, alloc, port).is_err() {
             pause(&rt);
         }
     }
     unreachable!()
 }
 
-/// Serves a connection that was taken, if it could be. It fails where it couldn't, and where nothing was read of it.
-fn serve_taken<R, L>(
-    rt: R,
-    alloc: Global,
-    service: &Service<L>,
-    taken: io::Result<(TcpStream, SocketAddr)>,
-) -> io::Result<()>
+/// Takes the next connection and serves it. It fails where none could be taken, and where nothing was read of it.
+fn serve_taken<R, L>(rt: R, alloc: Global, port: &Port<L>) -> io::Result<()>
 where
     R: Print + Threads + Wait + Clock + Copy + Send + Sync + Drop + 'static,
     L: Logs + Send + Sync + Drop + 'static,
 {
-    let (stream, peer) = taken?;
-    let is_awaited = service.note_taken(&rt);
-    let served = serve_one(rt, alloc, service, stream, peer);
-    service.note_ended(&rt, is_awaited);
+    let (stream, peer) = port.listener.accept()?;
+    let is_awaited = port.service.note_taken(&rt);
+    let served = serve_one(rt, alloc, &port.service, stream, peer);
+    port.service.note_ended(&rt, is_awaited);
     served
 }
 
