@@ -1,1 +1,3 @@
 pub mod ErrorNames
+pub mod FieldRules
+pub mod Examples
