@@ -2,8 +2,10 @@
 //!
 //! Whether a field breaks one decides the crate `callhead`; here is which it is.
 
-ghost use Rattle.std.specs.Prelude.{◌≡◌, ◌||◌, is_some};
-ghost use Rattle.callhead.specs.MalformedHeads.{has_bad_name, has_bad_value, is_connection_specific};
+ghost use Rattle.std.specs.Prelude.{◌≡◌, ◌||◌, is_some, true, IfSome};
+ghost use Rattle.std.specs.List.{find};
+ghost use Rattle.callhead.specs.MalformedHeads.{has_bad_name, has_bad_value, is_connection_specific, is_forbidden_in_names, is_forbidden_in_values};
+ghost use Rattle.figures.specs.FieldRules.{breaks};
 
 use callhead::{
     has_bad_name, has_bad_value, is_connection_specific, is_forbidden_in_names,
@@ -37,11 +39,12 @@ pub enum FieldRule {
 pub fn field_rule(field: &Field) -> Option<FieldRule>
     ensures breaks { is_some result
         ≡ (has_bad_name field.now || has_bad_value field.now || is_connection_specific field.now) }
+    ensures broken { IfSome result (λ rule. breaks field.now rule ≡ true) }
 {
     if has_bad_name(field) {
-        Some(name_rule(field.name.as_slice()))
+        Some(name_rule(field))
     } else if has_bad_value(field) {
-        Some(value_rule(field.value.as_slice()))
+        Some(value_rule(field))
     } else if is_connection_specific(field) {
         Some(FieldRule::OneConnection)
     } else {
@@ -50,23 +53,49 @@ pub fn field_rule(field: &Field) -> Option<FieldRule>
 }
 
 /// What is wrong with a bad name. Of its forbidden bytes the first counts.
-fn name_rule(name: &[u8]) -> FieldRule {
+fn name_rule(field: &Field) -> FieldRule
+    requires bad { has_bad_name field.now ≡ true }
+    ensures broken { breaks field.now result ≡ true }
+{
+    let name = field.name.as_slice();
     if name.is_empty() {
         return FieldRule::NoName;
     }
-    match name.iter().find(|byte| is_forbidden_in_names(**byte)) {
+    match forbidden_in_name(name) {
         Some(byte) if byte.is_ascii_uppercase() => FieldRule::UpperCase,
-        Some(byte) => FieldRule::NameByte(*byte),
+        Some(byte) => FieldRule::NameByte(byte),
         None => FieldRule::NameByte(b':'),
     }
 }
 
+/// The first forbidden byte of a name.
+fn forbidden_in_name(name: &[u8]) -> Option<u8>
+    ensures { result ≡ find is_forbidden_in_names name.now }
+{
+    name.iter()
+        .copied()
+        .find(|byte| is_forbidden_in_names(*byte))
+}
+
 /// What is wrong with a bad value.
-fn value_rule(value: &[u8]) -> FieldRule {
-    match value.iter().find(|byte| is_forbidden_in_values(**byte)) {
-        Some(byte) => FieldRule::ValueByte(*byte),
+fn value_rule(field: &Field) -> FieldRule
+    requires bad { has_bad_value field.now ≡ true }
+    ensures broken { breaks field.now result ≡ true }
+{
+    match forbidden_in_value(field.value.as_slice()) {
+        Some(byte) => FieldRule::ValueByte(byte),
         None => FieldRule::ValueBlank,
     }
+}
+
+/// The first forbidden byte of a value.
+fn forbidden_in_value(value: &[u8]) -> Option<u8>
+    ensures { result ≡ find is_forbidden_in_values value.now }
+{
+    value
+        .iter()
+        .copied()
+        .find(|byte| is_forbidden_in_values(*byte))
 }
 
 /// That a field with this name breaks a rule.
