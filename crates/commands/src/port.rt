@@ -54,7 +54,8 @@ enum Afterwards {
     StopsServer,
 }
 
-/// Serves connections that come, until the server has stopped, if it does. A thread of its own takes them where it does.
+/// Serves connections that come, until the server has stopped, if it does, and has printed its reports. A thread of its own takes
+/// them where it does. What comes while it stops may go unreported.
 pub fn serve_port<R, L>(
     rt: R,
     alloc: Global,
@@ -75,11 +76,15 @@ where
         return Ok(());
     };
     let connections = stop.connections;
+    let taken = Arc::try_clone(&port)?;
     let _taking = thread::spawn(&rt, move || match connections {
-        Some(count) => take_some(rt, alloc, &port, count),
-        None => take_all(rt, alloc, &port),
+        Some(count) => take_some(rt, alloc, &taken, count),
+        None => take_all(rt, alloc, &taken),
     })?;
     stop.wait(&rt);
+    if let Some(reporter) = &port.service.reporter {
+        reporter.finish(&rt);
+    }
     Ok(())
 }
 

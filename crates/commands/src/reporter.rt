@@ -1,14 +1,17 @@
 //! The reports that wait to be printed, which nobody may read.
 
-ghost use Rattle.std.specs.Prelude.{◌≡◌, ◌<◌, ◌≤◌, ◌+◌, ◌^◌, ◌++◌, IfOk, IfSome, IfNone, OnOk, OnErr, string_bytes};
+ghost use Rattle.std.specs.Prelude.{◌≡◌, ◌<◌, ◌≤◌, ◌+◌, ◌^◌, ◌++◌, false, true, not, IfOk, IfSome, IfNone, OnOk, OnErr, string_bytes};
 
 use crate::served::report_of;
+use crate::stopping::LOOK;
 use crate::stream::Ended;
 use handlers::Methods;
+use lane::Bell;
 use std::alloc::{AllocError, Global};
 use std::mem;
 use std::net::SocketAddr;
 use std::sync::{Arc, Mutex, Wait};
+use std::time::Duration;
 
 /// How many lines wait at most. The longest report has 4,097.
 const MOST_LINES: usize = 16_384;
@@ -19,6 +22,8 @@ pub struct Reporter {
     waiting: Mutex<Waiting>,
     /// Held by whoever prints, so that no line stands inside one of a log.
     turn: Arc<Mutex<()>>,
+    /// Rung where a thread prints no more.
+    printed: Bell,
 }
 
 /// What is to be printed.
@@ -31,6 +36,8 @@ struct Waiting {
     dropped: usize,
     /// Whether a thread prints, and will look here again.
     is_printing: bool,
+    /// Whether no more reports are kept.
+    is_closed: bool,
 }
 
 impl Reporter {
@@ -41,8 +48,10 @@ impl Reporter {
                 lines: 0,
                 dropped: 0,
                 is_printing: false,
+                is_closed: false,
             }),
             turn,
+            printed: Bell::new(),
         }
     }
 
@@ -61,22 +70,31 @@ impl Reporter {
         let Ended { ending, calls } = ended;
         let lines = calls.len().saturating_add(1);
         let report = report_of(alloc, peer, methods, ending, &calls);
-        if self.keep(rt, report, lines) {
+        let is_to_print = self.waiting.lock(rt).keep(report, lines);
+        if is_to_print {
             self.print_all(rt, alloc);
         }
     }
 
-    /// Puts a report of so many lines behind those that wait, or counts them. Whether the caller is to print.
-    fn keep(&self, rt: &impl Wait, report: Result<String, AllocError>, lines: usize) -> bool {
-        let mut waiting = self.waiting.lock(rt);
-        waiting.put(report, lines);
-        !mem::replace(&mut waiting.is_printing, true)
+    /// Keeps no more reports, and waits until those that were kept are printed: so no line is cut where the program ends then.
+    pub fn finish(&self, rt: &impl Wait) {
+        self.waiting.lock(rt).is_closed = true;
+        for _ in rt.forever() {
+            let mark = self.printed.mark();
+            if !self.waiting.lock(rt).is_printing {
+                return;
+            }
+            self.printed.wait_past(rt, mark, Duration::from_secs(LOOK));
+        }
+        unreachable!()
     }
 
     /// Prints all that waits. What can't be printed is lost.
     fn print_all<R: Print + Wait>(&self, rt: &R, alloc: Global) {
         for _ in rt.forever() {
-            let Some((text, dropped)) = self.next(rt, alloc) else {
+            let taken = self.waiting.lock(rt).take(alloc);
+            let Some((text, dropped)) = taken else {
+                self.printed.ring();
                 return;
             };
             let _turn = self.turn.lock(rt);
@@ -87,24 +105,35 @@ impl Reporter {
         }
         unreachable!()
     }
-
-    /// Takes what waits, and how many lines were dropped behind it. Where that is nothing, this thread prints no more.
-    fn next(&self, rt: &impl Wait, alloc: Global) -> Option<(String, usize)> {
-        let mut waiting = self.waiting.lock(rt);
-        let taken = waiting.take(alloc);
-        if taken.is_none() {
-            waiting.is_printing = false;
-        }
-        taken
-    }
 }
 
 impl Waiting {
+    /// Keeps a report of so many lines, or counts them; once this is closed it does neither. Whether the caller is to print what
+    /// waits: not where a thread does already.
+    fn keep(&mut self, report: Result<String, AllocError>, lines: usize) -> bool
+        ensures printer { self.old.is_closed ≡ false → result ≡ not self.old.is_printing }
+        ensures printing { self.old.is_closed ≡ false → self.new.is_printing ≡ true }
+        ensures counted { self.old.is_closed ≡ false
+            → self.old.lines + self.old.dropped + lines < 2 ^ 64
+            → self.new.lines + self.new.dropped ≡ self.old.lines + self.old.dropped + lines }
+        ensures few { self.old.lines ≤ 16384 → self.new.lines ≤ 16384 }
+        ensures closed { self.old.is_closed ≡ true → (result ≡ false) × (self.new ≡ self.old) }
+        ensures same { self.new.is_closed ≡ self.old.is_closed }
+    {
+        if self.is_closed {
+            return false;
+        }
+        self.put(report, lines);
+        !mem::replace(&mut self.is_printing, true)
+    }
+
     /// Adds a report of so many lines, or counts them as dropped.
     fn put(&mut self, report: Result<String, AllocError>, lines: usize)
         ensures counted { self.old.lines + self.old.dropped + lines < 2 ^ 64
             → self.new.lines + self.new.dropped ≡ self.old.lines + self.old.dropped + lines }
         ensures few { self.old.lines ≤ 16384 → self.new.lines ≤ 16384 }
+        ensures same { (self.new.is_printing ≡ self.old.is_printing)
+            × (self.new.is_closed ≡ self.old.is_closed) }
     {
         if self.add(report, lines).is_err() {
             self.dropped = self.dropped.saturating_add(lines);
@@ -122,6 +151,8 @@ impl Waiting {
         ensures order { OnOk result (self.old.dropped ≡ 0) }
         ensures unchanged { OnErr result ((string_bytes self.new.text ≡ string_bytes self.old.text)
             × (self.new.lines ≡ self.old.lines) × (self.new.dropped ≡ self.old.dropped)) }
+        ensures same { (self.new.is_printing ≡ self.old.is_printing)
+            × (self.new.is_closed ≡ self.old.is_closed) }
     {
         let report = report?;
         let lines = self.lines.saturating_add(lines);
@@ -133,13 +164,17 @@ impl Waiting {
         Ok(())
     }
 
-    /// Takes all of it, and how many lines were dropped behind it; None where that is nothing.
+    /// Takes all of it, and how many lines were dropped behind it. Where that is nothing, the thread that asks prints no more.
     fn take(&mut self, alloc: Global) -> Option<(String, usize)>
         ensures taken { IfSome result (λ it. (it.0 ≡ self.old.text) × (it.1 ≡ self.old.dropped)) }
+        ensures printing { IfSome result (λ _. self.new.is_printing ≡ self.old.is_printing) }
         ensures none { IfNone result ((self.old.lines ≡ 0) × (self.old.dropped ≡ 0)) }
+        ensures printed { IfNone result (self.new.is_printing ≡ false) }
         ensures empty { (self.new.lines ≡ 0) × (self.new.dropped ≡ 0) }
+        ensures same { self.new.is_closed ≡ self.old.is_closed }
     {
         if self.lines == 0 && self.dropped == 0 {
+            self.is_printing = false;
             return None;
         }
         let text = mem::replace(&mut self.text, String::new(alloc));

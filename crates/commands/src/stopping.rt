@@ -16,7 +16,7 @@ use std::thread::{JoinHandle, Threads};
 use std::time::Duration;
 
 /// How long a thread sleeps at most before it looks again at what it waits for, in seconds.
-const LOOK: u64 = 3600;
+pub const LOOK: u64 = 3600;
 
 /// A server that can stop.
 #[derive(Drop)]
