@@ -3,7 +3,7 @@
 //! `fill` stops where a frame of the greatest length might not fit, so the buffer never has more than eight of those, and it
 //! is used again for the next frames.
 
-ghost use Rattle.std.specs.Prelude.{◌≡◌, ◌≢◌, ◌≤◌, ◌<◌, ◌+◌, ℕ, true, false, List, [], ◌∷◌, Option, Some, IsErr, OnOk, OnErr, OnSome, IfSome, IfNone, length, vec_len, vec_capacity};
+ghost use Rattle.std.specs.Prelude.{◌≡◌, ◌≢◌, ◌≤◌, ◌<◌, ◌+◌, ℕ, true, false, not, ◌&&◌, List, [], ◌∷◌, Option, Some, IsErr, OnOk, OnErr, OnSome, IfSome, IfNone, length, vec_len, vec_capacity};
 ghost use Rattle.std.specs.Io.KnownBytes.{Appends};
 ghost use Rattle.device.specs.Bytes.{AppendsPrefix};
 ghost use Rattle.flow.specs.Windows.{room};
@@ -106,7 +106,8 @@ impl<L: Lane<Item = OutItem>, W: ConnWrite> ConnWriter<L, W> {
 
     /// Whether nothing is in the buffer.
     pub fn is_flushed(&self) -> bool
-        ensures some { result ≡ true → self.now.buffer.items ≡ [] }
+        ensures none { result ≡ true → self.now.buffer.items ≡ [] }
+        ensures some { result ≡ false → self.now.buffer.items ≢ [] }
     {
         self.buffer.is_empty()
     }
@@ -144,6 +145,7 @@ impl<L: Lane<Item = OutItem>, W: ConnWrite> ConnWriter<L, W> {
         ensures unsaid { result ≡ true → (before : Option (List ℕ)) (run : List Step)
             → Wrote L.got W.contents W.failed before run self.now
             → is_going_away run ≡ false }
+        ensures value { result ≡ (not self.now.core.is_dead && not self.now.core.is_leaving) }
     {
         self.core.may_leave()
     }
@@ -152,6 +154,7 @@ impl<L: Lane<Item = OutItem>, W: ConnWrite> ConnWriter<L, W> {
     pub fn may_probe(&self) -> bool
         ensures unsaid { result ≡ true → (before : Option (List ℕ)) (run : List Step)
             → Wrote L.got W.contents W.failed before run self.now → was_probed run ≡ false }
+        ensures value { result ≡ (not self.now.core.is_dead && not self.now.core.has_probed) }
     {
         self.core.may_probe()
     }
@@ -160,6 +163,7 @@ impl<L: Lane<Item = OutItem>, W: ConnWrite> ConnWriter<L, W> {
     pub fn is_faultless(&self) -> bool
         ensures none { result ≡ true → (before : Option (List ℕ)) (run : List Step)
             → Wrote L.got W.contents W.failed before run self.now → has_failed run ≡ false }
+        ensures value { result ≡ (not self.now.core.is_dead && not self.now.core.has_failed) }
     {
         self.core.is_faultless()
     }

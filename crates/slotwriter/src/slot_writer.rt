@@ -1,12 +1,13 @@
 //! What the writing side of a connection has, and its steps.
 
 ghost use Rattle.std.specs.Prelude.{◌≡◌, ◌≢◌, ◌+◌, ◌++◌, ◌∷◌, ◌<◌, ℕ, Contains, nat_eq, if◌then◌else◌, true, false, List, [], length, option_to_list, slice_get, vec_capacity, vec_len, Option, None, Some, IfNone, IfSome, OnErr, OnOk};
+ghost use Rattle.std.specs.List.{list_any};
 ghost use Rattle.lane.specs.Ring.{taken};
 ghost use Rattle.lane.specs.RingLane.{got};
 ghost use Rattle.h2frame.specs.declared.error_code.ErrorCode.{ErrorCode as Code};
 ghost use Rattle.h2frame.specs.declared.error_code.ErrorCode.TheVariants.{FlowControlError};
 ghost use Rattle.outwriter.specs.Cores.{IsUnused, open_stream, takes_credit};
-ghost use Rattle.outwriter.specs.LeftCalls.{WasLeft};
+ghost use Rattle.outwriter.specs.LeftCalls.{WasLeft, WasNotLeft};
 ghost use Rattle.outwriter.specs.declared.control.Control.TheVariants as orders;
 ghost use Rattle.outwriter.specs.RunState.{is_held};
 ghost use Rattle.outwriter.specs.Steps.{Step, order_of};
@@ -407,6 +408,7 @@ impl<W: ConnWrite + Drop> SlotWriter<W> {
     /// Whether the sender of this stream's call, which the core has, gave last that the call was left.
     fn was_left(&mut self, id: StreamId) -> bool
         ensures left { result ≡ true → WasLeft id (calls_of self.new) }
+        ensures not_left { result ≡ false → WasNotLeft id (calls_of self.new) }
         ensures leads { LeadsOn W.contents W.failed self.old self.new }
         ensures only_left { ResetsOnlyLeft self.old self.new }
         ensures rest { self.new ≡ record self.old { frames = self.new.frames } }
@@ -540,7 +542,8 @@ impl<W: ConnWrite + Drop> SlotWriter<W> {
 
     /// Whether nothing is in the buffer.
     pub fn is_flushed(&self) -> bool
-        ensures { result ≡ true → self.now.frames.buffer.items ≡ [] }
+        ensures none { result ≡ true → self.now.frames.buffer.items ≡ [] }
+        ensures some { result ≡ false → self.now.frames.buffer.items ≢ [] }
     {
         self.frames.is_flushed()
     }
@@ -759,7 +762,8 @@ impl<W: ConnWrite + Drop> SlotWriter<W> {
 
     /// Whether the writer has ended the connection by itself.
     fn blames(&self) -> bool
-        ensures { result ≡ true → Contains (blamed_of self.now) 0 }
+        ensures blames { result ≡ true → Contains (blamed_of self.now) 0 }
+        ensures value { result ≡ list_any (λ id. nat_eq id 0) (blamed_of self.now) }
     {
         self.blamed.contains(&0)
     }
@@ -789,6 +793,7 @@ fn left_by<S>(order: &Control<S>) -> Option<StreamId>
 /// Whether an order says that no more orders come.
 fn is_close(order: &Order) -> bool
     ensures close { result ≡ true → order.now ≡ orders.Close }
+    ensures other { result ≡ false → order.now ≢ orders.Close }
 {
     matches!(order, Control::Close)
 }
