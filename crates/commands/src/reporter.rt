@@ -1,6 +1,6 @@
 //! The reports that wait to be printed, which nobody may read.
 
-ghost use Rattle.std.specs.Prelude.{◌≡◌, ◌<◌, ◌≤◌, ◌+◌, ◌^◌, ◌++◌, false, true, not, IfOk, IfSome, IfNone, OnOk, OnErr, string_bytes};
+ghost use Rattle.std.specs.Prelude.{◌≡◌, ◌<◌, ◌≤◌, ◌+◌, ◌^◌, ◌++◌, ◌⊎◌, [], false, true, not, is_ok, IfOk, IfSome, IfNone, OnOk, OnErr, string_bytes};
 
 use crate::served::report_of;
 use crate::stopping::LOOK;
@@ -117,6 +117,14 @@ impl Waiting {
             → self.old.lines + self.old.dropped + lines < 2 ^ 64
             → self.new.lines + self.new.dropped ≡ self.old.lines + self.old.dropped + lines }
         ensures few { self.old.lines ≤ 16384 → self.new.lines ≤ 16384 }
+
+        // The report is among the lines that wait, or none of it is.
+        ensures whole { self.old.is_closed ≡ false → ((is_ok report ≡ true)
+            × (IfOk report (λ it. string_bytes self.new.text
+            ≡ string_bytes self.old.text ++ string_bytes it))
+            × (self.new.lines ≡ self.old.lines + lines))
+            ⊎ ((string_bytes self.new.text ≡ string_bytes self.old.text)
+            × (self.new.lines ≡ self.old.lines)) }
         ensures closed { self.old.is_closed ≡ true → (result ≡ false) × (self.new ≡ self.old) }
         ensures same { self.new.is_closed ≡ self.old.is_closed }
     {
@@ -131,6 +139,14 @@ impl Waiting {
     fn put(&mut self, report: Result<String, AllocError>, lines: usize)
         ensures counted { self.old.lines + self.old.dropped + lines < 2 ^ 64
             → self.new.lines + self.new.dropped ≡ self.old.lines + self.old.dropped + lines }
+
+        // The report is among the lines that wait, or none of it is.
+        ensures whole { ((is_ok report ≡ true)
+            × (IfOk report (λ it. string_bytes self.new.text
+            ≡ string_bytes self.old.text ++ string_bytes it))
+            × (self.new.lines ≡ self.old.lines + lines))
+            ⊎ ((string_bytes self.new.text ≡ string_bytes self.old.text)
+            × (self.new.lines ≡ self.old.lines)) }
         ensures few { self.old.lines ≤ 16384 → self.new.lines ≤ 16384 }
         ensures same { (self.new.is_printing ≡ self.old.is_printing)
             × (self.new.is_closed ≡ self.old.is_closed) }
@@ -148,6 +164,7 @@ impl Waiting {
             (IfOk report (λ it. string_bytes self.new.text
             ≡ string_bytes self.old.text ++ string_bytes it)) }
         ensures few { OnOk result (self.new.lines ≤ 16384) }
+        ensures made { OnOk result (is_ok report ≡ true) }
         ensures order { OnOk result (self.old.dropped ≡ 0) }
         ensures unchanged { OnErr result ((string_bytes self.new.text ≡ string_bytes self.old.text)
             × (self.new.lines ≡ self.old.lines) × (self.new.dropped ≡ self.old.dropped)) }
@@ -171,6 +188,7 @@ impl Waiting {
         ensures none { IfNone result ((self.old.lines ≡ 0) × (self.old.dropped ≡ 0)) }
         ensures printed { IfNone result (self.new.is_printing ≡ false) }
         ensures empty { (self.new.lines ≡ 0) × (self.new.dropped ≡ 0) }
+        ensures no_text { IfSome result (λ _. string_bytes self.new.text ≡ []) }
         ensures same { self.new.is_closed ≡ self.old.is_closed }
     {
         if self.lines == 0 && self.dropped == 0 {
