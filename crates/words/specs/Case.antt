@@ -1,17 +1,20 @@
 -- `case NAME --port P`, with `--host H`, `--times N`, `--streams K` and `--timeout S`; or by the flags of gRPC's own interop clients,
--- `case --test_case=NAME --server_port=P --server_host=H --use_tls=false`
-use Rattle.std.specs.Prelude.{ℕ, Bool, false, List, Option, codes, option_and_then}
+-- `case --test_case=NAME --server_port=P --server_host=H --use_tls=false`, and those of soaks; or `case --list`
+use Rattle.std.specs.Prelude.{◌≤◌, ⊤, ℕ, Bool, false, List, Option, if◌then◌else◌, codes, is_none, option_map, option_and_then}
 use Rattle.std.specs.Bool.{then_some}
-use Rattle.std.specs.Option.{option_map_or, option_xor}
+use Rattle.std.specs.Option.{option_map_or, option_or, option_xor}
 use Rattle.std.specs.Str.{bytes_eq}
 use Rattle.clap.specs.Walk.{Row, Rule, Text}
 use Rattle.clap.specs.Simple.{App, new_app, new_rule, with_rule}
-use Rattle.words.specs.Options.{also_named, by_default, needed, number_of, number_option, text_of, text_option}
+use Rattle.words.specs.Options.{also_named, amount_of, amount_option, by_default, flag, has_flag, number_of, number_option, text_of, text_option}
+use Rattle.words.specs.declared.case.CaseRun.{CaseRun}
 use Rattle.words.specs.declared.case.CaseWords.{CaseWords}
+use Rattle.words.specs.declared.case.CaseWords.TheVariants as case_words
+use Rattle.words.specs.declared.case.SoakWords.{SoakWords}
 
 -- P, N, K and S are 1 to 65,535; H is 127.0.0.1, N is 1 and S is 10 if they are not given
 abbrev pub port_option : Rule
-port_option = also_named (codes "server_port") (needed (number_option (codes "port") 65535))
+port_option = also_named (codes "server_port") (number_option (codes "port") 65535)
 
 abbrev pub host_option : Rule
 host_option = also_named (codes "server_host") (by_default (codes "127.0.0.1") (text_option (codes "host")))
@@ -28,36 +31,102 @@ timeout_option = by_default (codes "10") (number_option (codes "timeout") 65535)
 abbrev pub tls_option : Rule
 tls_option = by_default (codes "false") (text_option (codes "use_tls"))
 
+-- of soaks: each an amount, as gRPC's own clients have it where it is not given
+abbrev pub iterations_option : Rule
+iterations_option = by_default (codes "10") (amount_option (codes "soak_iterations"))
+
+abbrev pub max_failures_option : Rule
+max_failures_option = by_default (codes "0") (amount_option (codes "soak_max_failures"))
+
+abbrev pub acceptable_option : Rule
+acceptable_option = by_default (codes "1000") (amount_option (codes "soak_per_iteration_max_acceptable_latency_ms"))
+
+abbrev pub overall_option : Rule
+overall_option = amount_option (codes "soak_overall_timeout_seconds")
+
+abbrev pub gap_option : Rule
+gap_option = by_default (codes "0") (amount_option (codes "soak_min_time_ms_between_rpcs"))
+
+abbrev pub request_size_option : Rule
+request_size_option = by_default (codes "271828") (amount_option (codes "soak_request_size"))
+
+abbrev pub response_size_option : Rule
+response_size_option = by_default (codes "314159") (amount_option (codes "soak_response_size"))
+
+-- a command with the options of soaks too
+abbrev pub with_soak : App → App
+with_soak app =
+    with_rule (with_rule (with_rule (with_rule (with_rule (with_rule (with_rule app
+    iterations_option)
+    max_failures_option)
+    acceptable_option)
+    overall_option)
+    gap_option)
+    request_size_option)
+    response_size_option
+
 abbrev pub case_command : App
-case_command =
-    with_rule (with_rule (with_rule (with_rule (with_rule (with_rule (with_rule (with_rule (new_app (codes "case"))
+case_command = with_soak (
+    with_rule (with_rule (with_rule (with_rule (with_rule (with_rule (with_rule (with_rule (with_rule (new_app (codes "case"))
     (new_rule (codes "NAME")))
     (text_option (codes "test_case")))
+    (flag (codes "list")))
     port_option)
     host_option)
     times_option)
     streams_option)
     timeout_option)
-    tls_option
+    tls_option)
 
--- what a client is told
-pub record Trial : Type 0 where
+-- what a soak is told
+pub record Soak : Type 0 where
+  pub iterations : ℕ
+  pub max_failures : ℕ
+  pub acceptable : ℕ
+  pub overall : Option ℕ
+  pub gap : ℕ
+  pub request_size : ℕ
+  pub response_size : ℕ
+
+abbrev pub soak : SoakWords → Soak
+soak words = record {
+  iterations = words.iterations;
+  max_failures = words.max_failures;
+  acceptable = words.acceptable;
+  overall = words.overall;
+  gap = words.gap;
+  request_size = words.request_size;
+  response_size = words.response_size;
+}
+
+-- what a client is told that runs cases
+pub record Run : Type 0 where
   pub name : Text
   pub host : Text
   pub port : ℕ
   pub times : ℕ
   pub streams : Option ℕ
   pub patience : ℕ
+  pub soak : Soak
 
-abbrev pub trial : CaseWords → Trial
-trial words = record {
+pub data Trial : Type 0 where
+  list : Trial
+  run : Run → Trial
+
+abbrev pub trial_run : CaseRun → Run
+trial_run words = record {
   name = words.name.now;
   host = words.host.now;
   port = words.port;
   times = words.times;
   streams = words.streams;
   patience = words.patience;
+  soak = soak words.soak;
 }
+
+abbrev pub trial : CaseWords → Trial
+trial case_words.List = list
+trial (case_words.Run words) = run (trial_run words)
 
 -- the case's name stands by itself or behind its option, and not both
 abbrev pub name_of : List Row → Option Text
@@ -67,18 +136,50 @@ name_of rows = option_xor (text_of (codes "NAME") rows) (text_of (codes "test_ca
 abbrev pub is_cleartext : List Row → Bool
 is_cleartext rows = option_map_or (λ text. bytes_eq text (codes "false")) (text_of (codes "use_tls") rows) false
 
-abbrev pub trial_of : List Row → Option Trial
-trial_of rows =
+abbrev pub soak_of : List Row → Option Soak
+soak_of rows =
+    option_and_then (λ iterations. option_and_then (λ max_failures. option_and_then (λ acceptable. option_and_then (λ gap.
+    option_and_then (λ request_size. option_map (λ response_size. record {
+      iterations = iterations;
+      max_failures = max_failures;
+      acceptable = acceptable;
+      overall = amount_of (codes "soak_overall_timeout_seconds") rows;
+      gap = gap;
+      request_size = request_size;
+      response_size = response_size;
+    }) (amount_of (codes "soak_response_size") rows))
+    (amount_of (codes "soak_request_size") rows))
+    (amount_of (codes "soak_min_time_ms_between_rpcs") rows))
+    (amount_of (codes "soak_per_iteration_max_acceptable_latency_ms") rows))
+    (amount_of (codes "soak_max_failures") rows))
+    (amount_of (codes "soak_iterations") rows)
+
+abbrev pub run_of : List Row → Option Run
+run_of rows =
     option_and_then (λ name. option_and_then (λ host. option_and_then (λ port. option_and_then (λ times.
-    option_and_then (λ patience. then_some (is_cleartext rows) (record {
+    option_and_then (λ patience. option_and_then (λ soak. then_some (is_cleartext rows) (record {
       name = name;
       host = host;
       port = port;
       times = times;
       streams = number_of (codes "streams") 65535 rows;
       patience = patience;
-    })) (number_of (codes "timeout") 65535 rows))
+      soak = soak;
+    })) (soak_of rows))
+    (number_of (codes "timeout") 65535 rows))
     (number_of (codes "times") 65535 rows))
     (number_of (codes "port") 65535 rows))
     (text_of (codes "host") rows))
     (name_of rows)
+
+-- cases are listed or run, and not both
+abbrev pub trial_of : List Row → Option Trial
+trial_of rows =
+    if has_flag (codes "list") rows
+    then then_some (is_none (option_or (text_of (codes "NAME") rows) (text_of (codes "test_case") rows))) list
+    else option_map run (run_of rows)
+
+-- the numbers are not 0
+abbrev pub IsTrial : CaseWords → Type 0
+IsTrial case_words.List = ⊤
+IsTrial (case_words.Run told) = (1 ≤ told.port) × (1 ≤ told.times) × (1 ≤ told.patience)

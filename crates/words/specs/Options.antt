@@ -42,14 +42,28 @@ needed option = record option { required = true }
 abbrev pub also_named : Text → Rule → Rule
 also_named name option = record option { aliases = name ∷ [] }
 
--- the number that a text writes in decimal digits, with or without a plus, if it is from 1 to `high`
+-- `--NAME N`, with N from 0 to 4,000,000
+abbrev pub amount_option : Text → Rule
+amount_option name = record (new_rule name) {
+  long = Some name;
+  parser = Some (value_parser.Unsigned 0 4000000);
+}
+
+-- the number that a text writes in decimal digits, with or without a plus, if it is in this range
+abbrev pub number_within : ℕ → ℕ → Text → Option ℕ
+number_within low high text =
+    if is_unsigned_in low high text then Some (digits_value 10 (without_leading_plus text)) else None
+
 abbrev pub number_up_to : ℕ → Text → Option ℕ
-number_up_to high text =
-    if is_unsigned_in 1 high text then Some (digits_value 10 (without_leading_plus text)) else None
+number_up_to high = number_within 1 high
 
 -- the number of an option, if it has one from 1 to `high`
 abbrev pub number_of : Text → ℕ → List Row → Option ℕ
 number_of name high rows = option_and_then (number_up_to high) (one_of name rows)
+
+-- the number of an option, if it has one from 0 to 4,000,000
+abbrev pub amount_of : Text → List Row → Option ℕ
+amount_of name rows = option_and_then (number_within 0 4000000) (one_of name rows)
 
 -- the text of an option, or of the word at a place
 abbrev pub text_of : Text → List Row → Option Text

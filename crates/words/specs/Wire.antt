@@ -1,4 +1,4 @@
--- `wire CASES --port P`, with `--host H`, `--silence S`, `--verbose` and `--json FILE`; or `wire --list`
+-- `wire CASES --port P`, with `--host H`, `--silence S`, `--timeout T`, `--jobs N`, `--verbose` and `--json FILE`; or `wire --list`
 use Rattle.std.specs.Prelude.{◌≤◌, ⊤, ℕ, Bool, List, Option, if◌then◌else◌, codes, is_none, option_map, option_and_then}
 use Rattle.std.specs.Bool.{then_some}
 use Rattle.clap.specs.Walk.{Row, Rule, Text}
@@ -8,21 +8,29 @@ use Rattle.words.specs.declared.wire.WireRun.{WireRun}
 use Rattle.words.specs.declared.wire.WireWords.{WireWords}
 use Rattle.words.specs.declared.wire.WireWords.TheVariants as wire_words
 
--- P and S are 1 to 65,535; H is 127.0.0.1 and S is 1,000 if they are not given
+-- P, S, T and N are 1 to 65,535; H is 127.0.0.1, S is 1,000, T is 10 and N is 8 if they are not given
 abbrev pub host_option : Rule
 host_option = by_default (codes "127.0.0.1") (text_option (codes "host"))
 
 abbrev pub silence_option : Rule
 silence_option = by_default (codes "1000") (number_option (codes "silence") 65535)
 
+abbrev pub limit_option : Rule
+limit_option = by_default (codes "10") (number_option (codes "timeout") 65535)
+
+abbrev pub jobs_option : Rule
+jobs_option = by_default (codes "8") (number_option (codes "jobs") 65535)
+
 abbrev pub wire_command : App
 wire_command =
-    with_rule (with_rule (with_rule (with_rule (with_rule (with_rule (with_rule (new_app (codes "wire"))
+    with_rule (with_rule (with_rule (with_rule (with_rule (with_rule (with_rule (with_rule (with_rule (new_app (codes "wire"))
     (new_rule (codes "CASES")))
     (flag (codes "list")))
     (number_option (codes "port") 65535))
     host_option)
     silence_option)
+    limit_option)
+    jobs_option)
     (flag (codes "verbose")))
     (text_option (codes "json"))
 
@@ -32,6 +40,8 @@ pub record Run : Type 0 where
   pub host : Text
   pub port : ℕ
   pub silence : ℕ
+  pub limit : ℕ
+  pub jobs : ℕ
   pub is_verbose : Bool
   pub json : Option Text
 
@@ -45,6 +55,8 @@ run_told words = record {
   host = words.host.now;
   port = words.port;
   silence = words.silence;
+  limit = words.limit;
+  jobs = words.jobs;
   is_verbose = words.is_verbose;
   json = option_map (λ file. file.now) words.json;
 }
@@ -55,14 +67,19 @@ told (wire_words.Run words) = run (run_told words)
 
 abbrev pub run_of : List Row → Option Run
 run_of rows =
-    option_and_then (λ cases. option_and_then (λ port. option_and_then (λ host. option_map (λ silence. record {
+    option_and_then (λ cases. option_and_then (λ port. option_and_then (λ host. option_and_then (λ silence.
+    option_and_then (λ limit. option_map (λ jobs. record {
       cases = cases;
       host = host;
       port = port;
       silence = silence;
+      limit = limit;
+      jobs = jobs;
       is_verbose = has_flag (codes "verbose") rows;
       json = text_of (codes "json") rows;
-    }) (number_of (codes "silence") 65535 rows))
+    }) (number_of (codes "jobs") 65535 rows))
+    (number_of (codes "timeout") 65535 rows))
+    (number_of (codes "silence") 65535 rows))
     (text_of (codes "host") rows))
     (number_of (codes "port") 65535 rows))
     (text_of (codes "CASES") rows)
@@ -76,4 +93,5 @@ told_of rows =
 -- the numbers are not 0
 abbrev pub IsInRange : WireWords → Type 0
 IsInRange wire_words.List = ⊤
-IsInRange (wire_words.Run words) = (1 ≤ words.port) × (1 ≤ words.silence)
+IsInRange (wire_words.Run words) =
+    (1 ≤ words.port) × (1 ≤ words.silence) × (1 ≤ words.limit) × (1 ≤ words.jobs)

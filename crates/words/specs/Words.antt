@@ -6,7 +6,7 @@ use Rattle.clap.specs.Simple.{App, new_app, on_top, subcommand_of, with_subcomma
 use Rattle.clap.specs.Faults.{fault_of}
 use Rattle.clap.specs.Kinds.{Kinds}
 use Rattle.words.specs.Body.{body_command, cut_of}
-use Rattle.words.specs.Case.{Trial, case_command, trial, trial_of}
+use Rattle.words.specs.Case.{IsTrial, Trial, case_command, trial, trial_of}
 use Rattle.words.specs.Misbehave.{IsPlayable, Misbehaving, misbehave_command, misbehaving, misbehaving_of}
 use Rattle.words.specs.OwnServer.{own_command, own_port_of}
 use Rattle.words.specs.Serve.{Serving, IsPort, serve_command, serving, serving_of}
@@ -93,7 +93,7 @@ abbrev pub IsInRange : Words → Type 0
 IsInRange (words.Body cut) = (1 ≤ cut) × (cut ≤ 65536)
 IsInRange words.Parts = ⊤
 IsInRange (words.Serve told) = IsPort told.port
-IsInRange (words.Case told) = (1 ≤ told.port) × (1 ≤ told.times) × (1 ≤ told.patience)
+IsInRange (words.Case told) = IsTrial told
 IsInRange (words.SelfTest port) = 1 ≤ port
 IsInRange (words.Drain port) = 1 ≤ port
 IsInRange (words.Misbehave told) = IsPlayable told

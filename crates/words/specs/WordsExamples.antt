@@ -1,6 +1,8 @@
 -- Command lines and what they mean.
 use Rattle.std.specs.Prelude.{◌≡◌, [], ◌∷◌, false, true, Some, None, codes, refl}
 use Rattle.clap.proofs.OnLiterals.{clap_on_literals}
+use Rattle.words.specs.Case.{Soak}
+use Rattle.words.specs.Case as case
 use Rattle.words.specs.Wire.{list, run}
 use Rattle.words.specs.Words.{command_meant, drain, meaning_of, print_body, serve, try_case, try_wire}
 use Rattle.words.specs.declared.serve.LogForm.TheVariants.{Json, Text as Plain}
@@ -73,17 +75,51 @@ pub two_ports : meaning_of (codes "serve" ∷ codes "--port" ∷ codes "5" ∷ c
 unfolding clap_on_literals command_meant
 two_ports = refl
 
+-- a soak of which nothing is said
+abbrev pub soak_of_grpc : Soak
+soak_of_grpc = record {
+  iterations = 10;
+  max_failures = 0;
+  acceptable = 1000;
+  overall = None;
+  gap = 0;
+  request_size = 271828;
+  response_size = 314159;
+}
+
 pub flags_of_grpc : meaning_of (codes "case" ∷ codes "--server_host=localhost" ∷ codes "--server_port=5"
-    ∷ codes "--test_case=large_unary" ∷ []) ≡ Some (try_case (record {
+    ∷ codes "--test_case=large_unary" ∷ []) ≡ Some (try_case (case.run (record {
       name = codes "large_unary";
       host = codes "localhost";
       port = 5;
       times = 1;
       streams = None;
       patience = 10;
-    }))
+      soak = soak_of_grpc;
+    })))
 unfolding clap_on_literals command_meant
 flags_of_grpc = refl
+
+pub flags_of_soaks : meaning_of (codes "case" ∷ codes "rpc_soak" ∷ codes "--port=5" ∷ codes "--soak_iterations=1000"
+    ∷ codes "--soak_max_failures=0" ∷ codes "--soak_overall_timeout_seconds=60" ∷ []) ≡ Some (try_case (case.run (record {
+      name = codes "rpc_soak";
+      host = codes "127.0.0.1";
+      port = 5;
+      times = 1;
+      streams = None;
+      patience = 10;
+      soak = record soak_of_grpc { iterations = 1000; overall = Some 60 };
+    })))
+unfolding clap_on_literals command_meant
+flags_of_soaks = refl
+
+pub case_list : meaning_of (codes "case" ∷ codes "--list" ∷ []) ≡ Some (try_case case.list)
+unfolding clap_on_literals command_meant
+case_list = refl
+
+pub case_without_port : meaning_of (codes "case" ∷ codes "all" ∷ []) ≡ None
+unfolding clap_on_literals command_meant
+case_without_port = refl
 
 pub own_port : meaning_of (codes "drain" ∷ []) ≡ Some (drain 50051)
 unfolding clap_on_literals command_meant
@@ -103,6 +139,8 @@ pub wire_cases : meaning_of (codes "wire" ∷ codes "grpc/4" ∷ codes "--port=5
       host = codes "127.0.0.1";
       port = 5;
       silence = 1000;
+      limit = 10;
+      jobs = 8;
       is_verbose = false;
       json = Some (codes "a");
     })))

@@ -1,18 +1,42 @@
-//! `case NAME --port P`, with `--host H`, `--times N`, `--streams K` and `--timeout S`; or by the flags of gRPC's own interop clients (gRPC,
-//! "Interoperability Test Case Descriptions"): `case --test_case=NAME --server_port=P --server_host=H --use_tls=false`.
+//! `case NAME --port P`, with `--host H`, `--times N`, `--streams K` and `--timeout S`; or by the
+//! flags of gRPC's own interop clients (gRPC, "Interoperability Test Case Descriptions"): `case
+//! --test_case=NAME --server_port=P --server_host=H --use_tls=false`, and those of soaks; or `case
+//! --list`.
 
 ghost use Rattle.std.specs.Prelude.{◌≡◌, ◌≤◌, false, IfOk, IfSome, option_map};
+ghost use Rattle.clap.specs.Simple.{App};
 ghost use Rattle.clap.specs.Words.{app_of, found_of, rows_of};
 ghost use Rattle.words.specs.Options.{IsCommand, IsOption};
-ghost use Rattle.words.specs.Case.{case_command, host_option, is_cleartext, port_option, streams_option, times_option, timeout_option, tls_option, name_of, trial, trial_of};
+ghost use Rattle.words.specs.Case.{IsTrial, acceptable_option, case_command, gap_option, host_option, is_cleartext, iterations_option, max_failures_option, name_of, overall_option, port_option, request_size_option, response_size_option, run_of, soak, soak_of, streams_option, timeout_option, times_option, tls_option, trial, trial_of, trial_run, with_soak};
 
-use crate::options::{LOOPBACK, number_option, small_number_of, text_of, text_option};
+use crate::options::{
+    LOOPBACK, amount_of, amount_option, flag, has_flag, number_option, small_number_of, text_of,
+    text_option,
+};
 use clap::{Arg, ArgMatches, Command};
 use std::alloc::{AllocError, Global};
 
-/// What `case` is told.
+/// What a soak is told, as gRPC's own clients are.
 #[derive(Clone, Copy, Debug, PartialEq, Eq)]
-pub struct CaseWords<'a> {
+pub struct SoakWords {
+    /// How many calls it makes.
+    pub iterations: u32,
+    /// How many of them may fail.
+    pub max_failures: u32,
+    /// How many milliseconds a call may take.
+    pub acceptable: u32,
+    /// How many seconds all may take; where it isn't said, as long as all calls may.
+    pub overall: Option<u32>,
+    /// How many milliseconds there are at least from the beginning of a call to that of the next.
+    pub gap: u32,
+    /// How many bytes the body of a request and that of a response has.
+    pub request_size: u32,
+    pub response_size: u32,
+}
+
+/// Which cases are run, and how.
+#[derive(Clone, Copy, Debug, PartialEq, Eq)]
+pub struct CaseRun<'a> {
     /// The case's name, or `all`.
     pub name: &'a str,
     /// The address of the server, or a name for it.
@@ -22,20 +46,33 @@ pub struct CaseWords<'a> {
     pub times: u16,
     /// How many runs go at a time, where their times are asked for.
     pub streams: Option<u16>,
-    /// How many seconds a read or a write may take before its case is given up.
+    /// How many seconds a case may take.
     pub patience: u16,
+    pub soak: SoakWords,
+}
+
+/// What `case` is told.
+#[derive(Clone, Copy, Debug, PartialEq, Eq)]
+pub enum CaseWords<'a> {
+    /// Print the names that there are.
+    List,
+    Run(CaseRun<'a>),
 }
 
 /// The words that it takes.
 pub(crate) const TAKES: &str =
-    "NAME or --test_case NAME, --port P, --host H, --times N, --streams K, --timeout S";
+    "NAME or --test_case NAME, --port P, --host H, --times N, --streams K, --timeout S, \
+     gRPC's flags of soaks, or --list";
+
+/// What an amount is.
+const AMOUNT: &str = "a number, 0 to 4000000";
 
 // `--port P`, also as `--server_port P`.
 fn port_option<'a>(alloc: Global) -> Result<Arg<'a>, AllocError>
     ensures { IfOk result (IsOption port_option) }
 {
     number_option(alloc, "port", "a port, 1 to 65535")
-        .required(true)
+        .required(false)
         .alias("server_port")
 }
 
@@ -76,18 +113,88 @@ fn tls_option<'a>(alloc: Global) -> Arg<'a>
     text_option(alloc, "use_tls", "false").default_value("false")
 }
 
+// `--soak_iterations N`.
+fn iterations_option<'a>(alloc: Global) -> Arg<'a>
+    ensures { IsOption iterations_option result }
+{
+    amount_option(alloc, "soak_iterations", AMOUNT).default_value("10")
+}
+
+// `--soak_max_failures N`.
+fn max_failures_option<'a>(alloc: Global) -> Arg<'a>
+    ensures { IsOption max_failures_option result }
+{
+    amount_option(alloc, "soak_max_failures", AMOUNT).default_value("0")
+}
+
+// `--soak_per_iteration_max_acceptable_latency_ms N`.
+fn acceptable_option<'a>(alloc: Global) -> Arg<'a>
+    ensures { IsOption acceptable_option result }
+{
+    amount_option(
+        alloc,
+        "soak_per_iteration_max_acceptable_latency_ms",
+        AMOUNT,
+    )
+    .default_value("1000")
+}
+
+// `--soak_overall_timeout_seconds N`.
+fn overall_option<'a>(alloc: Global) -> Arg<'a>
+    ensures { IsOption overall_option result }
+{
+    amount_option(alloc, "soak_overall_timeout_seconds", AMOUNT)
+}
+
+// `--soak_min_time_ms_between_rpcs N`.
+fn gap_option<'a>(alloc: Global) -> Arg<'a>
+    ensures { IsOption gap_option result }
+{
+    amount_option(alloc, "soak_min_time_ms_between_rpcs", AMOUNT).default_value("0")
+}
+
+// `--soak_request_size N`.
+fn request_size_option<'a>(alloc: Global) -> Arg<'a>
+    ensures { IsOption request_size_option result }
+{
+    amount_option(alloc, "soak_request_size", AMOUNT).default_value("271828")
+}
+
+// `--soak_response_size N`.
+fn response_size_option<'a>(alloc: Global) -> Arg<'a>
+    ensures { IsOption response_size_option result }
+{
+    amount_option(alloc, "soak_response_size", AMOUNT).default_value("314159")
+}
+
 pub(crate) fn case_command<'a>(alloc: Global) -> Result<Command<'a>, AllocError>
     ensures { IfOk result (IsCommand case_command) }
 {
-    Command::new(alloc, "case")
+    let command = Command::new(alloc, "case")
         .arg(Arg::new(alloc, "NAME"))?
         .arg(text_option(alloc, "test_case", "a case's name, or all"))?
+        .arg(flag(alloc, "list"))?
         .arg(port_option(alloc)?)?
         .arg(host_option(alloc)?)?
         .arg(times_option(alloc))?
         .arg(streams_option(alloc))?
         .arg(timeout_option(alloc))?
-        .arg(tls_option(alloc))
+        .arg(tls_option(alloc))?;
+    with_soak(alloc, command)
+}
+
+// A command with the options of soaks too.
+fn with_soak<'a>(alloc: Global, command: Command<'a>) -> Result<Command<'a>, AllocError>
+    ensures { (app : App) → IsCommand app command.entry → IfOk result (IsCommand (with_soak app)) }
+{
+    command
+        .arg(iterations_option(alloc))?
+        .arg(max_failures_option(alloc))?
+        .arg(acceptable_option(alloc))?
+        .arg(overall_option(alloc))?
+        .arg(gap_option(alloc))?
+        .arg(request_size_option(alloc))?
+        .arg(response_size_option(alloc))
 }
 
 // The case's name, which stands by itself or behind its option.
@@ -107,8 +214,30 @@ fn is_cleartext(options: &ArgMatches<'_>) -> bool
     }
 }
 
-pub(crate) fn trial_of<'a>(options: &ArgMatches<'a>) -> Option<CaseWords<'a>>
-    ensures value { option_map trial result ≡ trial_of (rows_of (found_of options.now)) }
+// How a soak goes.
+fn soak_of(options: &ArgMatches<'_>) -> Option<SoakWords>
+    ensures { option_map soak result ≡ soak_of (rows_of (found_of options.now)) }
+{
+    let iterations = amount_of(options, "soak_iterations")?;
+    let max_failures = amount_of(options, "soak_max_failures")?;
+    let acceptable = amount_of(options, "soak_per_iteration_max_acceptable_latency_ms")?;
+    let gap = amount_of(options, "soak_min_time_ms_between_rpcs")?;
+    let request_size = amount_of(options, "soak_request_size")?;
+    let response_size = amount_of(options, "soak_response_size")?;
+    Some(SoakWords {
+        iterations,
+        max_failures,
+        acceptable,
+        overall: amount_of(options, "soak_overall_timeout_seconds"),
+        gap,
+        request_size,
+        response_size,
+    })
+}
+
+// Which cases are run, and how.
+fn run_of<'a>(options: &ArgMatches<'a>) -> Option<CaseRun<'a>>
+    ensures value { option_map trial_run result ≡ run_of (rows_of (found_of options.now)) }
     ensures within { IfSome result (λ told. (1 ≤ told.port) × (1 ≤ told.times) × (1 ≤ told.patience)) }
 {
     let name = name_of(options)?;
@@ -116,13 +245,28 @@ pub(crate) fn trial_of<'a>(options: &ArgMatches<'a>) -> Option<CaseWords<'a>>
     let port = small_number_of(options, "port")?;
     let times = small_number_of(options, "times")?;
     let patience = small_number_of(options, "timeout")?;
-    let told = CaseWords {
+    let soak = soak_of(options)?;
+    let told = CaseRun {
         name,
         host,
         port,
         times,
         streams: small_number_of(options, "streams"),
         patience,
+        soak,
     };
     is_cleartext(options).then_some(told)
+}
+
+pub(crate) fn trial_of<'a>(options: &ArgMatches<'a>) -> Option<CaseWords<'a>>
+    ensures value { option_map trial result ≡ trial_of (rows_of (found_of options.now)) }
+    ensures within { IfSome result IsTrial }
+{
+    if has_flag(options, "list") {
+        let is_alone = text_of(options, "NAME")
+            .or(text_of(options, "test_case"))
+            .is_none();
+        return is_alone.then_some(CaseWords::List);
+    }
+    Some(CaseWords::Run(run_of(options)?))
 }

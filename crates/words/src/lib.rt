@@ -21,7 +21,7 @@ mod serve;
 mod wire;
 
 pub use body::MAX_CUT;
-pub use case::CaseWords;
+pub use case::{CaseRun, CaseWords, SoakWords};
 pub use misbehave::MisbehaveWords;
 pub use options::LOOPBACK;
 pub use read::{COMMANDS, Words, WordsFault, read_words};

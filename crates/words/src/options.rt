@@ -5,7 +5,7 @@
 
 ghost use Rattle.std.specs.Prelude.{◌≡◌, ◌≢◌, ◌≤◌, false, IfOk, IfSome, option_map};
 ghost use Rattle.clap.specs.Words.{found_of, rows_of, rule_of};
-ghost use Rattle.words.specs.Options.{also_named, flag, has_flag, number_of, number_option, text_of, text_option};
+ghost use Rattle.words.specs.Options.{amount_of, amount_option, flag, has_flag, number_of, number_option, text_of, text_option};
 
 use clap::builder::ValueParser;
 use clap::{Arg, ArgAction, ArgMatches, value_parser};
@@ -14,8 +14,11 @@ use std::alloc::{AllocError, Global};
 /// The host of servers of which none is named.
 pub const LOOPBACK: &str = "127.0.0.1";
 
-/// The greatest number that an option takes, but for `--cut`.
+/// The greatest number that an option takes, but for `--cut` and amounts.
 pub(crate) const MAX_NUMBER: usize = 65_535;
+
+/// The greatest amount that an option takes.
+const MAX_AMOUNT: usize = 4_000_000;
 
 // `--NAME N`, with N from 1 to 65,535. `right` says what N is.
 pub(crate) fn number_option<'a>(alloc: Global, name: &'a str, right: &'a str) -> Arg<'a>
@@ -23,6 +26,18 @@ pub(crate) fn number_option<'a>(alloc: Global, name: &'a str, right: &'a str) ->
     ensures local { result.global ≡ false }
 {
     let numbers = value_parser!(usize).range(1..=65_535);
+    Arg::new(alloc, name)
+        .long(name)
+        .value_parser(numbers)
+        .help(right)
+}
+
+// `--NAME N`, with N from 0 to 4,000,000. `right` says what N is.
+pub(crate) fn amount_option<'a>(alloc: Global, name: &'a str, right: &'a str) -> Arg<'a>
+    ensures rule { rule_of result ≡ amount_option name.now }
+    ensures local { result.global ≡ false }
+{
+    let numbers = value_parser!(usize).range(0..=4_000_000);
     Arg::new(alloc, name)
         .long(name)
         .value_parser(numbers)
@@ -68,6 +83,18 @@ pub(crate) fn small_number_of(options: &ArgMatches<'_>, name: &str) -> Option<u1
 {
     let number = number_of(options, name, MAX_NUMBER)?;
     Some(number as u16)
+}
+
+// The number of an option, if it has one from 0 to 4,000,000.
+pub(crate) fn amount_of(options: &ArgMatches<'_>, name: &str) -> Option<u32>
+    ensures { result ≡ amount_of name.now (rows_of (found_of options.now)) }
+{
+    let number = options.get_one::<usize>(name)?;
+    if number <= MAX_AMOUNT {
+        Some(number as u32)
+    } else {
+        None
+    }
 }
 
 // The text of an option, or of the word at a place.

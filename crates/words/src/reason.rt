@@ -285,6 +285,11 @@ fn reason_of_whole<'a>(command: &'a str, words: &[String], is_placed: bool) -> R
                 both: "--port and --any-port",
             };
         }
+        "case" if has_option(words, "--list") => {
+            return Reason::Excluding {
+                both: "NAME and --list",
+            };
+        }
         "case" if is_placed && has_option(words, "--test_case") => {
             return Reason::Excluding {
                 both: "NAME and --test_case",
@@ -299,6 +304,7 @@ fn reason_of_whole<'a>(command: &'a str, words: &[String], is_placed: bool) -> R
                 },
             };
         }
+        "misbehave" if has_option(words, "--verbose") => "--list",
         "misbehave" if is_placed => "--port P",
         "misbehave" => "NAME, or --list",
         "wire" if is_placed && has_option(words, "--list") => {
@@ -308,7 +314,7 @@ fn reason_of_whole<'a>(command: &'a str, words: &[String], is_placed: bool) -> R
         }
         "serve" => "--port P or --any-port",
         "case" if is_placed || has_option(words, "--test_case") => "--port P",
-        "case" => "NAME or --test_case NAME",
+        "case" => "NAME or --test_case NAME, or --list",
         "wire" if is_placed => "--port P",
         "wire" => "all, GROUP or GROUP/N, or --list",
         _ => takes(command),

@@ -10,6 +10,8 @@ returns c =
     let port = with_option _ _ _ _ _ c.in_ok-arg-3.ensures list (is_option c.number_option.result _ c.number_option.ensures.rule c.number_option.ensures.local) in
     let host = with_option _ _ _ _ _ c.in_ok-arg-4.ensures port c.host_option.ensures in
     let silence = with_option _ _ _ _ _ c.in_ok-arg-5.ensures host c.silence_option.ensures in
-    let verbose = with_option _ _ _ _ _ c.in_ok-arg-6.ensures silence (is_option c.flag-2.result _ c.flag-2.ensures.rule c.flag-2.ensures.local) in
-    IfOk-weaker c.arg-7.result _ _ (λ command added.
-    with_option _ _ _ _ _ added verbose (is_option c.text_option.result _ c.text_option.ensures.rule c.text_option.ensures.local)) c.arg-7.ensures
+    let limit = with_option _ _ _ _ _ c.in_ok-arg-6.ensures silence c.limit_option.ensures in
+    let jobs = with_option _ _ _ _ _ c.in_ok-arg-7.ensures limit c.jobs_option.ensures in
+    let verbose = with_option _ _ _ _ _ c.in_ok-arg-8.ensures jobs (is_option c.flag-2.result _ c.flag-2.ensures.rule c.flag-2.ensures.local) in
+    IfOk-weaker c.arg-9.result _ _ (λ command added.
+    with_option _ _ _ _ _ added verbose (is_option c.text_option.result _ c.text_option.ensures.rule c.text_option.ensures.local)) c.arg-9.ensures
