@@ -1,6 +1,7 @@
--- The names of levels, and which outcomes fail the whole: cases of level must that did not pass.
+-- The names of levels, and which outcomes fail the whole: cases of level must that failed. One that is unsteady accuses nobody.
 use Rattle.std.specs.Prelude.{ℕ, Bool, true, false, List, count_by, if◌then◌else◌, codes}
 use Rattle.wire.specs.declared.level.Level.{Level}
+use Rattle.wire.specs.declared.finding.Verdict.{Verdict}
 use Rattle.wire.specs.declared.outcome.Outcome.{Outcome}
 
 -- the word of a level
@@ -14,10 +15,16 @@ is_must Level.Must = true
 is_must Level.Should = false
 is_must Level.Ours = false
 
--- a case of level must that did not pass
-abbrev pub fails_the_whole : Outcome → Bool
-fails_the_whole outcome = if outcome.passed then false else is_must outcome.case.level
+abbrev pub is_failed : Verdict → Bool
+is_failed Verdict.Ok = false
+is_failed Verdict.Failed = true
+is_failed Verdict.Unsteady = false
+is_failed Verdict.NotApplicable = false
 
--- how many cases of level must did not pass
+-- a case of level must that failed
+abbrev pub fails_the_whole : Outcome → Bool
+fails_the_whole outcome = if is_failed outcome.finding.verdict then is_must outcome.finding.level else false
+
+-- how many cases of level must failed
 abbrev pub must_failures : List Outcome → ℕ
 must_failures outcomes = count_by fails_the_whole outcomes

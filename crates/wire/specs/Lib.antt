@@ -1,3 +1,4 @@
 pub mod Frames
 pub mod Levels
 pub mod Reactions
+pub mod Verdicts

@@ -20,6 +20,14 @@ pub struct Case {
 }
 
 impl Case {
+    /// Whether it opens many calls at once: no other is to run beside it.
+    pub fn opens_many(&self) -> bool {
+        self.script.lines().any(|line| {
+            let line = line.trim();
+            line.starts_with("many ") || line.starts_with("crowd ")
+        })
+    }
+
     /// The case that a text has: its title, its level and section, and the lines behind them.
     fn read(group: Group, number: u32, text: &'static str) -> Option<Case> {
         let (title, rest) = text.split_once('\n')?;

@@ -1,42 +1,103 @@
 //! What frames carry, as the rows spell it.
 //!
-//! Words with blanks between them, each of which adds bytes:
+//! Words with blanks between them, each of which adds bytes. A N is an amount (`announced`): a number, or one that is taken from
+//! what the server announced, as `frame+1`.
 //!
-//! - `0801`: these bytes, in hexadecimal; `00*16384`: so many times.
+//! - `0801`: these bytes, in hexadecimal; `00*N`: so many times.
 //! - `te=trailers`: a field of a header block, without indexing and with its name spelled out (RFC 7541, section 6.2.2);
 //!   `%0a` in it is that byte.
 //! - `str:trailers`: a string of a header block, its length first (section 5.2).
-//! - `call:EmptyCall`: the fields that open a call of this method of the test service.
+//! - `call:EmptyCall`: the fields that open a call of this method of the test service. `path:EmptyCall`: its `:path` alone.
+//! - `pad:N`: a field without indexing that is N bytes long in all, at least 300.
+//! - `size:N`: a change of the table's size to N (RFC 7541, section 6.3).
+//!
+//! A word that begins with `!` is a fault: where the case is first tried without its fault (`control`, in `step`) it is left out.
+//! A word that begins with `~` stands there alone, in place of a fault. So `call:EmptyCall !X=a`, and `!te=gzip ~te=trailers`.
 
 ghost use Rattle.std.specs.Prelude.{◌<◌, IfSome};
 
+use crate::announced::Announced;
 use crate::fault::WireFault;
 use std::alloc::Global;
 
+/// For what the lines of a case are read.
+#[derive(Clone, Copy, Debug, PartialEq, Eq)]
+pub struct Reading {
+    pub announced: Announced,
+    /// Whether without the fault.
+    pub is_control: bool,
+}
+
+/// SETTINGS of a server that announced each, by which rows can be read before there is a server.
+pub const SAMPLE: Announced = Announced {
+    table: 4_096,
+    streams: Some(100),
+    window: 65_535,
+    frame: 16_384,
+    list: Some(65_536),
+};
+
+impl Reading {
+    /// A line, or a word, as it stands here, without its mark; `None` where it doesn't stand here.
+    pub fn unmarked<'a>(&self, text: &'a str) -> Option<&'a str> {
+        if let Some(fault) = text.strip_prefix('!') {
+            return (!self.is_control).then_some(fault);
+        }
+        match text.strip_prefix('~') {
+            Some(sound) => self.is_control.then_some(sound),
+            None => Some(text),
+        }
+    }
+}
+
 /// The most bytes that a word stands for.
-const MOST: usize = 8_388_608;
+const MOST: u64 = 16_777_216;
 
 /// A literal without indexing whose name is spelled out (RFC 7541, section 6.2.2).
 const LITERAL: u8 = 0;
 
-/// The greatest length that stands in the first byte of a string (RFC 7541, section 5.1).
-const FIRST_BYTE: usize = 127;
-
 /// A length has no more groups of seven bits than this.
 const MOST_SEPTETS: u32 = 10;
 
+/// The first bits of a change of the table's size, and the bits of its number in the first byte (RFC 7541, section 6.3).
+const SIZE_CHANGE: u8 = 0x20;
+
+const SIZE_MASK: u8 = 0x1f;
+
+/// The bits of a string's length in the first byte (RFC 7541, section 5.2).
+const LENGTH_MASK: u8 = 0x7f;
+
+/// The least length of `pad`.
+const LEAST_PAD: u64 = 300;
+
 /// The bytes that a content's words spell.
-pub fn read_content(alloc: Global, text: &str) -> Result<Vec<u8>, WireFault> {
+pub fn read_content(alloc: Global, text: &str, reading: &Reading) -> Result<Vec<u8>, WireFault> {
     let mut bytes = Vec::new(alloc);
     for word in text.split_whitespace() {
-        push_word(alloc, &mut bytes, word)?;
+        if let Some(word) = reading.unmarked(word) {
+            push_word(alloc, &mut bytes, word, &reading.announced)?;
+        }
     }
     Ok(bytes)
 }
 
-fn push_word(alloc: Global, bytes: &mut Vec<u8>, word: &str) -> Result<(), WireFault> {
+fn push_word(
+    alloc: Global,
+    bytes: &mut Vec<u8>,
+    word: &str,
+    announced: &Announced,
+) -> Result<(), WireFault> {
+    if let Some(amount) = word.strip_prefix("size:") {
+        return push_size(bytes, announced.amount(amount)?);
+    }
+    if let Some(amount) = word.strip_prefix("pad:") {
+        return push_pad(alloc, bytes, announced.amount(amount)?);
+    }
     if let Some(method) = word.strip_prefix("call:") {
         return push_call(alloc, bytes, method);
+    }
+    if let Some(method) = word.strip_prefix("path:") {
+        return push_path(alloc, bytes, method);
     }
     if let Some(text) = word.strip_prefix("str:") {
         return push_string(alloc, bytes, text);
@@ -45,8 +106,7 @@ fn push_word(alloc: Global, bytes: &mut Vec<u8>, word: &str) -> Result<(), WireF
         return push_field(alloc, bytes, name, value);
     }
     if let Some((piece, times)) = word.split_once('*') {
-        let times = times.parse::<usize>().map_err(|_| WireFault::BadRow)?;
-        return push_repeated(alloc, bytes, piece, times);
+        return push_repeated(alloc, bytes, piece, announced.amount(times)?);
     }
     push_repeated(alloc, bytes, word, 1)
 }
@@ -56,7 +116,7 @@ fn push_repeated(
     alloc: Global,
     bytes: &mut Vec<u8>,
     digits: &str,
-    times: usize,
+    times: u64,
 ) -> Result<(), WireFault> {
     let piece = hex::decode(alloc, digits).map_err(|_| WireFault::BadRow)?;
     if times > MOST {
@@ -68,12 +128,17 @@ fn push_repeated(
     Ok(())
 }
 
+/// Adds the `:path` of a method of the test service.
+fn push_path(alloc: Global, bytes: &mut Vec<u8>, method: &str) -> Result<(), WireFault> {
+    let path = format!(in alloc; "/grpc.testing.TestService/{method}")?;
+    push_field(alloc, bytes, ":path", path.as_str())
+}
+
 /// Adds the fields that open a call of a method.
 fn push_call(alloc: Global, bytes: &mut Vec<u8>, method: &str) -> Result<(), WireFault> {
-    let path = format!(in alloc; "/grpc.testing.TestService/{method}")?;
     push_field(alloc, bytes, ":method", "POST")?;
     push_field(alloc, bytes, ":scheme", "http")?;
-    push_field(alloc, bytes, ":path", path.as_str())?;
+    push_path(alloc, bytes, method)?;
     push_field(alloc, bytes, ":authority", "localhost")?;
     push_field(alloc, bytes, "te", "trailers")?;
     push_field(alloc, bytes, "content-type", "application/grpc")
@@ -93,19 +158,54 @@ fn push_field(
 /// Adds a text that isn't written by Huffman's code (RFC 7541, section 5.2).
 fn push_string(alloc: Global, bytes: &mut Vec<u8>, text: &str) -> Result<(), WireFault> {
     let text = unescaped(alloc, text)?;
-    push_length(bytes, text.len())?;
+    push_length(bytes, text.len() as u64)?;
     bytes.extend_from_slice(text.as_slice())?;
     Ok(())
 }
 
+/// Adds a field without indexing that is so many bytes long in all. Its name has one byte, or two where no value would have the
+/// right length else: the length of a value may take a byte more.
+fn push_pad(alloc: Global, bytes: &mut Vec<u8>, length: u64) -> Result<(), WireFault> {
+    if length < LEAST_PAD || length > MOST {
+        return Err(WireFault::BadRow);
+    }
+    for name in ["x", "xx"] {
+        let mut field = Vec::new(alloc);
+        field.push(LITERAL)?;
+        push_string(alloc, &mut field, name)?;
+        let rest = length.saturating_sub(field.len() as u64);
+        for octets in 1..=5u64 {
+            let value = rest.saturating_sub(octets);
+            let mut prefix = Vec::new(alloc);
+            push_length(&mut prefix, value)?;
+            if prefix.len() as u64 == octets {
+                bytes.extend_from_slice(field.as_slice())?;
+                bytes.extend_from_slice(prefix.as_slice())?;
+                return push_repeated(alloc, bytes, "61", value);
+            }
+        }
+    }
+    Err(WireFault::BadRow)
+}
+
+/// Adds a change of the table's size (RFC 7541, section 6.3).
+pub fn push_size(bytes: &mut Vec<u8>, size: u64) -> Result<(), WireFault> {
+    push_integer(bytes, SIZE_CHANGE, SIZE_MASK, size)
+}
+
 /// Adds a length with a prefix of seven bits (RFC 7541, section 5.1).
-fn push_length(bytes: &mut Vec<u8>, length: usize) -> Result<(), WireFault> {
-    if length < FIRST_BYTE {
-        bytes.push(length as u8)?;
+fn push_length(bytes: &mut Vec<u8>, length: u64) -> Result<(), WireFault> {
+    push_integer(bytes, 0, LENGTH_MASK, length)
+}
+
+/// Adds an integer whose prefix has these bits, behind the first bits of its byte (RFC 7541, section 5.1).
+fn push_integer(bytes: &mut Vec<u8>, first: u8, mask: u8, value: u64) -> Result<(), WireFault> {
+    if value < u64::from(mask) {
+        bytes.push(first | value as u8)?;
         return Ok(());
     }
-    bytes.push(0x7f)?;
-    let mut rest = length - FIRST_BYTE;
+    bytes.push(first | mask)?;
+    let mut rest = value - u64::from(mask);
     for _ in 0..MOST_SEPTETS {
         if rest < 128 {
             bytes.push(rest as u8)?;

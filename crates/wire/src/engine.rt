@@ -1,28 +1,21 @@
-//! One case over one connection: its steps in order, and then a wait for a lawful reaction.
+//! One try of a case, over one connection: its steps in order, and then a wait for a lawful reaction.
 
 ghost use Rattle.std.specs.Prelude.{IfOk, IsTrue};
 ghost use Rattle.std.specs.List.{Any};
 ghost use Rattle.wire.specs.Reactions.{IsLawful};
 
+use crate::announced::{Announced, Need};
 use crate::case::Case;
+use crate::content::{Reading, push_size};
 use crate::fault::WireFault;
-use crate::frame::{DATA, END_STREAM, PADDED, PING};
-use crate::outcome::Outcome;
+use crate::frame::{DATA, END_HEADERS, HEADERS, PADDED, PRIORITY, RST_STREAM};
 use crate::reaction::{Lawful, Reaction};
-use crate::step::{Script, Step, opening_of, read_script};
-use crate::talk::{Heard, Talk};
+use crate::seen::Seen;
+use crate::server::{Pace, Server};
+use crate::step::{OwnFrame, Step, opening_of, read_script};
+use crate::talk::{Heard, MANY_FRAMES, Talk};
 use h2frame::MAX_PAYLOAD;
 use std::alloc::Global;
-use std::io::{Read, Write};
-
-/// More frames than a case waits for.
-const MANY_FRAMES: usize = 1_000_000;
-
-/// The connection's window while the server granted nothing (RFC 9113, section 6.9.2).
-const FIRST_WINDOW: u64 = 65_535;
-
-/// Bytes of DATA that a stream carries before those of `upload`, at most.
-const MOST_OF_PREFIX: u64 = 64;
 
 /// A frame of `padded`: the length of the padding, one byte, and the padding.
 const PADDED_LEN: u64 = 257;
@@ -30,139 +23,298 @@ const PADDED_LEN: u64 = 257;
 /// The greatest number of streams that a step opens.
 const MOST_STREAMS: u64 = 10_000;
 
-/// Runs a case over a connection on which nothing was said.
-pub fn run_case<S: Read + Write + Drop>(
+/// The greatest number of a stream, without the reserved bit.
+const STREAM_MASK: u32 = 0x7fff_ffff;
+
+/// The error of a call that is cancelled (RFC 9113, section 7).
+const CANCEL: u32 = 8;
+
+/// The bytes of a HEADERS frame's priority (RFC 9113, section 6.2).
+const PRIORITY_LEN: usize = 5;
+
+/// Why a case can't be tried on a server.
+#[derive(Clone, Copy, Debug, PartialEq, Eq)]
+pub enum Unfit {
+    /// The server's SETTINGS aren't what it rests on.
+    Setting(Need),
+    /// The server's windows have no room for so many bytes of DATA.
+    Window(u64),
+}
+
+/// What came of a try.
+#[derive(Clone, Copy, Debug, PartialEq, Eq)]
+pub enum Judgment {
+    Passed,
+    Failed,
+    Unfit(Unfit),
+}
+
+/// A try of a case.
+#[derive(Drop)]
+pub struct Try {
+    pub judgment: Judgment,
+    /// What was read for it: the lawful reactions.
+    pub lawful: Vec<Lawful>,
+    pub seen: Seen,
+    /// All that was written to the server, the preface too.
+    pub sent: Vec<u8>,
+}
+
+/// Tries a case over a connection on which nothing was said: as it stands, or without its fault.
+pub fn try_case<V: Server>(
     alloc: Global,
     case: Case,
-    socket: S,
-) -> Result<Outcome, WireFault> {
-    let script = read_script(alloc, case.script)?;
-    let mut talk = Talk::new(alloc, socket);
+    pace: Pace,
+    server: &V,
+    socket: V::Line,
+    is_control: bool,
+) -> Result<Try, WireFault> {
+    let mut talk = Talk::new(alloc, server, socket, pace)?;
+    let mut reading = Reading {
+        announced: Announced::FIRST,
+        is_control,
+    };
+    let mut script = read_script(alloc, case.script, &reading)?;
     let is_bare = matches!(script.steps.as_slice().first(), Some(Step::Bare));
     if !is_bare {
         talk.greet()?;
+        reading.announced = talk.seen.announced;
+        script = read_script(alloc, case.script, &reading)?;
     }
-    for (place, step) in script.steps.as_slice().iter().enumerate() {
-        take(alloc, &mut talk, step, place)?;
-    }
-    let passed = (is_bare || talk.seen.greeted) && judge(&mut talk, script.lawful.as_slice())?;
-    conclude(alloc, case, &script, talk, passed)
-}
-
-/// What came of a case.
-fn conclude<S: Read + Write + Drop>(
-    alloc: Global,
-    case: Case,
-    script: &Script,
-    talk: Talk<S>,
-    passed: bool,
-) -> Result<Outcome, WireFault> {
-    let mut wanted = String::new(alloc);
-    for (place, lawful) in script.lawful.as_slice().iter().enumerate() {
-        if place > 0 {
-            wanted.push_str(" or ")?;
+    let unfit = match script.unmet {
+        Some(need) => Some(Unfit::Setting(need)),
+        None => take_all(alloc, &mut talk, script.steps.as_slice(), &reading)?,
+    };
+    let judgment = match unfit {
+        Some(unfit) => Judgment::Unfit(unfit),
+        None => {
+            let passed = judge(&mut talk, script.lawful.as_slice())?;
+            if passed && (is_bare || talk.seen.greeted) {
+                Judgment::Passed
+            } else {
+                failure_of(alloc, case, &talk.seen, is_control)?
+            }
         }
-        lawful.describe(&mut wanted)?;
-    }
-    let mut came = String::new(alloc);
-    talk.seen.describe(&mut came)?;
-    Ok(Outcome {
-        case,
-        passed,
-        wanted,
-        came,
+    };
+    Ok(Try {
+        judgment,
+        lawful: script.lawful,
+        seen: talk.seen,
         sent: talk.sent,
     })
 }
 
-/// Takes a step.
-fn take<S: Read + Write>(
+/// What a try without a lawful reaction is. A case that began before the server's SETTINGS came is read by them now.
+fn failure_of(
     alloc: Global,
-    talk: &mut Talk<S>,
-    step: &Step,
-    place: usize,
-) -> Result<(), WireFault> {
-    match step {
-        Step::Bare => Ok(()),
-        Step::Write(bytes) => talk.say(bytes.as_slice()),
-        Step::Drip(bytes) => {
-            for piece in bytes.as_slice().chunks(1) {
-                talk.say(piece)?;
-            }
-            Ok(())
+    case: Case,
+    seen: &Seen,
+    is_control: bool,
+) -> Result<Judgment, WireFault> {
+    let reading = Reading {
+        announced: seen.announced,
+        is_control,
+    };
+    let script = read_script(alloc, case.script, &reading)?;
+    Ok(match script.unmet {
+        Some(need) => Judgment::Unfit(Unfit::Setting(need)),
+        None => Judgment::Failed,
+    })
+}
+
+/// Takes steps, and answers why the server can't be tried by them, if it can't.
+fn take_all<V: Server>(
+    alloc: Global,
+    talk: &mut Talk<'_, V>,
+    steps: &[Step],
+    reading: &Reading,
+) -> Result<Option<Unfit>, WireFault> {
+    for step in steps {
+        let unfit = take(alloc, talk, step, reading)?;
+        if unfit.is_some() || talk.seen.endless {
+            return Ok(unfit);
         }
-        Step::Await(reaction) => wait_for(talk, reaction),
-        Step::Quiet => wait_for_silence(talk),
-        Step::Sync => sync(alloc, talk, place),
+    }
+    Ok(None)
+}
+
+/// Takes a step, and answers why the server can't be tried by it, if it can't.
+fn take<V: Server>(
+    alloc: Global,
+    talk: &mut Talk<'_, V>,
+    step: &Step,
+    reading: &Reading,
+) -> Result<Option<Unfit>, WireFault> {
+    match step {
+        Step::Bare => {}
+        Step::Write(bytes) => talk.say(bytes.as_slice())?,
+        Step::Drip(bytes) => drip(talk, bytes.as_slice())?,
+        Step::Frame(frame) => return write_frame(alloc, talk, frame),
+        Step::Await(reaction) => wait_for(talk, reaction)?,
+        Step::Quiet => wait_for_quiet(talk)?,
+        Step::Sync => sync(talk)?,
         Step::Upload {
             stream,
             count,
-            before,
             padded,
-        } => upload(alloc, talk, *stream, *count, *before, *padded),
-        Step::Crowd(method) => match talk.seen.few_streams() {
-            Some(limit) => open_many(alloc, talk, u64::from(limit) + 1, method),
-            None => Ok(()),
-        },
-        Step::Many { count, method } => open_many(alloc, talk, *count, method),
+        } => upload(alloc, talk, *stream, *count, *padded)?,
+        Step::Crowd(method) => {
+            let count = reading.announced.amount("streams+1")?;
+            open_many(alloc, talk, count, method, reading)?;
+        }
+        Step::Many { count, method } => open_many(alloc, talk, *count, method, reading)?,
+        Step::Cancel(count) => cancel_many(talk, *count)?,
     }
+    Ok(None)
 }
 
-/// Waits until a reaction is there, or nothing comes.
-fn wait_for<S: Read + Write>(talk: &mut Talk<S>, reaction: &Reaction) -> Result<(), WireFault> {
+/// Writes each byte by itself.
+fn drip<V: Server>(talk: &mut Talk<'_, V>, bytes: &[u8]) -> Result<(), WireFault> {
+    for piece in bytes.chunks(1) {
+        talk.flush();
+        talk.say(piece)?;
+    }
+    talk.flush();
+    Ok(())
+}
+
+/// Writes a frame; DATA once the server's windows have room for it. It answers where they have none.
+fn write_frame<V: Server>(
+    alloc: Global,
+    talk: &mut Talk<'_, V>,
+    frame: &OwnFrame,
+) -> Result<Option<Unfit>, WireFault> {
+    let payload = frame.payload.as_slice();
+    if frame.kind == HEADERS {
+        let payload = with_table_size(alloc, talk, frame)?;
+        talk.say_frame(frame.kind, frame.flags, frame.stream, payload.as_slice())?;
+        return Ok(None);
+    }
+    if frame.kind != DATA {
+        talk.say_frame(frame.kind, frame.flags, frame.stream, payload)?;
+        return Ok(None);
+    }
+    let count = payload.len() as u64;
     for _ in 0..MANY_FRAMES {
-        if talk.seen.holds(reaction)? || talk.hear()? != Heard::Frame {
+        if count <= talk.room(frame.stream & STREAM_MASK) {
+            talk.say_data(frame.flags, frame.stream, payload)?;
+            return Ok(None);
+        }
+        let until = talk.silence()?;
+        if talk.hear(until)? != Heard::Frame {
+            break;
+        }
+    }
+    Ok(Some(Unfit::Window(count)))
+}
+
+/// The payload of HEADERS. Where the server's table is smaller than tables are at first, its first block begins with a change of the
+/// table's size to that (RFC 7541, section 4.2).
+fn with_table_size<V: Server>(
+    alloc: Global,
+    talk: &mut Talk<'_, V>,
+    frame: &OwnFrame,
+) -> Result<Vec<u8>, WireFault> {
+    let payload = frame.payload.as_slice();
+    let table = talk.seen.announced.table;
+    if talk.has_told_table || table >= Announced::FIRST.table {
+        return Ok(Vec::from_slice(alloc, payload)?);
+    }
+    talk.has_told_table = true;
+    let padding = usize::from(frame.flags & PADDED != 0);
+    let priority = if frame.flags & PRIORITY != 0 {
+        PRIORITY_LEN
+    } else {
+        0
+    };
+    let (front, block) = payload.split_at(payload.len().min(padding + priority));
+    let mut bytes = Vec::from_slice(alloc, front)?;
+    push_size(&mut bytes, u64::from(table))?;
+    bytes.extend_from_slice(block)?;
+    Ok(bytes)
+}
+
+/// Waits until a reaction is there, or can't come, or nothing comes.
+fn wait_for<V: Server>(talk: &mut Talk<'_, V>, reaction: &Reaction) -> Result<(), WireFault> {
+    for _ in 0..MANY_FRAMES {
+        if talk.seen.holds(reaction)? || talk.seen.is_lost(reaction)? {
+            return Ok(());
+        }
+        let until = talk.silence()?;
+        match talk.hear(until)? {
+            Heard::Frame => {}
+            Heard::Silence => {
+                talk.was_silent = true;
+                return Ok(());
+            }
+            Heard::Closed => return Ok(()),
+        }
+    }
+    Ok(())
+}
+
+/// Waits until the server has read all that was said, and a moment longer, whatever comes.
+fn wait_for_quiet<V: Server>(talk: &mut Talk<'_, V>) -> Result<(), WireFault> {
+    talk.ask()?;
+    let begun = talk.now()?;
+    for _ in 0..MANY_FRAMES {
+        let until = talk.moment(begun)?;
+        if talk.hear(until)? != Heard::Frame {
             return Ok(());
         }
     }
     Ok(())
 }
 
-/// Waits until nothing comes.
-fn wait_for_silence<S: Read + Write>(talk: &mut Talk<S>) -> Result<(), WireFault> {
+/// Waits until the server has read all that was said.
+fn sync<V: Server>(talk: &mut Talk<'_, V>) -> Result<(), WireFault> {
+    talk.ask()?;
     for _ in 0..MANY_FRAMES {
-        if talk.hear()? != Heard::Frame {
+        let until = talk.silence()?;
+        if talk.has_passed() || talk.hear(until)? != Heard::Frame {
             return Ok(());
         }
     }
-    Ok(())
-}
-
-/// Sends a PING, and waits for its acknowledgement: until then the server has read all that was written.
-fn sync<S: Read + Write>(alloc: Global, talk: &mut Talk<S>, place: usize) -> Result<(), WireFault> {
-    let content = (place as u64).to_be_bytes();
-    talk.seen.synced = false;
-    talk.say_frame(PING, 0, 0, &content)?;
-    let echoed = Reaction::Ping(Vec::from_slice(alloc, &content)?);
-    wait_for(talk, &echoed)?;
-    talk.seen.synced = talk.seen.holds(&echoed)?;
     Ok(())
 }
 
 /// Opens streams from 1 on, so many, and ends none.
-fn open_many<S: Read + Write>(
+fn open_many<V: Server>(
     alloc: Global,
-    talk: &mut Talk<S>,
+    talk: &mut Talk<'_, V>,
     count: u64,
     method: &str,
+    reading: &Reading,
 ) -> Result<(), WireFault> {
     if count > MOST_STREAMS {
         return Err(WireFault::BadRow);
     }
     for place in 0..count {
-        let opening = opening_of(alloc, method, (2 * place + 1) as u32)?;
-        talk.say(opening.as_slice())?;
+        let opening = opening_of(alloc, method, (2 * place + 1) as u32, reading)?;
+        let payload = with_table_size(alloc, talk, &opening)?;
+        talk.say_frame(HEADERS, END_HEADERS, opening.stream, payload.as_slice())?;
+    }
+    Ok(())
+}
+
+/// Resets streams from 1 on, so many.
+fn cancel_many<V: Server>(talk: &mut Talk<'_, V>, count: u64) -> Result<(), WireFault> {
+    if count > MOST_STREAMS {
+        return Err(WireFault::BadRow);
+    }
+    for place in 0..count {
+        let stream = (2 * place + 1) as u32;
+        talk.say_frame(RST_STREAM, 0, stream, &CANCEL.to_be_bytes())?;
     }
     Ok(())
 }
 
 /// Sends zero bytes as DATA, as the server's windows let them through.
-fn upload<S: Read + Write>(
+fn upload<V: Server>(
     alloc: Global,
-    talk: &mut Talk<S>,
+    talk: &mut Talk<'_, V>,
     stream: u32,
     count: u64,
-    before: u64,
     padded: bool,
 ) -> Result<(), WireFault> {
     let zeros = [0u8; 16384];
@@ -170,51 +322,50 @@ fn upload<S: Read + Write>(
     padding.push(255)?;
     padding.resize(PADDED_LEN as usize, 0)?;
     let mut rest = count;
-    let mut spent = 0u64;
     for _ in 0..MANY_FRAMES {
         if rest == 0 {
             return Ok(());
         }
-        let room = room(talk, stream, before).saturating_sub(spent);
+        let room = talk.room(stream);
         if padded && room >= PADDED_LEN {
-            talk.say_frame(DATA, PADDED, stream, padding.as_slice())?;
-            spent = spent.saturating_add(PADDED_LEN);
+            talk.say_data(PADDED, stream, padding.as_slice())?;
             rest -= 1;
         } else if !padded && room > 0 {
             let size = room.min(rest).min(u64::from(MAX_PAYLOAD));
-            talk.say_frame(DATA, 0, stream, &zeros[..size as usize])?;
-            spent = spent.saturating_add(size);
+            talk.say_data(0, stream, &zeros[..size as usize])?;
             rest -= size;
-        } else if talk.hear()? != Heard::Frame {
-            return Ok(());
+        } else {
+            let until = talk.silence()?;
+            if talk.hear(until)? != Heard::Frame {
+                return Ok(());
+            }
         }
     }
     Ok(())
 }
 
-/// How many bytes of a stream's DATA were granted, where so many were spent on the connection.
-fn room<S: Read + Write>(talk: &Talk<S>, stream: u32, before: u64) -> u64 {
-    let granted = match talk.seen.streams.get(&stream) {
-        Some(seen) => seen.credit,
-        None => 0,
-    };
-    let of_connection = talk.seen.credit.saturating_add(FIRST_WINDOW);
-    let of_stream = talk.seen.window.saturating_add(granted);
-    let spent_on_stream = before.min(MOST_OF_PREFIX);
-    of_connection
-        .saturating_sub(before)
-        .min(of_stream.saturating_sub(spent_on_stream))
-}
-
-/// Waits for a lawful reaction, and answers whether there was one.
-fn judge<S: Read + Write>(talk: &mut Talk<S>, lawful: &[Lawful]) -> Result<bool, WireFault>
+/// Waits for a lawful reaction, and answers whether there was one. Once the server has read all that was said, only an answer of a
+/// call is waited for until nothing comes, unless that was waited for already; what a server does by itself comes within a moment.
+fn judge<V: Server>(talk: &mut Talk<'_, V>, lawful: &[Lawful]) -> Result<bool, WireFault>
     ensures { IfOk result (λ passed. IsTrue passed → Any (IsLawful talk.new.seen) lawful.now) }
 {
+    let was_silent = talk.was_silent;
+    talk.ask()?;
+    talk.flush();
+    let begun = talk.now()?;
     for _ in 0..MANY_FRAMES {
         if talk.seen.is_one_lawful(lawful)? {
             return Ok(true);
         }
-        if talk.hear()? != Heard::Frame {
+        if !talk.seen.may_be_lawful(lawful)? {
+            break;
+        }
+        let until = if !was_silent && talk.seen.may_be_answered(lawful)? {
+            talk.silence()?
+        } else {
+            talk.moment(begun)?
+        };
+        if talk.hear(until)? != Heard::Frame {
             break;
         }
     }

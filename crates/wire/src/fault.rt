@@ -15,6 +15,8 @@ pub enum WireFault {
     BadRow,
     /// A line could not be written.
     WriteFailed,
+    /// The clock could not be read.
+    ClockFailed,
     /// No memory was to be had.
     OutOfMemory,
 }

@@ -12,9 +12,15 @@ pub const DATA: u8 = 0;
 
 pub const HEADERS: u8 = 1;
 
+pub const RST_STREAM: u8 = 3;
+
 pub const SETTINGS: u8 = 4;
 
+pub const PUSH_PROMISE: u8 = 5;
+
 pub const PING: u8 = 6;
+
+pub const CONTINUATION: u8 = 9;
 
 /// SETTINGS and PING: an acknowledgement.
 pub const ACK: u8 = 0x01;
@@ -25,6 +31,9 @@ pub const END_HEADERS: u8 = 0x04;
 
 pub const PADDED: u8 = 0x08;
 
+/// HEADERS: five bytes of priority stand before the block.
+pub const PRIORITY: u8 = 0x20;
+
 /// A payload's length has three bytes.
 const MOST: usize = 0xff_ffff;
 
@@ -34,13 +43,13 @@ pub fn kind_named(word: &str) -> Option<u8> {
         "data" => Some(DATA),
         "headers" => Some(HEADERS),
         "priority" => Some(2),
-        "reset" => Some(3),
+        "reset" => Some(RST_STREAM),
         "settings" => Some(SETTINGS),
-        "push" => Some(5),
+        "push" => Some(PUSH_PROMISE),
         "ping" => Some(PING),
         "goaway" => Some(7),
         "window" => Some(8),
-        "continuation" => Some(9),
+        "continuation" => Some(CONTINUATION),
         _ => word.strip_prefix("type")?.parse::<u8>().ok(),
     }
 }

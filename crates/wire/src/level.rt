@@ -5,9 +5,9 @@ ghost use Rattle.std.specs.Prelude.{◌≡◌, IfSome};
 /// How binding a case is.
 #[derive(Clone, Copy, Debug, PartialEq, Eq)]
 pub enum Level {
-    /// The standard says MUST, or leaves no other reaction.
+    /// A sentence of the standard binds the server, and any other reaction breaks it.
     Must,
-    /// The standard says SHOULD, or gRPC's servers agree where it is silent.
+    /// The standard says SHOULD, binds the client alone, or leaves the reaction open.
     Should,
     /// What the profile of this project's own server has beyond the standards.
     Ours,

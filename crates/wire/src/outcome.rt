@@ -4,6 +4,7 @@ ghost use Rattle.std.specs.Prelude.{◌≡◌};
 ghost use Rattle.wire.specs.Levels.{must_failures};
 
 use crate::case::Case;
+use crate::finding::{Finding, Verdict};
 use crate::level::Level;
 use std::alloc::{AllocError, Global};
 
@@ -11,12 +12,9 @@ use std::alloc::{AllocError, Global};
 #[derive(Drop)]
 pub struct Outcome {
     pub case: Case,
-    pub passed: bool,
-    /// The lawful reactions and what came, in words.
-    pub wanted: String,
-    pub came: String,
-    /// All that was written to the server, the preface too.
-    pub sent: Vec<u8>,
+    pub finding: Finding,
+    /// Whether the server answers still. It is looked at where the case failed.
+    pub is_alive: bool,
 }
 
 impl Outcome {
@@ -26,7 +24,7 @@ impl Outcome {
     pub fn fails_the_whole(&self) -> bool
         ensures { result ≡ fails_the_whole self.now }
     {
-        !self.passed && self.case.level == Level::Must
+        matches!(self.finding.verdict, Verdict::Failed) && self.finding.level == Level::Must
     }
 }
 

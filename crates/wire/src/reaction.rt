@@ -9,14 +9,18 @@
 //! - `stream 3 5`: that, or `connection` with one of these errors: an endpoint may end the connection in place of a stream
 //!   (RFC 9113, section 5.4.1).
 //! - `status 1 13`: stream 1 ended with one of these statuses of gRPC, its response being `:status` 200.
-//! - `http 1 415`: the response on stream 1 has one of these `:status`.
-//! - `answered 1`: stream 1 ended with END_STREAM. `open 1`: it neither ended nor was reset. `nothing 1`: nothing came on it.
-//! - `failed 1`: it ended with a status other than 0 or an `:status` of 400 or more, or was reset.
-//! - `data 1 10`: so many bytes of DATA came on it. `begun 1`: some DATA. `total 65535`: so many on all streams.
+//! - `http 1 415`: the response on stream 1 has one of these `:status`; any where none is named.
+//! - `answered 1`: stream 1 ended with END_STREAM. `open 1`: it neither ended nor was reset. `live 1`: it wasn't reset.
+//!   `nothing 1`: nothing came on it.
+//! - `rejected 1`: its response has an `:status` of 400 or more, or ended with a status other than 0. `failed 1`: that, or it was
+//!   reset.
+//! - `data 1 10`: so many bytes of DATA came on it. `most 1 10`: no more than that; of stream 0: on all
+//!   streams. `begun 1`: some DATA. `total 65535`: so many on all streams.
 //! - `largest 16384`: no DATA frame had more bytes than that.
-//! - `replies 1 4`: so many whole messages came on it. `reply 1 0801`: the last one is this.
-//! - `head 1 NAME=VALUE`, `trailer 1 NAME=VALUE`: such a field came in the first, the last header block. `without 1 NAME`: no
-//!   field of this name came. `single 1`: one header block came, and no DATA.
+//! - `replies 1 4`: so many whole messages came on it. `reply 1 0801`: the last one is this. `has 1 0801`: these bytes stand
+//!   in it.
+//! - `head 1 NAME=VALUE`, `trailer 1 NAME=VALUE`: such a field came in the first, the last header block. `begins 1
+//!   NAME=VALUE`: a field of the first block begins so. `without 1 NAME`: no field of this name came. `single 1`: one header block came, and no DATA.
 //! - `same 1 3`: both ended with the same `:status` and the same status of gRPC.
 //! - `block 1 20`: the first header block on it begins with these bytes.
 //! - `ping 0102..`: PING with ACK and these bytes came. `silent 0102..`: none did.
@@ -24,9 +28,9 @@
 //!   are lawful.
 //! - `orderly`: no DATA or HEADERS came on a stream behind the server's own END_STREAM or RST_STREAM.
 //! - `ignored`: the last PING was answered, and nothing was an error. `text`: what came are no frames, but text of HTTP/1.
-//! - `unlimited`: the server announced no limit of streams below 1,001. `crowded 1 7`: some stream was reset with such an error.
+//! - `crowded 1 7`: some stream was reset with such an error.
 
-use crate::content::read_content;
+use crate::content::{Reading, read_content};
 use crate::fault::WireFault;
 use std::alloc::{AllocError, Global};
 
@@ -55,10 +59,16 @@ pub enum Reaction {
         codes: Codes,
     },
     Answered(u32),
+    Rejected(u32),
     Failed(u32),
     Open(u32),
+    Live(u32),
     Nothing(u32),
     Data {
+        stream: u32,
+        count: u64,
+    },
+    Most {
         stream: u32,
         count: u64,
     },
@@ -73,7 +83,16 @@ pub enum Reaction {
         stream: u32,
         content: Vec<u8>,
     },
+    Has {
+        stream: u32,
+        content: Vec<u8>,
+    },
     Head {
+        stream: u32,
+        name: &'static str,
+        value: &'static str,
+    },
+    Begins {
         stream: u32,
         name: &'static str,
         value: &'static str,
@@ -104,7 +123,6 @@ pub enum Reaction {
     Ignored,
     Orderly,
     Text,
-    Unlimited,
     Crowded(Codes),
 }
 
@@ -118,10 +136,14 @@ pub struct Lawful {
 }
 
 /// Reads a line of lawful reactions.
-pub fn read_lawful(alloc: Global, text: &'static str) -> Result<Lawful, WireFault> {
+pub fn read_lawful(
+    alloc: Global,
+    text: &'static str,
+    reading: &Reading,
+) -> Result<Lawful, WireFault> {
     let mut all = Vec::new(alloc);
     for part in text.split(" and ") {
-        all.push(read_reaction(alloc, part.trim())?)?;
+        all.push(read_reaction(alloc, part.trim(), reading)?)?;
     }
     Ok(Lawful { all, text })
 }
@@ -135,7 +157,11 @@ pub fn first_word(text: &'static str) -> (&'static str, &'static str) {
 }
 
 /// Reads a reaction.
-pub fn read_reaction(alloc: Global, text: &'static str) -> Result<Reaction, WireFault> {
+pub fn read_reaction(
+    alloc: Global,
+    text: &'static str,
+    reading: &Reading,
+) -> Result<Reaction, WireFault> {
     let (word, rest) = first_word(text);
     match word {
         "closed" => Ok(Reaction::Closed),
@@ -144,18 +170,17 @@ pub fn read_reaction(alloc: Global, text: &'static str) -> Result<Reaction, Wire
         "ignored" => Ok(Reaction::Ignored),
         "orderly" => Ok(Reaction::Orderly),
         "text" => Ok(Reaction::Text),
-        "unlimited" => Ok(Reaction::Unlimited),
         "connection" => Ok(Reaction::Connection(read_codes(alloc, rest)?)),
         "goaway" => Ok(Reaction::Goaway(read_codes(alloc, rest)?)),
         "crowded" => Ok(Reaction::Crowded(read_codes(alloc, rest)?)),
-        "ping" => Ok(Reaction::Ping(read_content(alloc, rest)?)),
-        "silent" => Ok(Reaction::Silent(read_content(alloc, rest)?)),
+        "ping" => Ok(Reaction::Ping(read_content(alloc, rest, reading)?)),
+        "silent" => Ok(Reaction::Silent(read_content(alloc, rest, reading)?)),
         "acks" => Ok(Reaction::Acks(read_count(rest)?)),
         "total" => Ok(Reaction::Total(read_count(rest)?)),
         "largest" => Ok(Reaction::Largest(read_count(rest)?)),
         _ => {
             let (stream, rest) = first_word(rest);
-            read_on_stream(alloc, word, read_stream(stream)?, rest)
+            read_on_stream(alloc, word, read_stream(stream)?, rest, reading)
         }
     }
 }
@@ -166,17 +191,24 @@ fn read_on_stream(
     word: &'static str,
     stream: u32,
     rest: &'static str,
+    reading: &Reading,
 ) -> Result<Reaction, WireFault> {
     match word {
         "answered" => Ok(Reaction::Answered(stream)),
+        "rejected" => Ok(Reaction::Rejected(stream)),
         "failed" => Ok(Reaction::Failed(stream)),
         "open" => Ok(Reaction::Open(stream)),
+        "live" => Ok(Reaction::Live(stream)),
         "nothing" => Ok(Reaction::Nothing(stream)),
         "begun" => Ok(Reaction::Begun(stream)),
         "single" => Ok(Reaction::Single(stream)),
         "without" => Ok(Reaction::Without { stream, name: rest }),
-        "head" | "trailer" => read_field(word, stream, rest),
+        "head" | "begins" | "trailer" => read_field(word, stream, rest),
         "data" => Ok(Reaction::Data {
+            stream,
+            count: read_count(rest)?,
+        }),
+        "most" => Ok(Reaction::Most {
             stream,
             count: read_count(rest)?,
         }),
@@ -190,11 +222,15 @@ fn read_on_stream(
         }),
         "reply" => Ok(Reaction::Reply {
             stream,
-            content: read_content(alloc, rest)?,
+            content: read_content(alloc, rest, reading)?,
+        }),
+        "has" => Ok(Reaction::Has {
+            stream,
+            content: read_content(alloc, rest, reading)?,
         }),
         "block" => Ok(Reaction::Block {
             stream,
-            front: read_content(alloc, rest)?,
+            front: read_content(alloc, rest, reading)?,
         }),
         _ => read_codes_on_stream(word, stream, read_codes(alloc, rest)?),
     }
@@ -214,6 +250,11 @@ fn read_field(word: &str, stream: u32, rest: &'static str) -> Result<Reaction, W
     let (name, value) = rest.split_once('=').ok_or(WireFault::BadRow)?;
     Ok(match word {
         "head" => Reaction::Head {
+            stream,
+            name,
+            value,
+        },
+        "begins" => Reaction::Begins {
             stream,
             name,
             value,
@@ -243,6 +284,27 @@ fn read_codes(alloc: Global, text: &str) -> Result<Codes, WireFault> {
         codes.push(read_stream(word)?)?;
     }
     Ok(codes)
+}
+
+impl Reaction {
+    /// Whether it is of a call's answer, which may come some time after the server has read the call.
+    pub fn is_of_answer(&self) -> bool {
+        match self {
+            Reaction::Connection(_)
+            | Reaction::Goaway(_)
+            | Reaction::Reset { .. }
+            | Reaction::Stream { .. }
+            | Reaction::Crowded(_)
+            | Reaction::Ping(_)
+            | Reaction::Silent(_)
+            | Reaction::Acks(_)
+            | Reaction::First
+            | Reaction::Settings
+            | Reaction::Ignored
+            | Reaction::Text => false,
+            _ => true,
+        }
+    }
 }
 
 /// Adds numbers with `or` between them.

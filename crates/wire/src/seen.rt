@@ -5,26 +5,37 @@ ghost use Rattle.std.specs.BTreeMap.{get};
 ghost use Rattle.std.specs.List.{Any};
 ghost use Rattle.std.specs.Ordering.{nat_cmp};
 
+use crate::announced::Announced;
 use crate::fault::WireFault;
 use crate::reaction::{Lawful, Reaction};
-use crate::stream_seen::{StreamSeen, has_field, value_of};
-use h2frame::SettingId;
+use crate::stream_seen::{StreamSeen, begins_with, has_bytes, has_field, value_of};
+use h2frame::{FrameHead, SettingId};
 use session::Parameter;
 use std::alloc::{AllocError, Global};
 use std::collections::BTreeMap;
 
-/// A server that allows more streams than this counts as one without a limit.
-const MANY_STREAMS: u32 = 1_000;
+/// Frames of the server that are kept for whoever checks a case.
+const KEPT_FRAMES: usize = 64;
 
-/// The window of a stream while nothing else was said (RFC 9113, section 6.9.2).
-const FIRST_WINDOW: u64 = 65_535;
+/// PINGs whose acknowledgements are kept.
+const KEPT_PINGS: usize = 1_000;
 
 /// Streams whose reactions are told of a case that failed.
 const TOLD: usize = 4;
 
+/// A frame that came.
+#[derive(Clone, Copy, Debug, PartialEq, Eq)]
+pub struct SeenFrame {
+    pub head: FrameHead,
+    /// The error of RST_STREAM or GOAWAY.
+    pub code: Option<u32>,
+}
+
 #[derive(Drop)]
 pub struct Seen {
     alloc: Global,
+    /// The first frames that came.
+    pub frames: Vec<SeenFrame>,
     pub streams: BTreeMap<u32, StreamSeen>,
     /// The contents of the PINGs that were acknowledged.
     pub pings: Vec<Vec<u8>>,
@@ -34,17 +45,18 @@ pub struct Seen {
     pub first_settings: bool,
     pub lawful_settings: bool,
     pub any_frame: bool,
-    /// How many streams the server allows, if it says so.
-    pub limit: Option<u32>,
-    pub window: u64,
+    /// The server's SETTINGS.
+    pub announced: Announced,
     /// What the server granted to the connection.
     pub credit: u64,
     /// The most bytes of a DATA frame.
     pub largest: u64,
     pub goaway: Option<u32>,
     pub closed: bool,
-    /// Whether the last PING of `sync` was answered.
+    /// Whether the last PING that asked whether all was read was answered.
     pub synced: bool,
+    /// Whether the time of the connection was up while the server still sent.
+    pub endless: bool,
     /// Whether DATA or HEADERS came on a stream behind the server's own end of it.
     pub late: bool,
     /// Whether text of HTTP/1 came in place of frames.
@@ -59,6 +71,7 @@ impl Seen {
     pub fn new(alloc: Global) -> Seen {
         Seen {
             alloc,
+            frames: Vec::new(alloc),
             streams: BTreeMap::new(alloc),
             pings: Vec::new(alloc),
             acks: 0,
@@ -66,39 +79,45 @@ impl Seen {
             first_settings: false,
             lawful_settings: true,
             any_frame: false,
-            limit: None,
-            window: FIRST_WINDOW,
+            announced: Announced::FIRST,
             credit: 0,
             largest: 0,
             goaway: None,
             closed: false,
             synced: false,
+            endless: false,
             late: false,
             text: false,
             wrong: None,
         }
     }
 
-    /// How many streams the server allows, if it isn't many.
-    pub fn few_streams(&self) -> Option<u32> {
-        match self.limit {
-            Some(limit) if limit <= MANY_STREAMS => Some(limit),
-            _ => None,
-        }
-    }
-
     /// Takes a parameter of the server's SETTINGS.
     pub fn parameter(&mut self, parameter: &Parameter) {
-        let value = parameter.value;
         if parameter.fault().is_some() {
             self.lawful_settings = false;
         }
-        match parameter.id {
-            SettingId::MaxConcurrentStreams => self.limit = Some(value),
-            SettingId::InitialWindowSize => self.window = u64::from(value),
-            SettingId::EnablePush => self.lawful_settings = self.lawful_settings && value == 0,
-            _ => {}
+        if parameter.id == SettingId::EnablePush {
+            self.lawful_settings = self.lawful_settings && parameter.value == 0;
         }
+        self.announced.take(parameter);
+    }
+
+    /// Keeps a frame that came, for whoever checks the case.
+    pub fn keep(&mut self, head: FrameHead, code: Option<u32>) -> Result<(), AllocError> {
+        if self.frames.len() < KEPT_FRAMES {
+            self.frames.push(SeenFrame { head, code })?;
+        }
+        Ok(())
+    }
+
+    /// Takes the acknowledgement of a PING.
+    pub fn echo(&mut self, content: &[u8]) -> Result<(), AllocError> {
+        if self.pings.len() < KEPT_PINGS {
+            let copy = Vec::from_slice(self.alloc, content)?;
+            self.pings.push(copy)?;
+        }
+        Ok(())
     }
 
     /// Whether one of these ways to pass is what came.
@@ -148,7 +167,6 @@ impl Seen {
             Reaction::Ignored => self.is_well(),
             Reaction::Orderly => !self.late,
             Reaction::Text => self.text,
-            Reaction::Unlimited => self.few_streams().is_none() && self.is_well(),
             Reaction::Crowded(codes) => self.is_crowded(codes.as_slice()),
             _ => return self.holds_on_stream(reaction),
         })
@@ -162,6 +180,15 @@ impl Seen {
                 None => true,
             }),
             Reaction::Data { stream, count } => Ok(self.count_on(*stream) == *count),
+            Reaction::Most { stream: 0, count } => Ok(self.total() <= *count),
+            Reaction::Most { stream, count } => Ok(self.count_on(*stream) <= *count),
+            Reaction::Live(stream) => Ok(
+                !self.closed
+                    && match self.streams.get(stream) {
+                        Some(seen) => seen.reset.is_none(),
+                        None => true,
+                    },
+            ),
             Reaction::Same { stream, other } => self.are_same(*stream, *other),
             Reaction::Open(stream) => Ok(
                 !self.closed
@@ -181,8 +208,12 @@ impl Seen {
         };
         Ok(match reaction {
             Reaction::Status { codes, .. } => is_one_of(seen.status()?, codes.as_slice()),
-            Reaction::Http { codes, .. } => is_one_of(seen.http_status(), codes.as_slice()),
-            Reaction::Answered(_) => seen.ended && !seen.was_refused(),
+            Reaction::Http { codes, .. } => match seen.http_status() {
+                Some(_) if codes.is_empty() => true,
+                status => is_one_of(status, codes.as_slice()),
+            },
+            Reaction::Answered(_) => seen.ended,
+            Reaction::Rejected(_) => seen.is_rejected()?,
             Reaction::Failed(_) => seen.has_failed()?,
             Reaction::Begun(_) => seen.count > 0,
             Reaction::Replies { count, .. } => seen.messages == *count,
@@ -190,6 +221,12 @@ impl Seen {
                 seen.messages > 0 && seen.message.as_slice() == content.as_slice()
             }
             Reaction::Head { name, value, .. } => has_field(seen.head.as_slice(), name, value),
+            Reaction::Has { content, .. } => {
+                seen.messages > 0 && has_bytes(seen.message.as_slice(), content.as_slice())
+            }
+            Reaction::Begins { name, value, .. } => {
+                begins_with(seen.head.as_slice(), name, value)
+            }
             Reaction::Trailer { name, value, .. } => has_field(
                 seen.trailers.as_slice(),
                 name,
@@ -203,6 +240,91 @@ impl Seen {
             Reaction::Block { front, .. } => seen.front.as_slice().starts_with(front.as_slice()),
             _ => false,
         })
+    }
+
+    /// Whether one of these ways to pass may still come true.
+    pub fn may_be_lawful(&self, ways: &[Lawful]) -> Result<bool, WireFault> {
+        for lawful in ways {
+            if self.may_hold(lawful)? {
+                return Ok(true);
+            }
+        }
+        Ok(false)
+    }
+
+    /// Whether a way to pass may still come true that lacks something of a call's answer.
+    pub fn may_be_answered(&self, ways: &[Lawful]) -> Result<bool, WireFault> {
+        for lawful in ways {
+            if self.lacks_an_answer(lawful)? && self.may_hold(lawful)? {
+                return Ok(true);
+            }
+        }
+        Ok(false)
+    }
+
+    /// Whether a way to pass lacks something of a call's answer.
+    fn lacks_an_answer(&self, lawful: &Lawful) -> Result<bool, WireFault> {
+        for reaction in lawful.all.as_slice() {
+            if reaction.is_of_answer() && !self.holds(reaction)? {
+                return Ok(true);
+            }
+        }
+        Ok(false)
+    }
+
+    /// Whether all of a way to pass may still come true. Where the server did what no server may, none does.
+    fn may_hold(&self, lawful: &Lawful) -> Result<bool, WireFault> {
+        if self.wrong.is_some() {
+            return Ok(false);
+        }
+        for reaction in lawful.all.as_slice() {
+            if self.is_lost(reaction)? {
+                return Ok(false);
+            }
+        }
+        Ok(true)
+    }
+
+    /// Whether a reaction isn't among what came, and can't be whatever comes.
+    pub fn is_lost(&self, reaction: &Reaction) -> Result<bool, WireFault> {
+        if self.holds(reaction)? {
+            return Ok(false);
+        }
+        if self.closed {
+            return Ok(true);
+        }
+        Ok(match reaction {
+            Reaction::Open(_)
+            | Reaction::Live(_)
+            | Reaction::Most { .. }
+            | Reaction::Nothing(_)
+            | Reaction::Orderly
+            | Reaction::Silent(_)
+            | Reaction::Largest(_) => true,
+            Reaction::Acks(count) => self.acks > *count,
+            Reaction::Total(count) => self.total() > *count,
+            Reaction::Data { stream, count } => self.count_on(*stream) > *count,
+            Reaction::Same { stream, other } => self.is_over(*stream) && self.is_over(*other),
+            Reaction::Ignored => self.has_erred(),
+            Reaction::Failed(stream) => self.has_status(*stream)?,
+            _ => self.is_over(stream_of(reaction)),
+        })
+    }
+
+    /// Whether the server ended or reset a stream.
+    fn is_over(&self, stream: u32) -> bool {
+        match self.streams.get(&stream) {
+            Some(seen) => seen.is_over(),
+            None => false,
+        }
+    }
+
+    /// Whether a stream ended with a status of gRPC.
+    fn has_status(&self, stream: u32) -> Result<bool, AllocError> {
+        match self.streams.get(&stream) {
+            Some(seen) => Ok(seen.status()?.is_some()),
+            None => Ok(false),
+        }
     }
 
     /// Whether the connection ended by one of these errors, or without one being said.
@@ -266,14 +388,16 @@ impl Seen {
 
     /// Whether the connection goes on, and nothing was an error.
     fn is_well(&self) -> bool {
+        self.synced && !self.closed && !self.has_erred()
+    }
+
+    /// Whether the server said an error of the connection or of a stream.
+    fn has_erred(&self) -> bool {
         let ends = match self.goaway {
             Some(code) => code != 0,
             None => false,
         };
-        self.synced
-            && !self.closed
-            && !ends
-            && !self.streams.values().any(|seen| seen.was_refused())
+        ends || self.streams.values().any(|seen| seen.was_refused())
     }
 
     /// Whether some stream was reset with one of these errors.
@@ -307,6 +431,9 @@ impl Seen {
         }
         if self.closed {
             push_part(text, start, "the end of the connection")?;
+        }
+        if self.endless {
+            push_part(text, start, "frames without an end")?;
         }
         if text.len() == start {
             text.push_str(if self.synced {
@@ -345,11 +472,14 @@ fn stream_of(reaction: &Reaction) -> u32 {
         | Reaction::Http { stream, .. }
         | Reaction::Replies { stream, .. }
         | Reaction::Reply { stream, .. }
+        | Reaction::Has { stream, .. }
         | Reaction::Head { stream, .. }
+        | Reaction::Begins { stream, .. }
         | Reaction::Trailer { stream, .. }
         | Reaction::Without { stream, .. }
         | Reaction::Block { stream, .. } => *stream,
         Reaction::Answered(stream)
+        | Reaction::Rejected(stream)
         | Reaction::Failed(stream)
         | Reaction::Begun(stream)
         | Reaction::Single(stream) => *stream,

@@ -7,19 +7,35 @@
 //! - `bare`, first: the preface and SETTINGS are the case's own; nothing is written for it.
 //! - `raw BYTES`: these bytes. `drip BYTES`: each by a write of its own. `preface`: the 24 bytes of the preface.
 //! - `request S`: a call of EmptyCall. `fetch S`: a call of UnaryCall for a reply with a body of 100,000 bytes.
-//! - `upload S N M`: N zero bytes as DATA, as the server's windows let them through, of which at most M were spent before.
-//!   `padded S N M`: each in a frame with 255 bytes of padding.
+//! - `upload S N`: N zero bytes as DATA, as the server's windows let them through. `padded S N`: each in a frame with 255 bytes of
+//!   padding.
 //! - `await REACTION`: waits for it (`reaction`). `sync`: a PING, and waits for its acknowledgement.
-//! - `quiet`: waits until nothing comes any more.
-//! - `crowd METHOD`: opens one call of the method more than the server's SETTINGS allow, if that is below 1,001.
-//! - `many N METHOD`: opens so many calls, none of them ended.
+//! - `quiet`: a PING, and waits a moment after its acknowledgement, whatever comes.
+//! - `crowd METHOD`: opens one call of the method more than the server's SETTINGS allow.
+//! - `many N METHOD`: opens so many calls, none of them ended. `cancel N`: RST_STREAM with CANCEL on each of the first N streams.
+//!   A case with `crowd` or `many` is run while no other is, since a server may have no thread left for their calls.
+//!
+//! What a case rests on stands first:
+//!
+//! - `needs NAME at least N`, `needs NAME at most N`: where the server's setting of this name (`announced`) isn't so, the case is not
+//!   applicable. A setting that wasn't announced has its first value; where it has none, it is at least any number, and at most none.
+//! - `control REACTION and REACTION ..`: the case is first tried without its fault, over a connection of its own: lines and words that
+//!   begin with `!` are left out (`content`), and those that begin with `~` stand there alone. Where these reactions don't all come
+//!   then, the case is not applicable. So a case of a malformed head is
+//!
+//!       control answered 1
+//!       headers 1 04 call:EmptyCall !X-a=b
+//!       data 1 01 0000000000
+//!       want stream 1 1
+//!
+//! DATA is written once the server's windows have room for it. Where they have none, the case is not applicable. All that is written
+//! between two waits leaves in one write.
 
-use crate::content::read_content;
+use crate::announced::Need;
+use crate::content::{Reading, read_content};
 use crate::fault::WireFault;
-use crate::frame::{DATA, END_HEADERS, END_STREAM, HEADERS, PREFACE, kind_named, push_frame};
-use crate::reaction::{
-    Lawful, Reaction, first_word, read_count, read_lawful, read_reaction, read_stream,
-};
+use crate::frame::{DATA, END_HEADERS, END_STREAM, HEADERS, PREFACE, kind_named};
+use crate::reaction::{Lawful, Reaction, first_word, read_lawful, read_reaction, read_stream};
 use std::alloc::Global;
 
 #[derive(Drop)]
@@ -27,11 +43,10 @@ pub enum Step {
     Bare,
     Write(Vec<u8>),
     Drip(Vec<u8>),
+    Frame(OwnFrame),
     Upload {
         stream: u32,
         count: u64,
-        /// Bytes of DATA that were written on the connection before, at most.
-        before: u64,
         padded: bool,
     },
     Await(Reaction),
@@ -42,107 +57,173 @@ pub enum Step {
         count: u64,
         method: &'static str,
     },
+    Cancel(u64),
+}
+
+/// A frame that a case writes.
+#[derive(Drop)]
+pub struct OwnFrame {
+    pub kind: u8,
+    pub flags: u8,
+    pub stream: u32,
+    pub payload: Vec<u8>,
 }
 
 /// What a case does, and which reactions are lawful.
 #[derive(Drop)]
 pub struct Script {
     pub steps: Vec<Step>,
+    /// The ways to pass; where it is tried without its fault, what has to come then.
     pub lawful: Vec<Lawful>,
+    /// What the case needs of the server's SETTINGS and they don't have. Nothing more is read then.
+    pub unmet: Option<Need>,
+}
+
+/// Whether the lines of a case say that it is tried without its fault first.
+pub fn has_control(text: &str) -> bool {
+    text.lines().any(|line| line.trim().starts_with("control "))
 }
 
 /// Reads the lines of a case.
-pub fn read_script(alloc: Global, text: &'static str) -> Result<Script, WireFault> {
-    let mut steps = Vec::new(alloc);
-    let mut lawful = Vec::new(alloc);
+pub fn read_script(
+    alloc: Global,
+    text: &'static str,
+    reading: &Reading,
+) -> Result<Script, WireFault> {
+    let mut script = Script {
+        steps: Vec::new(alloc),
+        lawful: Vec::new(alloc),
+        unmet: None,
+    };
     for line in text.lines() {
-        let (word, rest) = first_word(line.trim());
-        if word == "want" {
-            lawful.push(read_lawful(alloc, rest)?)?;
-        } else {
-            steps.push(read_step(alloc, word, rest)?)?;
+        let Some(line) = reading.unmarked(line.trim()) else {
+            continue;
+        };
+        let (word, rest) = first_word(line);
+        match word {
+            "want" if reading.is_control => {}
+            "control" if !reading.is_control => {}
+            "want" | "control" => script.lawful.push(read_lawful(alloc, rest, reading)?)?,
+            "needs" => {
+                let need = Need::read(rest)?;
+                if !need.is_met(&reading.announced) {
+                    script.unmet = Some(need);
+                    return Ok(script);
+                }
+            }
+            _ => push_steps(alloc, &mut script.steps, word, rest, reading)?,
         }
     }
-    if lawful.is_empty() {
+    if script.lawful.is_empty() {
         return Err(WireFault::BadRow);
     }
-    Ok(Script { steps, lawful })
+    Ok(script)
 }
 
-fn read_step(alloc: Global, word: &'static str, rest: &'static str) -> Result<Step, WireFault> {
+/// Adds the steps of a line.
+fn push_steps(
+    alloc: Global,
+    steps: &mut Vec<Step>,
+    word: &'static str,
+    rest: &'static str,
+    reading: &Reading,
+) -> Result<(), WireFault> {
+    match word {
+        "request" => push_call(alloc, steps, "EmptyCall", rest, "0000000000", reading),
+        "fetch" => {
+            let data = "00 00000004 10a08d06";
+            push_call(alloc, steps, "UnaryCall", rest, data, reading)
+        }
+        _ => {
+            steps.push(read_step(alloc, word, rest, reading)?)?;
+            Ok(())
+        }
+    }
+}
+
+fn read_step(
+    alloc: Global,
+    word: &'static str,
+    rest: &'static str,
+    reading: &Reading,
+) -> Result<Step, WireFault> {
     match word {
         "bare" => Ok(Step::Bare),
         "sync" => Ok(Step::Sync),
         "quiet" => Ok(Step::Quiet),
-        "raw" => Ok(Step::Write(read_content(alloc, rest)?)),
-        "drip" => Ok(Step::Drip(read_content(alloc, rest)?)),
+        "raw" => Ok(Step::Write(read_content(alloc, rest, reading)?)),
+        "drip" => Ok(Step::Drip(read_content(alloc, rest, reading)?)),
         "preface" => Ok(Step::Write(Vec::from_slice(alloc, PREFACE)?)),
-        "await" => Ok(Step::Await(read_reaction(alloc, rest)?)),
+        "await" => Ok(Step::Await(read_reaction(alloc, rest, reading)?)),
         "crowd" => Ok(Step::Crowd(rest)),
         "many" => {
             let (count, method) = first_word(rest);
-            Ok(Step::Many {
-                count: read_count(count)?,
-                method,
-            })
+            let count = reading.announced.amount(count)?;
+            Ok(Step::Many { count, method })
         }
+        "cancel" => Ok(Step::Cancel(reading.announced.amount(rest)?)),
         "upload" | "padded" => {
-            let (stream, rest) = first_word(rest);
-            let (count, before) = first_word(rest);
+            let (stream, count) = first_word(rest);
             Ok(Step::Upload {
                 stream: read_stream(stream)?,
-                count: read_count(count)?,
-                before: read_count(before)?,
+                count: reading.announced.amount(count)?,
                 padded: word == "padded",
             })
         }
-        "request" => Ok(Step::Write(call_of(
-            alloc,
-            "EmptyCall",
-            read_stream(rest)?,
-            "0000000000",
-        )?)),
-        "fetch" => Ok(Step::Write(call_of(
-            alloc,
-            "UnaryCall",
-            read_stream(rest)?,
-            "00 00000004 10a08d06",
-        )?)),
-        _ => Ok(Step::Write(frame_of(alloc, word, rest)?)),
+        _ => Ok(Step::Frame(frame_of(alloc, word, rest, reading)?)),
     }
 }
 
-/// The bytes of a frame's line.
-fn frame_of(alloc: Global, word: &str, rest: &'static str) -> Result<Vec<u8>, WireFault> {
+/// The frame of a line.
+fn frame_of(
+    alloc: Global,
+    word: &str,
+    rest: &'static str,
+    reading: &Reading,
+) -> Result<OwnFrame, WireFault> {
     let kind = kind_named(word).ok_or(WireFault::BadRow)?;
     let (stream, rest) = first_word(rest);
     let (flags, rest) = first_word(rest);
-    let flags = u8::from_str_radix(flags, 16).map_err(|_| WireFault::BadRow)?;
-    let content = read_content(alloc, rest)?;
-    let mut bytes = Vec::new(alloc);
-    push_frame(
-        &mut bytes,
+    Ok(OwnFrame {
         kind,
-        flags,
-        read_stream(stream)?,
-        content.as_slice(),
-    )?;
-    Ok(bytes)
+        flags: u8::from_str_radix(flags, 16).map_err(|_| WireFault::BadRow)?,
+        stream: read_stream(stream)?,
+        payload: read_content(alloc, rest, reading)?,
+    })
 }
 
-/// The bytes of HEADERS that open a call of a method.
-pub fn opening_of(alloc: Global, method: &str, stream: u32) -> Result<Vec<u8>, WireFault> {
+/// HEADERS that open a call of a method.
+pub fn opening_of(
+    alloc: Global,
+    method: &str,
+    stream: u32,
+    reading: &Reading,
+) -> Result<OwnFrame, WireFault> {
     let head = format!(in alloc; "call:{method}")?;
-    let block = read_content(alloc, head.as_str())?;
-    let mut bytes = Vec::new(alloc);
-    push_frame(&mut bytes, HEADERS, END_HEADERS, stream, block.as_slice())?;
-    Ok(bytes)
+    Ok(OwnFrame {
+        kind: HEADERS,
+        flags: END_HEADERS,
+        stream,
+        payload: read_content(alloc, head.as_str(), reading)?,
+    })
 }
 
-/// The bytes of a call of a method with this DATA.
-fn call_of(alloc: Global, method: &str, stream: u32, data: &str) -> Result<Vec<u8>, WireFault> {
-    let mut bytes = opening_of(alloc, method, stream)?;
-    let data = read_content(alloc, data)?;
-    push_frame(&mut bytes, DATA, END_STREAM, stream, data.as_slice())?;
-    Ok(bytes)
+/// Adds a call of a method with this DATA.
+fn push_call(
+    alloc: Global,
+    steps: &mut Vec<Step>,
+    method: &str,
+    stream: &str,
+    data: &str,
+    reading: &Reading,
+) -> Result<(), WireFault> {
+    let stream = read_stream(stream)?;
+    steps.push(Step::Frame(opening_of(alloc, method, stream, reading)?))?;
+    steps.push(Step::Frame(OwnFrame {
+        kind: DATA,
+        flags: END_STREAM,
+        stream,
+        payload: read_content(alloc, data, reading)?,
+    }))?;
+    Ok(())
 }

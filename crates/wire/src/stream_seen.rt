@@ -9,6 +9,9 @@ use std::alloc::{AllocError, Global};
 /// More messages than any case asks for at once.
 const TOO_MANY: usize = 100_000;
 
+/// The least `:status` that tells of an error (RFC 9110, section 15.5).
+const LEAST_ERROR: u32 = 400;
+
 /// What came on a stream.
 #[derive(Drop)]
 pub struct StreamSeen {
@@ -76,8 +79,11 @@ impl StreamSeen {
         Ok(())
     }
 
-    /// Takes a header block and its fields.
+    /// Takes a header block and its fields. Interim responses are passed over (RFC 9113, section 8.1).
     pub fn block(&mut self, block: &[u8], fields: Vec<Field>, last: bool) -> Result<(), WireFault> {
+        if !last && is_interim(fields.as_slice()) {
+            return Ok(());
+        }
         if self.blocks == 0 {
             self.front = Vec::from_slice(self.alloc, block)?;
             self.head = fields.clone()?;
@@ -113,26 +119,37 @@ impl StreamSeen {
         }
     }
 
-    /// Whether the server refused the call: by a status, an `:status`, or a reset.
-    pub fn has_failed(&self) -> Result<bool, AllocError> {
-        if self.reset.is_some() && !self.ended {
-            return Ok(true);
-        }
+    /// Whether its response tells of an error: by a status or an `:status`.
+    pub fn is_rejected(&self) -> Result<bool, AllocError> {
         match self.http_status() {
-            Some(status) if status >= 400 => return Ok(true),
+            Some(status) if status >= LEAST_ERROR => return Ok(true),
             _ => {}
         }
         Ok(match self.status()? {
             Some(code) => code != 0,
-            None => self.was_refused(),
+            None => false,
         })
+    }
+
+    /// Whether the server refused the call: by its response, or a reset.
+    pub fn has_failed(&self) -> Result<bool, AllocError> {
+        if self.reset.is_some() && !self.ended {
+            return Ok(true);
+        }
+        if self.is_rejected()? {
+            return Ok(true);
+        }
+        Ok(self.status()?.is_none() && self.was_refused())
     }
 
     /// Adds what came on it, in words.
     pub fn describe(&self, text: &mut String) -> Result<(), AllocError> {
         if let Some(code) = self.reset {
             write!(text, "RST_STREAM {code}")?;
-            return Ok(());
+            if !self.ended {
+                return Ok(());
+            }
+            text.push_str(" after ")?;
         }
         if let Some(status) = self.status()? {
             write!(text, "status {status}")?;
@@ -158,6 +175,11 @@ impl StreamSeen {
     }
 }
 
+/// Whether a header block is that of an interim response (RFC 9110, section 15.2).
+fn is_interim(fields: &[Field]) -> bool {
+    begins_with(fields, ":status", "1")
+}
+
 /// The value of the first field with this name.
 pub fn value_of<'a>(fields: &'a [Field], name: &str) -> Option<&'a [u8]> {
     let field = fields
@@ -171,4 +193,27 @@ pub fn has_field(fields: &[Field], name: &str, value: &str) -> bool {
     fields.iter().any(|field| {
         field.name.as_slice() == name.as_bytes() && field.value.as_slice() == value.as_bytes()
     })
+}
+
+/// Whether there is a field with this name whose value begins so.
+pub fn begins_with(fields: &[Field], name: &str, front: &str) -> bool {
+    fields.iter().any(|field| {
+        field.name.as_slice() == name.as_bytes()
+            && field.value.as_slice().starts_with(front.as_bytes())
+    })
+}
+
+/// Whether these bytes stand somewhere in others.
+pub fn has_bytes(bytes: &[u8], wanted: &[u8]) -> bool {
+    let mut rest = bytes;
+    for _ in 0..bytes.len() {
+        if rest.starts_with(wanted) {
+            return true;
+        }
+        let Some((_, behind)) = rest.split_first() else {
+            return false;
+        };
+        rest = behind;
+    }
+    wanted.is_empty()
 }

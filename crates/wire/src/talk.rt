@@ -1,13 +1,18 @@
 //! A connection to the server under test: what is written to it as it stands, and what comes back, frame by frame.
 //!
-//! SETTINGS and PINGs of the server are acknowledged as they come. No credit is given but what the case writes.
+//! SETTINGS and PINGs of the server are acknowledged as they come. No credit is given but what the case writes. What is said waits
+//! until something is waited for, and leaves in one write then.
 
 ghost use Rattle.std.specs.Prelude.{◌≡◌, ◌<◌};
 ghost use Rattle.h2frame.specs.declared.kind.FrameKind.TheVariants.{Headers};
 
 use crate::fault::WireFault;
-use crate::frame::{ACK, PING, PREFACE, SETTINGS, push_frame};
+use crate::frame::{
+    ACK, CONTINUATION, DATA, END_HEADERS, HEADERS, PING, PREFACE, PUSH_PROMISE, SETTINGS,
+    push_frame,
+};
 use crate::seen::Seen;
+use crate::server::{Pace, Server};
 use crate::stream_seen::StreamSeen;
 use h2frame::{
     Flags, Frame, FrameFault, FrameKind, FrameReader, MAX_PAYLOAD, SettingId, increment,
@@ -15,19 +20,28 @@ use h2frame::{
 use hpack_codec::{Decoder, HpackFault};
 use session::{FragmentFault, HeaderBlock, Parameter};
 use std::alloc::Global;
+use std::collections::BTreeMap;
 use std::io::{ErrorKind, Read, Write};
+use std::net::OpenStream;
+use std::time::Duration;
 
-/// More frames than a case waits for.
-const MANY_FRAMES: usize = 1_000_000;
+/// More frames than a server sends that comes to an end.
+pub const MANY_FRAMES: usize = 1_000_000;
 
 /// More reads than a frame comes in.
 const MANY_READS: usize = 1_000_000;
+
+/// The connection's window while the server granted nothing (RFC 9113, section 6.9.2).
+const FIRST_WINDOW: u64 = 65_535;
+
+/// SETTINGS_ENABLE_PUSH 0: the server must send no PUSH_PROMISE (RFC 9113, section 6.5.2).
+const NO_PUSH: [u8; 6] = [0, 2, 0, 0, 0, 0];
 
 /// What a wait ended with.
 #[derive(Clone, Copy, Debug, PartialEq, Eq)]
 pub enum Heard {
     Frame,
-    /// Nothing came in the time that the connection allows.
+    /// Nothing came in time.
     Silence,
     /// Nothing comes any more.
     Closed,
@@ -41,56 +55,191 @@ enum Next {
     Closed,
 }
 
+/// What is known of how far the server has read.
+#[derive(Clone, Copy, Debug, PartialEq, Eq)]
+enum Fence {
+    /// Something was said that no PING stands behind.
+    Open,
+    /// A PING stands behind all that was said.
+    Asked,
+    /// It was answered, at this time: the server has read all that was said.
+    Passed(u64),
+}
+
 #[derive(Drop)]
-pub struct Talk<S> {
+pub struct Talk<'a, V: Server> {
     alloc: Global,
-    socket: S,
+    server: &'a V,
+    socket: V::Line,
+    pace: Pace,
+    /// When the connection was made.
+    begun: u64,
+    /// How many milliseconds writes took. They aren't the server's time.
+    writing: u64,
     reader: FrameReader,
     decoder: Decoder,
     pub seen: Seen,
-    /// All that was written.
+    /// All that was said, of which so many bytes were written.
     pub sent: Vec<u8>,
+    written: usize,
     /// Whether a write failed: nothing more is written, though something may still come.
     mute: bool,
+    fence: Fence,
+    /// How many PINGs have asked whether all was read.
+    asked: u32,
+    /// How many frames came.
+    heard: usize,
+    /// Whether a header block was begun and not ended.
+    in_block: bool,
+    /// Whether a wait for a reaction ended in silence, and nothing was said or came since.
+    pub was_silent: bool,
+    /// Whether a header block told the size of the server's table.
+    pub has_told_table: bool,
+    /// How many bytes of DATA were said, on all streams and on each.
+    spent: u64,
+    spent_on: BTreeMap<u32, u64>,
 }
 
-impl<S: Read + Write> Talk<S> {
-    pub fn new(alloc: Global, socket: S) -> Talk<S> {
-        Talk {
+impl<'a, V: Server> Talk<'a, V> {
+    pub fn new(
+        alloc: Global,
+        server: &'a V,
+        socket: V::Line,
+        pace: Pace,
+    ) -> Result<Talk<'a, V>, WireFault> {
+        Ok(Talk {
             alloc,
+            server,
             socket,
+            pace,
+            begun: server.now().ok_or(WireFault::ClockFailed)?,
+            writing: 0,
             reader: FrameReader::new(alloc),
             decoder: Decoder::new(alloc),
             seen: Seen::new(alloc),
             sent: Vec::new(alloc),
+            written: 0,
             mute: false,
+            fence: Fence::Open,
+            asked: 0,
+            heard: 0,
+            in_block: false,
+            was_silent: false,
+            has_told_table: false,
+            spent: 0,
+            spent_on: BTreeMap::new(alloc),
+        })
+    }
+
+    /// How many milliseconds the connection has lasted.
+    pub fn now(&self) -> Result<u64, WireFault> {
+        let now = self.server.now().ok_or(WireFault::ClockFailed)?;
+        Ok(now.saturating_sub(self.begun))
+    }
+
+    /// When the time of silence is over, if nothing comes from now on.
+    pub fn silence(&self) -> Result<u64, WireFault> {
+        Ok(self.now()?.saturating_add(self.pace.silence))
+    }
+
+    /// When a server that has read all has done what it does by itself, or when the time of silence is over where it hasn't. The wait
+    /// began at this time.
+    pub fn moment(&self, begun: u64) -> Result<u64, WireFault> {
+        match self.fence {
+            Fence::Passed(at) => Ok(at.max(begun).saturating_add(self.pace.moment())),
+            Fence::Open | Fence::Asked => self.silence(),
         }
     }
 
-    /// Writes the preface and SETTINGS, and waits for the server's.
+    /// Whether the server has read all that was said.
+    pub fn has_passed(&self) -> bool {
+        matches!(self.fence, Fence::Passed(_))
+    }
+
+    /// Says the preface and SETTINGS, and waits for the server's.
     pub fn greet(&mut self) -> Result<(), WireFault> {
-        let mut bytes = Vec::from_slice(self.alloc, PREFACE)?;
-        push_frame(&mut bytes, SETTINGS, 0, 0, &[])?;
-        self.say(bytes.as_slice())?;
+        self.say(PREFACE)?;
+        self.say_frame(SETTINGS, 0, 0, &NO_PUSH)?;
         for _ in 0..MANY_FRAMES {
-            if self.seen.greeted || self.hear()? != Heard::Frame {
+            let until = self.silence()?;
+            if self.seen.greeted || self.hear(until)? != Heard::Frame {
                 return Ok(());
             }
         }
         Ok(())
     }
 
-    /// Writes bytes. After a write that failed nothing more is written.
+    /// Says bytes.
     pub fn say(&mut self, bytes: &[u8]) -> Result<(), WireFault> {
+        self.fence = Fence::Open;
+        self.was_silent = false;
         self.sent.extend_from_slice(bytes)?;
-        let mut rest = bytes;
+        Ok(())
+    }
+
+    /// Says a frame.
+    pub fn say_frame(
+        &mut self,
+        kind: u8,
+        flags: u8,
+        stream: u32,
+        payload: &[u8],
+    ) -> Result<(), WireFault> {
+        self.fence = Fence::Open;
+        self.was_silent = false;
+        if matches!(kind, HEADERS | PUSH_PROMISE | CONTINUATION) {
+            self.in_block = flags & END_HEADERS == 0;
+        }
+        push_frame(&mut self.sent, kind, flags, stream, payload)
+    }
+
+    /// Asks by a PING whether all was read, if it isn't known. Inside a header block nothing is asked: a PING there is an error.
+    pub fn ask(&mut self) -> Result<(), WireFault> {
+        if self.fence != Fence::Open || self.in_block {
+            return Ok(());
+        }
+        self.seen.synced = false;
+        self.asked = self.asked.saturating_add(1);
+        self.say_frame(PING, 0, 0, &fence_content(self.asked))?;
+        self.fence = Fence::Asked;
+        Ok(())
+    }
+
+    /// How many bytes of DATA the server's windows have room for on a stream (RFC 9113, section 6.9.1).
+    pub fn room(&self, stream: u32) -> u64 {
+        let granted = match self.seen.streams.get(&stream) {
+            Some(seen) => seen.credit,
+            None => 0,
+        };
+        let of_stream = u64::from(self.seen.announced.window).saturating_add(granted);
+        let of_connection = self.seen.credit.saturating_add(FIRST_WINDOW);
+        let spent = self.spent_on.get(&stream).copied().unwrap_or(0);
+        of_connection
+            .saturating_sub(self.spent)
+            .min(of_stream.saturating_sub(spent))
+    }
+
+    /// Says a DATA frame, whose payload counts on the server's windows.
+    pub fn say_data(&mut self, flags: u8, stream: u32, payload: &[u8]) -> Result<(), WireFault> {
+        let count = payload.len() as u64;
+        let spent = self.spent_on.get(&stream).copied().unwrap_or(0);
+        self.spent_on.insert(stream, spent.saturating_add(count))?;
+        self.spent = self.spent.saturating_add(count);
+        self.say_frame(DATA, flags, stream, payload)
+    }
+
+    /// Writes what was said. After a write that failed nothing more is written.
+    pub fn flush(&mut self) {
         for _ in 0..MANY_READS {
+            let Some(rest) = self.sent.as_slice().get(self.written..) else {
+                return;
+            };
             if rest.is_empty() || self.mute {
-                return Ok(());
+                return;
             }
             match self.socket.write(rest) {
                 Ok(0) => self.mute = true,
-                Ok(count) => rest = &rest[count..],
+                Ok(count) => self.written = self.written.saturating_add(count),
                 Err(error) => {
                     if error.kind() != ErrorKind::Interrupted {
                         self.mute = true;
@@ -99,26 +248,36 @@ impl<S: Read + Write> Talk<S> {
             }
         }
         self.mute = true;
+    }
+
+    /// Writes what was said, and notes how long that took.
+    fn flush_timed(&mut self) -> Result<(), WireFault> {
+        if self.written < self.sent.len() {
+            let begun = self.now()?;
+            self.flush();
+            let took = self.now()?.saturating_sub(begun);
+            self.writing = self.writing.saturating_add(took);
+        }
         Ok(())
     }
 
-    /// Writes a frame.
-    pub fn say_frame(
-        &mut self,
-        kind: u8,
-        flags: u8,
-        stream: u32,
-        payload: &[u8],
-    ) -> Result<(), WireFault> {
-        let mut bytes = Vec::new(self.alloc);
-        push_frame(&mut bytes, kind, flags, stream, payload)?;
-        self.say(bytes.as_slice())
+    /// When the connection's time is up: the time that writes took is added, up to as much again.
+    fn limit(&self) -> u64 {
+        let writing = self.writing.min(self.pace.limit);
+        self.pace.limit.saturating_add(writing)
     }
 
-    /// Waits for a frame, and notes what it brings.
-    pub fn hear(&mut self) -> Result<Heard, WireFault> {
-        match self.next()? {
+    /// Writes what was said, waits for a frame until then, and notes what it brings.
+    pub fn hear(&mut self, until: u64) -> Result<Heard, WireFault> {
+        self.flush_timed()?;
+        if self.heard >= MANY_FRAMES {
+            self.seen.endless = true;
+            return Ok(Heard::Silence);
+        }
+        match self.next(until)? {
             Next::Frame(frame) => {
+                self.heard = self.heard.saturating_add(1);
+                self.was_silent = false;
                 self.take(frame)?;
                 Ok(Heard::Frame)
             }
@@ -128,7 +287,7 @@ impl<S: Read + Write> Talk<S> {
     }
 
     /// The next frame. Bytes that are none end the connection.
-    fn next(&mut self) -> Result<Next, WireFault> {
+    fn next(&mut self, until: u64) -> Result<Next, WireFault> {
         if self.seen.closed {
             return Ok(Next::Closed);
         }
@@ -142,7 +301,7 @@ impl<S: Read + Write> Talk<S> {
                 }
                 None => {}
             }
-            match self.read()? {
+            match self.read(until)? {
                 Heard::Frame => {}
                 Heard::Silence => return Ok(Next::Silence),
                 Heard::Closed => return Ok(Next::Closed),
@@ -151,8 +310,27 @@ impl<S: Read + Write> Talk<S> {
         Ok(Next::Silence)
     }
 
-    /// Reads what there is.
-    fn read(&mut self) -> Result<Heard, WireFault> {
+    /// Reads what there is, or comes until then. A connection whose time is up is read no more.
+    fn read(&mut self, until: u64) -> Result<Heard, WireFault> {
+        let now = self.now()?;
+        let limit = self.limit();
+        if now >= limit {
+            self.seen.endless = true;
+            return Ok(Heard::Silence);
+        }
+        let patience = until.min(limit).saturating_sub(now);
+        if patience == 0 {
+            return Ok(Heard::Silence);
+        }
+        // A connection on which no time can be set is broken, and a read tells of that.
+        let _set = self
+            .socket
+            .set_read_timeout(Some(Duration::from_millis(patience)));
+        self.read_now()
+    }
+
+    /// Reads what there is, or comes in the time that is set.
+    fn read_now(&mut self) -> Result<Heard, WireFault> {
         let mut piece = [0u8; 16384];
         match self.socket.read(&mut piece) {
             Ok(0) => self.seen.closed = true,
@@ -187,6 +365,7 @@ impl<S: Read + Write> Talk<S> {
     /// Notes what a frame brings.
     fn take(&mut self, frame: Frame) -> Result<(), WireFault> {
         let kind = frame.head.kind;
+        self.seen.keep(frame.head, code_of(&frame))?;
         if !self.seen.any_frame {
             self.seen.any_frame = true;
             self.seen.first_settings = kind == FrameKind::Settings
@@ -266,12 +445,20 @@ impl<S: Read + Write> Talk<S> {
 
     fn pinged(&mut self, frame: &Frame) -> Result<(), WireFault> {
         let content = frame.content.as_slice();
-        if frame.head.flags.contains(Flags::ACK) {
-            let copy = Vec::from_slice(self.alloc, content)?;
-            self.seen.pings.push(copy)?;
-            return Ok(());
+        if !frame.head.flags.contains(Flags::ACK) {
+            return self.acknowledge(PING, content);
         }
-        self.say_frame(PING, ACK, 0, content)
+        self.seen.echo(content)?;
+        if self.fence == Fence::Asked && content == fence_content(self.asked).as_slice() {
+            self.fence = Fence::Passed(self.now()?);
+            self.seen.synced = true;
+        }
+        Ok(())
+    }
+
+    /// Acknowledges a frame. That the server has read all else stays known.
+    fn acknowledge(&mut self, kind: u8, content: &[u8]) -> Result<(), WireFault> {
+        push_frame(&mut self.sent, kind, ACK, 0, content)
     }
 
     fn settings(&mut self, frame: &Frame) -> Result<(), WireFault> {
@@ -289,7 +476,7 @@ impl<S: Read + Write> Talk<S> {
             }
         }
         self.seen.greeted = true;
-        self.say_frame(SETTINGS, ACK, 0, &[])
+        self.acknowledge(SETTINGS, &[])
     }
 
     /// A header block, with the frames that go on with it.
@@ -305,10 +492,12 @@ impl<S: Read + Write> Talk<S> {
             if block.is_whole() {
                 return self.block(frame, block.as_slice());
             }
-            let Next::Frame(next) = self.next()? else {
+            let until = self.silence()?;
+            let Next::Frame(next) = self.next(until)? else {
                 self.give_up("a header block that isn't ended");
                 return Ok(());
             };
+            self.seen.keep(next.head, None)?;
             match block.add(&next) {
                 Ok(()) => {}
                 Err(FragmentFault::OutOfMemory) => return Err(WireFault::OutOfMemory),
@@ -341,6 +530,21 @@ impl<S: Read + Write> Talk<S> {
         }
         self.seen.late = true;
         Ok(())
+    }
+}
+
+/// What a PING carries that asks for the so-manieth time whether all was read.
+fn fence_content(asked: u32) -> [u8; 8] {
+    let [a, b, c, d] = asked.to_be_bytes();
+    [0x66, 0x65, 0x6e, 0x63, a, b, c, d]
+}
+
+/// The error of RST_STREAM or GOAWAY.
+fn code_of(frame: &Frame) -> Option<u32> {
+    match frame.head.kind {
+        FrameKind::RstStream => Some(number_at(frame.content.as_slice(), 0)),
+        FrameKind::GoAway => Some(number_at(frame.content.as_slice(), 4)),
+        _ => None,
     }
 }
 

@@ -1,0 +1,216 @@
+//! A case: first without its fault, where its lines say so, and then as it stands. Where that fails it is tried twice again.
+
+use crate::case::Case;
+use crate::engine::{Judgment, Try, Unfit, try_case};
+use crate::fault::WireFault;
+use crate::finding::{Finding, Verdict, verdict_of};
+use crate::level::Level;
+use crate::outcome::Outcome;
+use crate::report::{push_frame_line, push_ways};
+use crate::seen::SeenFrame;
+use crate::server::{Pace, Server};
+use crate::step::has_control;
+use crate::talk::Talk;
+use std::alloc::{AllocError, Global};
+
+/// How often a case is tried that fails: what is of this project's profile alone accuses nobody, and is tried once.
+fn tries_of(level: Level) -> usize {
+    match level {
+        Level::Must | Level::Should => 3,
+        Level::Ours => 1,
+    }
+}
+
+/// Runs a case, over connections of its own.
+pub fn run_case<V: Server>(
+    alloc: Global,
+    case: Case,
+    pace: Pace,
+    server: &V,
+) -> Result<Outcome, WireFault> {
+    let begun = server.now().ok_or(WireFault::ClockFailed)?;
+    let mut finding = match unfit_of_control(alloc, case, pace, server)? {
+        Some(finding) => finding,
+        None => find(alloc, case, pace, server)?,
+    };
+    let now = server.now().ok_or(WireFault::ClockFailed)?;
+    finding.milliseconds = now.saturating_sub(begun);
+    let is_alive = finding.verdict != Verdict::Failed || is_alive(alloc, pace, server)?;
+    Ok(Outcome {
+        case,
+        finding,
+        is_alive,
+    })
+}
+
+/// Tries a case without its fault, if its lines say so, and answers what is found where that fails already.
+fn unfit_of_control<V: Server>(
+    alloc: Global,
+    case: Case,
+    pace: Pace,
+    server: &V,
+) -> Result<Option<Finding>, WireFault> {
+    if !has_control(case.script) {
+        return Ok(None);
+    }
+    let Some(socket) = server.connect() else {
+        return Ok(None);
+    };
+    let tried = try_case(alloc, case, pace, server, socket, true)?;
+    match tried.judgment {
+        Judgment::Passed => Ok(None),
+        Judgment::Unfit(unfit) => Ok(Some(unfit_finding(alloc, case, unfit, tried)?)),
+        Judgment::Failed => {
+            let mut reason = String::from_str(alloc, "without its fault: wanted ")?;
+            push_ways(&mut reason, tried.lawful.as_slice())?;
+            reason.push_str(", came ")?;
+            tried.seen.describe(&mut reason)?;
+            Ok(Some(not_applicable(alloc, case, reason, tried)?))
+        }
+    }
+}
+
+/// Tries a case: once where it passes, and as often as its level asks for where it fails.
+fn find<V: Server>(
+    alloc: Global,
+    case: Case,
+    pace: Pace,
+    server: &V,
+) -> Result<Finding, WireFault> {
+    let mut tries = 0usize;
+    let mut passed = 0usize;
+    let mut first: Option<Try> = None;
+    for _ in 0..tries_of(case.level) {
+        tries = tries.saturating_add(1);
+        let Some(socket) = server.connect() else {
+            continue;
+        };
+        let tried = try_case(alloc, case, pace, server, socket, false)?;
+        if let Judgment::Unfit(unfit) = tried.judgment {
+            return unfit_finding(alloc, case, unfit, tried);
+        }
+        let has_passed = tried.judgment == Judgment::Passed;
+        if has_passed {
+            passed = passed.saturating_add(1);
+        }
+        let is_over = tried.seen.endless || has_passed && tries == 1;
+        if first.is_none() || !has_passed && !has_failed(&first) {
+            first = Some(tried);
+        }
+        if is_over {
+            break;
+        }
+    }
+    match first {
+        Some(tried) => finding_of(alloc, case, tries, passed, tried),
+        None => no_connection(alloc, case),
+    }
+}
+
+/// Whether the try that is told of failed.
+fn has_failed(first: &Option<Try>) -> bool {
+    match first {
+        Some(tried) => tried.judgment == Judgment::Failed,
+        None => false,
+    }
+}
+
+/// What is found by tries, of which this one is told of.
+fn finding_of(
+    alloc: Global,
+    case: Case,
+    tries: usize,
+    passed: usize,
+    tried: Try,
+) -> Result<Finding, WireFault> {
+    let mut wanted = String::new(alloc);
+    push_ways(&mut wanted, tried.lawful.as_slice())?;
+    let mut came = String::new(alloc);
+    tried.seen.describe(&mut came)?;
+    Ok(Finding {
+        verdict: verdict_of(tries, passed),
+        level: case.level,
+        rule: case.section,
+        wanted,
+        came,
+        milliseconds: 0,
+        tries,
+        passed,
+        read: frames_of(alloc, tried.seen.frames.as_slice())?,
+        sent: tried.sent,
+    })
+}
+
+/// What is found of a case that a server can't be tried by.
+fn unfit_finding(
+    alloc: Global,
+    case: Case,
+    unfit: Unfit,
+    tried: Try,
+) -> Result<Finding, WireFault> {
+    let reason = match unfit {
+        Unfit::Setting(need) => need.describe(alloc, &tried.seen.announced)?,
+        Unfit::Window(count) => {
+            format!(in alloc; "the server's windows have no room for {count} bytes of DATA")?
+        }
+    };
+    not_applicable(alloc, case, reason, tried)
+}
+
+/// What is found of a case that isn't applicable, for this reason.
+fn not_applicable(
+    alloc: Global,
+    case: Case,
+    reason: String,
+    tried: Try,
+) -> Result<Finding, WireFault> {
+    Ok(Finding {
+        verdict: Verdict::NotApplicable,
+        level: case.level,
+        rule: case.section,
+        wanted: String::new(alloc),
+        came: reason,
+        milliseconds: 0,
+        tries: 1,
+        passed: 0,
+        read: frames_of(alloc, tried.seen.frames.as_slice())?,
+        sent: tried.sent,
+    })
+}
+
+/// What is found of a case for which no connection is to be had.
+fn no_connection(alloc: Global, case: Case) -> Result<Finding, WireFault> {
+    Ok(Finding {
+        verdict: Verdict::Failed,
+        level: case.level,
+        rule: case.section,
+        wanted: String::from_str(alloc, "a connection")?,
+        came: String::from_str(alloc, "none")?,
+        milliseconds: 0,
+        tries: tries_of(case.level),
+        passed: 0,
+        read: Vec::new(alloc),
+        sent: Vec::new(alloc),
+    })
+}
+
+/// The frames that were read, in words.
+fn frames_of(alloc: Global, frames: &[SeenFrame]) -> Result<Vec<String>, AllocError> {
+    let mut lines = Vec::new(alloc);
+    for frame in frames {
+        let mut line = String::new(alloc);
+        push_frame_line(&mut line, frame)?;
+        lines.push(line)?;
+    }
+    Ok(lines)
+}
+
+/// Whether the server greets a connection on which nothing else is said.
+fn is_alive<V: Server>(alloc: Global, pace: Pace, server: &V) -> Result<bool, WireFault> {
+    let Some(socket) = server.connect() else {
+        return Ok(false);
+    };
+    let mut talk = Talk::new(alloc, server, socket, pace)?;
+    talk.greet()?;
+    Ok(talk.seen.greeted)
+}

@@ -1,0 +1,35 @@
+//! The server under test, and how long it is waited for.
+
+use std::io::{Read, Write};
+use std::net::OpenStream;
+
+/// The server under test, and a clock.
+pub trait Server {
+    /// A connection to it.
+    type Line: Read + Write + OpenStream + Drop;
+
+    /// A connection, where one can be had.
+    fn connect(&self) -> Option<Self::Line>;
+
+    /// How many milliseconds have passed since a moment that stays the same, where the clock can be read.
+    fn now(&self) -> Option<u64>;
+}
+
+/// How long a server is waited for.
+#[derive(Clone, Copy, Debug, PartialEq, Eq)]
+pub struct Pace {
+    /// So many milliseconds in which nothing comes are silence.
+    pub silence: u64,
+    /// A connection takes so many milliseconds at most.
+    pub limit: u64,
+}
+
+/// So long as this part of the silence a server is waited for once it has read all that was written.
+const MOMENT: u64 = 10;
+
+impl Pace {
+    /// How many milliseconds are enough for what a server does by itself once it has read all that was written.
+    pub fn moment(self) -> u64 {
+        self.silence / MOMENT
+    }
+}
