@@ -5,7 +5,7 @@ use Rattle.std.specs.Fmt.{decimal}
 use Rattle.cases.specs.Faults.{code_of}
 use Rattle.cases.specs.Names.{name_of}
 use Rattle.cases.specs.declared.case.Case.{Case}
-use Rattle.cases.specs.declared.case.Case.TheVariants.{EmptyUnary, LargeUnary, ClientStreaming, ServerStreaming, PingPong, EmptyStream, CustomMetadata, StatusCodeAndMessage, SpecialStatusMessage, UnimplementedMethod, UnimplementedService, CancelAfterBegin, CancelAfterFirstResponse, TimeoutOnSleepingServer}
+use Rattle.cases.specs.declared.case.Case.TheVariants.{EmptyUnary, LargeUnary, ClientStreaming, ServerStreaming, PingPong, EmptyStream, CustomMetadata, StatusCodeAndMessage, SpecialStatusMessage, UnimplementedMethod, UnimplementedService, CancelAfterBegin, CancelAfterFirstResponse, TimeoutOnSleepingServer, CacheableUnary}
 use Rattle.cases.specs.declared.fault.CaseFault.{CaseFault}
 use Rattle.cases.specs.declared.report.Outcome.{Outcome}
 
@@ -14,6 +14,10 @@ abbrev pub all_cases : List Case
 all_cases = EmptyUnary ∷ LargeUnary ∷ ClientStreaming ∷ ServerStreaming ∷ PingPong ∷ EmptyStream ∷ CustomMetadata
     ∷ StatusCodeAndMessage ∷ SpecialStatusMessage ∷ UnimplementedMethod ∷ UnimplementedService ∷ CancelAfterBegin
     ∷ CancelAfterFirstResponse ∷ TimeoutOnSleepingServer ∷ []
+
+-- the cases that have a name: those, and one that is run by its name alone
+abbrev pub known_cases : List Case
+known_cases = all_cases ++ CacheableUnary ∷ []
 
 -- ` ok`, or ` failed CODE`
 abbrev pub ending_of : Result (Unit {0}) CaseFault → List ℕ

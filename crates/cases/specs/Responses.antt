@@ -11,7 +11,8 @@ use Rattle.cases.specs.declared.response.Phase.TheVariants.{Waiting, Answering, 
 abbrev pub is_lawful_kind : Phase → FrameKind → Bool → Bool
 -- what comes behind the client's RST_STREAM was on its way (section 5.4.2)
 is_lawful_kind Cancelled _ _ = true
--- nothing comes behind the server's own
+-- behind the server's own comes no other frame; one more of them may (section 5.4.2)
+is_lawful_kind Reset RstStream _ = true
 is_lawful_kind Reset _ _ = false
 -- behind END_STREAM, neither DATA nor HEADERS
 is_lawful_kind Ended Data _ = false

@@ -2,19 +2,16 @@
 
 ghost use Rattle.std.specs.Prelude.{◌<◌, ◌^◌};
 
-use crate::connection::{Arrival, Connection, Content};
+use crate::connection::{Arrival, CANCEL, Connection, Content};
 use crate::fault::Fault;
+use crate::line::Line;
 use crate::method::{Asked, Method};
 use crate::mismatch::ReplyFault;
 use bytes::Bytes;
-use device::{ConnRead, ConnWrite};
 use h2frame::StreamId;
 use lists::Field;
 use lpm::{LpmFault, Split, Splitter, write_message};
 use std::alloc::Global;
-
-/// CANCEL (RFC 9113, section 7).
-pub const CANCEL: u32 = 8;
 
 /// More replies than any case asks for.
 const TOO_MANY: usize = 100;
@@ -46,7 +43,7 @@ pub struct Call {
 
 impl Call {
     /// Begins a call on a stream.
-    pub fn begin<S: ConnRead + ConnWrite>(
+    pub fn begin<S: Line>(
         connection: &mut Connection<S>,
         stream: StreamId,
         method: Method,
@@ -72,7 +69,7 @@ impl Call {
     }
 
     /// Sends a message; nothing is sent behind the last one.
-    pub fn send<S: ConnRead + ConnWrite>(
+    pub fn send<S: Line>(
         &self,
         connection: &mut Connection<S>,
         message: &[u8],
@@ -86,36 +83,33 @@ impl Call {
     }
 
     /// Sends nothing more.
-    pub fn half_close<S: ConnRead + ConnWrite>(
-        &self,
-        connection: &mut Connection<S>,
-    ) -> Result<(), Fault> {
+    pub fn half_close<S: Line>(&self, connection: &mut Connection<S>) -> Result<(), Fault> {
         connection.half_close(self.stream)
     }
 
     /// Cancels the call, and waits until the server knows.
-    pub fn cancel<S: ConnRead + ConnWrite>(
-        &self,
-        connection: &mut Connection<S>,
-    ) -> Result<(), Fault> {
+    pub fn cancel<S: Line>(&self, connection: &mut Connection<S>) -> Result<(), Fault> {
         connection.reset(self.stream, CANCEL)?;
         connection.ping()
     }
 
-    /// Leaves a call whose response has ended, and in which the client may send still: it resets the stream, unless the
-    /// server did. What still comes on it was on its way.
-    pub fn leave<S: ConnRead + ConnWrite>(
+    /// Leaves a call whose response has ended, and in which the client may send still.
+    pub fn leave<S: Line>(&self, connection: &mut Connection<S>) -> Result<(), Fault> {
+        connection.leave(self.stream)
+    }
+
+    /// Reads for so many milliseconds at most, until the response has ended, and answers whether it
+    /// has.
+    pub fn ends_within<S: Line>(
         &self,
         connection: &mut Connection<S>,
-    ) -> Result<(), Fault> {
-        if self.reset.is_some() {
-            return Ok(());
-        }
-        connection.reset(self.stream, CANCEL)
+        milliseconds: u64,
+    ) -> Result<bool, Fault> {
+        connection.ends_within(self.stream, milliseconds)
     }
 
     /// The next reply, or none where the call has ended.
-    pub fn reply<S: ConnRead + ConnWrite>(
+    pub fn reply<S: Line>(
         &mut self,
         connection: &mut Connection<S>,
     ) -> Result<Option<Bytes>, Fault> {
@@ -153,7 +147,7 @@ impl Call {
     }
 
     /// The replies that are still to come.
-    pub fn replies<S: ConnRead + ConnWrite>(
+    pub fn replies<S: Line>(
         &mut self,
         connection: &mut Connection<S>,
     ) -> Result<Vec<Bytes>, Fault> {

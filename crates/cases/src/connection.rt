@@ -1,13 +1,15 @@
 //! The client's side of a connection: what it writes, and what it waits for (RFC 9113).
 //!
-//! The device's reads are given up by the device, after a time of its own: so what is wanted of a silent server ends.
+//! Reads and writes of the device fail once the case's time is over (`line`): so each wait ends,
+//! whatever the server sends.
 //! What the server's frames come to stands in `incoming`.
 
-ghost use Rattle.std.specs.Prelude.{◌≡◌, ◌<◌, ◌≤◌, ◌^◌, length, IfOk};
+ghost use Rattle.std.specs.Prelude.{◌≡◌, ◌<◌, ◌≤◌, ◌^◌, length, IfOk, IfSome};
 
-use crate::credit::Credit;
+use crate::credit::{Credit, Windows};
 use crate::fault::Fault;
 use crate::input::{FrameInput, InputFault, Progress};
+use crate::line::Line;
 use crate::outgoing::Outgoing;
 use crate::pings::Pings;
 use crate::response::Phase;
@@ -15,9 +17,9 @@ use crate::silence::{Awaited, Silence, SilenceFault};
 use crate::streams::Streams;
 use crate::violation::Violation;
 use bytes::Bytes;
-use device::{ConnRead, ConnWrite, write_all};
+use device::write_all;
 use flow::SendWindows;
-use h2frame::{Frame, MAX_PAYLOAD, StreamId, write_frame};
+use h2frame::{Frame, FrameHead, MAX_PAYLOAD, StreamId, write_frame};
 use hpack_codec::{Decoder, Encoder};
 use lists::Field;
 use std::alloc::Global;
@@ -28,6 +30,9 @@ const PREFACE: &[u8] = b"PRI * HTTP/2.0\r\n\r\nSM\r\n\r\n";
 
 /// SETTINGS_ENABLE_PUSH is 0 (section 6.5.2).
 const NO_PUSHES: &[u8] = b"\0\x02\0\0\0\0";
+
+/// CANCEL (section 7).
+pub const CANCEL: u32 = 8;
 
 /// What came on a stream.
 #[derive(Drop)]
@@ -69,13 +74,18 @@ pub struct Connection<S> {
     pub(crate) is_acknowledged: bool,
     /// The last stream of the latest GOAWAY without an error.
     pub(crate) goaway: Option<StreamId>,
+    /// Whether an informational response came.
+    pub(crate) has_informed: bool,
+    /// How many frames came, and what the last of them was.
+    frames: u64,
+    last: Option<FrameHead>,
     /// What is waited for.
     awaited: Awaited,
 }
 
-impl<S: ConnRead + ConnWrite> Connection<S> {
+impl<S: Line> Connection<S> {
     /// A connection on which nothing was said.
-    pub fn new(alloc: Global, device: S) -> Connection<S> {
+    pub fn new(alloc: Global, device: S, windows: Windows) -> Connection<S> {
         Connection {
             alloc,
             device,
@@ -83,13 +93,16 @@ impl<S: ConnRead + ConnWrite> Connection<S> {
             decoder: Decoder::new(alloc),
             encoder: Encoder::new(alloc),
             windows: SendWindows::new(alloc),
-            credit: Credit::new(alloc),
+            credit: Credit::new(alloc, windows),
             streams: Streams::new(alloc),
             pings: Pings::new(),
             arrived: VecDeque::new(alloc),
             has_begun: false,
             is_acknowledged: false,
             goaway: None,
+            has_informed: false,
+            frames: 0,
+            last: None,
             awaited: Awaited::Settings,
         }
     }
@@ -151,6 +164,8 @@ impl<S: ConnRead + ConnWrite> Connection<S> {
     }
 
     /// Writes bytes as DATA, as the windows let them through; nothing is said behind the last ones.
+    /// What a server no longer takes isn't sent: it may end a call before it has all of the request
+    /// (section 8.1).
     pub fn send(&mut self, stream: StreamId, bytes: &[u8], last: bool) -> Result<(), Fault>
         requires { stream < 2 ^ 31 }
     {
@@ -161,7 +176,9 @@ impl<S: ConnRead + ConnWrite> Connection<S> {
                 sent,
                 of: bytes.len(),
             };
-            let room = self.room(stream)?;
+            let Some(room) = self.room(stream)? else {
+                return self.leave(stream);
+            };
             let (piece, behind) = rest.split_at(room.min(rest.len()));
             rest = behind;
             let content = Bytes::copy_from_slice(self.alloc, piece)?;
@@ -175,14 +192,46 @@ impl<S: ConnRead + ConnWrite> Connection<S> {
             };
             self.write(outgoing, stream, content)?;
         }
+        if last {
+            self.windows.close(stream);
+        }
         Ok(())
     }
 
-    /// Says that nothing more comes on a stream.
+    /// Says that nothing more comes on a stream, unless the server has reset it (section 6.4).
     pub fn half_close(&mut self, stream: StreamId) -> Result<(), Fault>
         requires { stream < 2 ^ 31 }
     {
+        self.windows.close(stream);
+        if self.is_reset(stream) {
+            return Ok(());
+        }
         self.write(Outgoing::LastData, stream, Bytes::new())
+    }
+
+    /// Leaves a stream on which the client may send still: it is reset, unless the server has done
+    /// so (section 6.4). What still comes on it was on its way.
+    pub fn leave(&mut self, stream: StreamId) -> Result<(), Fault>
+        requires { stream < 2 ^ 31 }
+    {
+        if self.is_reset(stream) {
+            self.windows.close(stream);
+            return Ok(());
+        }
+        self.reset(stream, CANCEL)
+    }
+
+    /// Whether the server has reset a stream.
+    fn is_reset(&self, stream: StreamId) -> bool {
+        matches!(self.streams.find(stream), Some((Phase::Reset, _)))
+    }
+
+    /// Whether the server has ended its half of a stream, or reset it.
+    fn is_ended(&self, stream: StreamId) -> bool {
+        matches!(
+            self.streams.find(stream),
+            Some((Phase::Reset | Phase::Ended, _))
+        )
     }
 
     /// Resets a stream.
@@ -191,6 +240,7 @@ impl<S: ConnRead + ConnWrite> Connection<S> {
     {
         self.streams.cancel(stream);
         self.credit.cut(stream);
+        self.windows.close(stream);
         let content = Bytes::copy_from_slice(self.alloc, &code.to_be_bytes())?;
         self.write(Outgoing::Reset, stream, content)
     }
@@ -221,6 +271,16 @@ impl<S: ConnRead + ConnWrite> Connection<S> {
         self.write(Outgoing::Ping, 0, content)
     }
 
+    /// The nanoseconds since 1970.
+    pub fn timestamp(&self) -> u128 {
+        self.device.timestamp()
+    }
+
+    /// Whether the server lets no further call begin (section 6.8).
+    pub fn is_going_away(&self) -> bool {
+        self.goaway.is_some()
+    }
+
     /// What comes next on a stream.
     pub fn receive(&mut self, stream: StreamId) -> Result<Arrival, Fault> {
         for _ in 0..u64::MAX {
@@ -243,19 +303,27 @@ impl<S: ConnRead + ConnWrite> Connection<S> {
     fn awaited_on(&self, stream: StreamId) -> Awaited {
         match self.streams.find(stream) {
             Some((Phase::Answering, bytes)) => Awaited::Trailers(stream, bytes),
+            _ if self.has_informed => Awaited::FinalHead(stream),
             _ => Awaited::Head(stream),
         }
     }
 
-    /// How many bytes of DATA may be written in one frame, once some may.
-    fn room(&mut self, stream: StreamId) -> Result<usize, Fault>
-        ensures some { IfOk result (λ room. 0 < room) }
-        ensures few { IfOk result (λ room. room ≤ 16384) }
+    /// How many bytes of DATA may be written in one frame, once some may: none where the server has
+    /// reset the stream, or ended its half and opens no window.
+    fn room(&mut self, stream: StreamId) -> Result<Option<usize>, Fault>
+        ensures some { IfOk result (λ room. IfSome room (λ bytes. 0 < bytes)) }
+        ensures few { IfOk result (λ room. IfSome room (λ bytes. bytes ≤ 16384)) }
     {
         for _ in 0..u64::MAX {
+            if self.is_reset(stream) {
+                return Ok(None);
+            }
             let room = self.windows.room(stream);
             if room > 0 {
-                return Ok(room.min(MAX_PAYLOAD) as usize);
+                return Ok(Some(room.min(MAX_PAYLOAD) as usize));
+            }
+            if self.is_ended(stream) {
+                return Ok(None);
             }
             self.read_frame()?;
         }
@@ -287,6 +355,24 @@ impl<S: ConnRead + ConnWrite> Connection<S> {
         }
     }
 
+    /// Reads for so many milliseconds at most, until the server has ended its half of a stream, and
+    /// answers whether it has.
+    pub fn ends_within(&mut self, stream: StreamId, milliseconds: u64) -> Result<bool, Fault> {
+        let until = self.device.pace().spent.saturating_add(milliseconds);
+        for _ in 0..u64::MAX {
+            if self.is_ended(stream) {
+                return Ok(true);
+            }
+            let left = until.saturating_sub(self.device.pace().spent);
+            if left == 0 || !self.device.awaits(left) {
+                return Ok(false);
+            }
+            self.awaited = self.awaited_on(stream);
+            self.read_frame()?;
+        }
+        Ok(false)
+    }
+
     /// What the server said before a write failed, where that is why: GOAWAY with an error, or what broke a rule.
     pub fn cause_of(&mut self, unwritten: SilenceFault) -> Fault {
         for _ in 0..u64::MAX {
@@ -302,7 +388,11 @@ impl<S: ConnRead + ConnWrite> Connection<S> {
     /// The next frame.
     pub(crate) fn next_frame(&mut self) -> Result<Frame, Fault> {
         match self.input.next(&mut self.device) {
-            Ok(frame) => Ok(frame),
+            Ok(frame) => {
+                self.frames = self.frames.saturating_add(1);
+                self.last = Some(frame.head);
+                Ok(frame)
+            }
             Err(InputFault::Ended(progress)) => Err(self.silence(Silence::Closed, progress)),
             Err(InputFault::Failed(progress)) => {
                 let how = self.how_it_fell_silent();
@@ -313,15 +403,15 @@ impl<S: ConnRead + ConnWrite> Connection<S> {
         }
     }
 
-    /// Why a read failed. A connection that stands takes a PING still.
-    fn how_it_fell_silent(&mut self) -> Silence {
-        let Ok(content) = Bytes::copy_from_slice(self.alloc, &[0; 8]) else {
-            return Silence::Broken;
-        };
-        if self.write(Outgoing::Ping, 0, content).is_ok() {
-            Silence::Stalled
-        } else {
+    /// Why a read failed: the connection broke, or the case's time is over.
+    fn how_it_fell_silent(&self) -> Silence {
+        let pace = self.device.pace();
+        if !pace.is_over {
             Silence::Broken
+        } else if pace.has_gone_on() {
+            Silence::Endless
+        } else {
+            Silence::Stalled
         }
     }
 
@@ -331,6 +421,9 @@ impl<S: ConnRead + ConnWrite> Connection<S> {
             how,
             awaited: self.missing(how),
             progress,
+            spent: self.device.pace().spent,
+            frames: self.frames,
+            last: self.last,
             goaway: self.goaway,
         })
     }
@@ -347,12 +440,23 @@ impl<S: ConnRead + ConnWrite> Connection<S> {
         }
     }
 
+    /// That a write failed: the connection broke, or the case's time is over.
     fn unwritten(&self) -> Fault {
-        self.silence(Silence::Unwritten, Progress::NONE)
+        let pace = self.device.pace();
+        let how = if !pace.is_over {
+            Silence::Unwritten
+        } else if pace.is_blocked {
+            Silence::Untaken
+        } else {
+            self.how_it_fell_silent()
+        };
+        self.silence(how, Progress::NONE)
     }
 
-    /// Sets what is waited for.
-    pub(crate) fn await_next(&mut self, awaited: Awaited) {
+    /// Sets what is waited for, and answers what was.
+    pub(crate) fn await_next(&mut self, awaited: Awaited) -> Awaited {
+        let before = self.awaited;
         self.awaited = awaited;
+        before
     }
 }

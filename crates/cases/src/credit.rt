@@ -6,6 +6,10 @@
 //! before it, or nothing of the window is left, the server has. Of the two windows one is opened then, and the other only
 //! once the server is seen to stop still: so each of them is seen to hold by itself, the stream's and the connection's by
 //! turns.
+//!
+//! What takes so long is no time of the server's. Where the time of calls is asked for, both
+//! windows are opened as DATA come (`Windows::Open`), and that they are kept is seen only where the
+//! server goes past them.
 
 ghost use Rattle.std.specs.Prelude.{◌≡◌, ◌<◌, ◌≤◌, IsSome, OnOk, IfErr};
 ghost use Rattle.flow.specs.Books.{call_at, window_of};
@@ -16,6 +20,9 @@ use flow::{Book, BookFault};
 use h2frame::{MAX_PAYLOAD, StreamId};
 use std::alloc::Global;
 use std::fmt;
+
+/// Below so many bytes a window that isn't held is opened.
+const LOW: u32 = 49_152;
 
 /// A rule on windows that the server broke.
 #[derive(Clone, Copy)]
@@ -40,6 +47,15 @@ pub enum WindowViolation {
     InitialOverflow {
         size: u32,
     },
+}
+
+/// How the client gives credit.
+#[derive(Clone, Copy, Debug, PartialEq, Eq)]
+pub enum Windows {
+    /// It lets the windows run low first, so that a server is seen to keep each.
+    Held,
+    /// It opens them before they are low, so that calls take the time that they take.
+    Open,
 }
 
 /// What is to be done next.
@@ -71,6 +87,7 @@ struct Question {
 /// The windows of what is received.
 #[derive(Drop)]
 pub struct Credit {
+    windows: Windows,
     book: Book,
     question: Option<Question>,
     /// Whether the stream's window is the first to be opened the next time.
@@ -79,8 +96,9 @@ pub struct Credit {
 
 impl Credit {
     /// The windows of a new connection. It takes no memory yet.
-    pub fn new(alloc: Global) -> Credit {
+    pub fn new(alloc: Global, windows: Windows) -> Credit {
         Credit {
+            windows,
             book: Book::new(alloc),
             question: None,
             stream_first: true,
@@ -147,16 +165,23 @@ impl Credit {
         }
     }
 
-    /// DATA came on a stream. Answers whether the server is to be asked if it stops: its largest frame might not fit
-    /// the windows.
-    pub fn came(&mut self, stream: StreamId) -> bool {
+    /// DATA came on a stream. Where windows are held, the server is to be asked if it stops once
+    /// its largest frame might not fit them; else they are opened while they are half full.
+    pub fn came(&mut self, stream: StreamId) -> Step {
+        if self.windows == Windows::Open {
+            return if self.left(stream) < LOW {
+                Step::OpenBoth(stream)
+            } else {
+                Step::Nothing
+            };
+        }
         if let Some(question) = &mut self.question {
             question.stream = stream;
             question.has_gone_on = true;
-            return false;
+            return Step::Nothing;
         }
         if self.left(stream) >= MAX_PAYLOAD {
-            return false;
+            return Step::Nothing;
         }
         self.question = Some(Question {
             stream,
@@ -164,7 +189,7 @@ impl Credit {
             is_half_open: false,
             is_asked_twice: false,
         });
-        true
+        Step::Ask
     }
 
     /// The server has acknowledged the PING by which it was asked.

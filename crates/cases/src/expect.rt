@@ -89,6 +89,26 @@ fn expect_zeros(reply: usize, body: &[u8], wanted: usize) -> Result<(), Fault> {
     }
 }
 
+/// There is one reply, whatever its body has.
+pub fn expect_response(alloc: Global, replies: &[Bytes]) -> Result<(), Fault> {
+    expect_count(replies, 1)?;
+    for bytes in replies {
+        let length = bytes.len();
+        match SimpleResponse::decode(alloc, bytes.as_slice()) {
+            Ok(_) => {}
+            Err(ProtoFault::OutOfMemory) => return Err(Fault::OutOfMemory),
+            Err(fault) => {
+                return Err(Fault::Reply(ReplyFault::NoMessage {
+                    reply: 1,
+                    length,
+                    fault,
+                }));
+            }
+        }
+    }
+    Ok(())
+}
+
 /// There are so many replies.
 pub fn expect_count(replies: &[Bytes], wanted: usize) -> Result<(), Fault> {
     let came = replies.len();

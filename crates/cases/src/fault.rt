@@ -12,6 +12,7 @@ use crate::response::StreamViolation;
 use crate::settings::SettingViolation;
 use crate::silence::SilenceFault;
 use crate::violation::{BlockViolation, Violation};
+use h2frame::StreamId;
 use std::alloc::{AllocError, AllocFailed};
 use std::fmt;
 
@@ -32,6 +33,10 @@ pub enum CaseFault {
     StreamFailed,
     /// No memory was to be had.
     OutOfMemory,
+    /// What came is past a bound of the client's own: it says nothing of the server.
+    OwnBound,
+    /// A call of a soak took longer than it may, or the soak's time was over before all calls.
+    TooSlow,
 }
 
 impl CaseFault {
@@ -47,6 +52,8 @@ impl CaseFault {
             CaseFault::UnknownCase => 5,
             CaseFault::StreamFailed => 6,
             CaseFault::OutOfMemory => 7,
+            CaseFault::OwnBound => 8,
+            CaseFault::TooSlow => 9,
         }
     }
 }
@@ -75,6 +82,30 @@ pub enum Fault {
     /// A frame of the client's own can't be written: it is over 16,384 bytes, or its stream was opened before.
     Unwritable,
     OutOfMemory,
+    OwnBound(OwnBound),
+}
+
+/// A bound of the client's own, past which it doesn't read. No standard has one, so no server
+/// breaks a rule by it.
+#[derive(Clone, Copy)]
+pub enum OwnBound {
+    /// The header block of this stream is over 65,536 bytes.
+    Block(StreamId),
+    /// The decoded fields of this stream are.
+    Fields(StreamId),
+}
+
+impl fmt::Display for OwnBound {
+    fn fmt<W: fmt::Write>(&self, f: &mut fmt::Formatter<W>) -> fmt::Result {
+        let (what, stream) = match *self {
+            OwnBound::Block(stream) => ("the header block", stream),
+            OwnBound::Fields(stream) => ("what is decoded", stream),
+        };
+        write!(
+            f,
+            "not judged: {what} of stream {stream} has over 65,536 bytes, this client's bound"
+        )
+    }
 }
 
 impl Fault {
@@ -91,6 +122,7 @@ impl Fault {
             Fault::Silence(_) => CaseFault::StreamFailed,
             Fault::Unwritable => CaseFault::Connection,
             Fault::OutOfMemory => CaseFault::OutOfMemory,
+            Fault::OwnBound(_) => CaseFault::OwnBound,
         }
     }
 }
@@ -106,6 +138,7 @@ impl fmt::Display for Fault {
             Fault::Silence(fault) => write!(f, "{fault}"),
             Fault::Unwritable => write!(f, "the client has a frame that it can't write"),
             Fault::OutOfMemory => write!(f, "out of memory"),
+            Fault::OwnBound(bound) => write!(f, "{bound}"),
         }
     }
 }

@@ -101,14 +101,14 @@ impl fmt::Display for FieldViolation {
             FieldViolation::PseudoHeader(name) => {
                 write!(
                     f,
-                    "the pseudo-header {name:?}, wanted :status alone (RFC 9113, 8.3.2)"
+                    "the pseudo-header {name:?}, wanted :status alone (RFC 9113, 8.3)"
                 )
             }
+            FieldViolation::Statuses(0) => {
+                write!(f, ":status did not come, wanted once (RFC 9113, 8.3.2)")
+            }
             FieldViolation::Statuses(count) => {
-                write!(
-                    f,
-                    ":status came {count} times, wanted once (RFC 9113, 8.3.2)"
-                )
+                write!(f, ":status came {count} times, wanted once (RFC 9113, 8.3)")
             }
             FieldViolation::Status(value) => {
                 write!(

@@ -5,15 +5,15 @@ ghost use Rattle.h2frame.specs.declared.kind.FrameKind.TheVariants.{Headers};
 
 use crate::connection::{Arrival, Connection, Content};
 use crate::credit::{Step, WindowViolation};
-use crate::fault::Fault;
+use crate::fault::{Fault, OwnBound};
 use crate::fields::{FieldFault, ResponseHead, judge_head, judge_trailers};
+use crate::line::Line;
 use crate::outgoing::Outgoing;
 use crate::response::Phase;
 use crate::settings::read_setting;
 use crate::silence::Awaited;
 use crate::violation::{BlockViolation, Violation};
 use bytes::Bytes;
-use device::{ConnRead, ConnWrite};
 use figures::shown;
 use flow::WindowFault;
 use h2frame::{
@@ -26,7 +26,7 @@ use session::{FragmentFault, HeaderBlock};
 /// The bytes of a parameter in SETTINGS.
 const PARAMETER_LEN: usize = 6;
 
-impl<S: ConnRead + ConnWrite> Connection<S> {
+impl<S: Line> Connection<S> {
     /// Reads a frame, and keeps what it brings on a stream.
     pub(crate) fn read_frame(&mut self) -> Result<(), Fault> {
         let frame = self.next_frame()?;
@@ -75,17 +75,19 @@ impl<S: ConnRead + ConnWrite> Connection<S> {
         self.streams.count(head.stream, head.length);
         if taken.is_some() {
             let last = self.advance(&head);
-            self.arrived.push_back(Arrival {
-                stream: head.stream,
-                content: Content::Data(content),
-                last,
-            })?;
+            if last || !content.is_empty() {
+                self.arrived.push_back(Arrival {
+                    stream: head.stream,
+                    content: Content::Data(content),
+                    last,
+                })?;
+            }
         }
-        // A PING that is unanswered asks the same.
-        if self.credit.came(head.stream) && !self.pings.is_open() {
-            self.ask()?;
+        match self.credit.came(head.stream) {
+            // A PING that is unanswered asks the same.
+            Step::Ask if self.pings.is_open() => Ok(()),
+            step => self.take_step(step),
         }
-        Ok(())
     }
 
     /// A frame of a stream is taken. Answers whether the server says nothing more on the stream.
@@ -118,7 +120,10 @@ impl<S: ConnRead + ConnWrite> Connection<S> {
         };
         match judged {
             Ok(ResponseHead::Final) => self.arrive(&head, fields),
-            Ok(ResponseHead::Informational) => Ok(()),
+            Ok(ResponseHead::Informational) => {
+                self.has_informed = true;
+                Ok(())
+            }
             Err(FieldFault::Rule(violation)) => {
                 Err(Fault::Violation(Violation::Field(head.stream, violation)))
             }
@@ -143,12 +148,13 @@ impl<S: ConnRead + ConnWrite> Connection<S> {
     {
         let stream = frame.head.stream;
         if frame.content.len() > MAX_PAYLOAD as usize {
-            return Err(Fault::from(BlockViolation::TooLong(stream)));
+            return Err(Fault::OwnBound(OwnBound::Block(stream)));
         }
         let mut block = HeaderBlock::begin(self.alloc, frame)?;
-        self.await_next(Awaited::Block(stream));
+        let before = self.await_next(Awaited::Block(stream));
         for _ in 0..u64::MAX {
             if block.is_whole() {
+                let _block = self.await_next(before);
                 return self.decode(stream, block.as_slice());
             }
             let next = self.next_frame()?;
@@ -158,12 +164,12 @@ impl<S: ConnRead + ConnWrite> Connection<S> {
                     return Err(Fault::from(BlockViolation::Interrupted(stream, next.head)));
                 }
                 Err(FragmentFault::TooLong) => {
-                    return Err(Fault::from(BlockViolation::TooLong(stream)));
+                    return Err(Fault::OwnBound(OwnBound::Block(stream)));
                 }
                 Err(FragmentFault::OutOfMemory) => return Err(Fault::OutOfMemory),
             }
         }
-        Err(Fault::from(BlockViolation::TooLong(stream)))
+        Err(Fault::OwnBound(OwnBound::Block(stream)))
     }
 
     /// The fields of a whole header block (RFC 7541).
@@ -171,6 +177,7 @@ impl<S: ConnRead + ConnWrite> Connection<S> {
         match self.decoder.block(block) {
             Ok(fields) => Ok(fields),
             Err(HpackFault::OutOfMemory) => Err(Fault::OutOfMemory),
+            Err(HpackFault::TooLarge) => Err(Fault::OwnBound(OwnBound::Fields(stream))),
             Err(fault) => Err(Fault::from(BlockViolation::Hpack {
                 stream,
                 length: block.len(),
@@ -197,9 +204,6 @@ impl<S: ConnRead + ConnWrite> Connection<S> {
     /// The server's SETTINGS hold from now on, and are acknowledged (section 6.5.3).
     fn settings(&mut self, frame: &Frame) -> Result<(), Fault> {
         if frame.head.flags.contains(Flags::ACK) {
-            if self.is_acknowledged {
-                return Err(Fault::Violation(Violation::SettingsAckUnasked));
-            }
             self.is_acknowledged = true;
             return Ok(());
         }
@@ -229,8 +233,16 @@ impl<S: ConnRead + ConnWrite> Connection<S> {
         if content.len() != 8 {
             return Ok(());
         }
-        self.pings.end(ping_bytes(content.as_slice()))?;
-        match self.credit.answered() {
+        if !self.pings.end(ping_bytes(content.as_slice()))? {
+            return Ok(());
+        }
+        let step = self.credit.answered();
+        self.take_step(step)
+    }
+
+    /// Does what is to be done of the windows.
+    fn take_step(&mut self, step: Step) -> Result<(), Fault> {
+        match step {
             Step::Nothing => Ok(()),
             Step::Ask => self.ask(),
             Step::OpenOne(stream) => {

@@ -6,7 +6,7 @@ ghost use Rattle.cases.specs.Methods.{path_of, fields_of};
 
 use crate::fault::CaseFault;
 use callhead::request_fields;
-use lists::Field;
+use lists::{Field, Octets};
 use std::alloc::{AllocError, Global};
 
 /// The value that is to come back in the head of the response.
@@ -20,6 +20,7 @@ pub const TRAILING_VALUE: &[u8] = b"\xab\xab\xab";
 pub enum Method {
     EmptyCall,
     UnaryCall,
+    CacheableUnaryCall,
     StreamingOutputCall,
     StreamingInputCall,
     FullDuplexCall,
@@ -36,6 +37,8 @@ pub enum Asked {
     Echoes,
     /// A timeout of one millisecond.
     OneMillisecond,
+    /// A reply from a cache, as a client with this address could get it.
+    UserAddress,
 }
 
 impl Method {
@@ -47,6 +50,7 @@ impl Method {
         match self {
             Method::EmptyCall => "/grpc.testing.TestService/EmptyCall",
             Method::UnaryCall => "/grpc.testing.TestService/UnaryCall",
+            Method::CacheableUnaryCall => "/grpc.testing.TestService/CacheableUnaryCall",
             Method::StreamingOutputCall => "/grpc.testing.TestService/StreamingOutputCall",
             Method::StreamingInputCall => "/grpc.testing.TestService/StreamingInputCall",
             Method::FullDuplexCall => "/grpc.testing.TestService/FullDuplexCall",
@@ -68,6 +72,14 @@ impl Method {
                 request_fields(alloc, path, None, &[INITIAL_VALUE], &[TRAILING_VALUE])
             }
             Asked::OneMillisecond => request_fields(alloc, path, Some("1m"), &[], &[]),
+            Asked::UserAddress => {
+                let mut fields = request_fields(alloc, path, None, &[], &[])?;
+                fields.push(Field {
+                    name: Octets::fixed(b"x-user-ip"),
+                    value: Octets::fixed(b"1.2.3.4"),
+                })?;
+                Ok(fields)
+            }
         }
     }
 }

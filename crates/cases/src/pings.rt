@@ -1,14 +1,15 @@
 //! The client's PINGs, each with bytes of its own, and what acknowledges them (RFC 9113, section 6.7).
+//!
+//! An acknowledgement has to have the bytes of a PING. That one comes twice, or without a PING, no
+//! sentence forbids: such a one says nothing.
 
 use std::fmt;
 
 /// A rule on PING that the server broke. The eight bytes are shown as hexadecimal text.
 #[derive(Clone, Copy)]
 pub enum PingViolation {
-    /// An acknowledgement has other bytes than the PING.
+    /// An acknowledgement has other bytes than each PING.
     OtherBytes { came: u64, wanted: u64 },
-    /// An acknowledgement of no PING.
-    NotAsked { came: u64 },
 }
 
 /// The PINGs of a connection, one at a time.
@@ -39,11 +40,11 @@ impl Pings {
         self.last.to_be_bytes()
     }
 
-    /// An acknowledgement with these bytes came.
-    pub fn end(&mut self, bytes: [u8; 8]) -> Result<(), PingViolation> {
+    /// An acknowledgement with these bytes came. Answers whether it is that of the open PING.
+    pub fn end(&mut self, bytes: [u8; 8]) -> Result<bool, PingViolation> {
         let came = u64::from_be_bytes(bytes);
-        if !self.is_open {
-            return Err(PingViolation::NotAsked { came });
+        if !self.is_open || (1 <= came && came < self.last) {
+            return Ok(false);
         }
         if came != self.last {
             return Err(PingViolation::OtherBytes {
@@ -52,7 +53,7 @@ impl Pings {
             });
         }
         self.is_open = false;
-        Ok(())
+        Ok(true)
     }
 }
 
@@ -63,12 +64,6 @@ impl fmt::Display for PingViolation {
                 write!(
                     f,
                     "PING with ACK has {came:016x}, wanted {wanted:016x} (RFC 9113, 6.7)"
-                )
-            }
-            PingViolation::NotAsked { came } => {
-                write!(
-                    f,
-                    "PING with ACK has {came:016x}, and none was sent (RFC 9113, 6.7)"
                 )
             }
         }

@@ -1,4 +1,4 @@
-//! The messages that are sent. All bodies are zero bytes.
+//! The messages that are sent. All bodies are zero bytes, but for that of cacheable_unary.
 
 use crate::fault::Fault;
 use crate::mismatch::Wanted;
@@ -57,10 +57,20 @@ pub fn simple_request(
     status: Option<AskedStatus>,
 ) -> Result<Vec<u8>, Fault> {
     let body = zeros(alloc, body_len)?;
+    simple_request_of(alloc, response_size, body.as_slice(), status)
+}
+
+/// The same with this body.
+pub fn simple_request_of(
+    alloc: Global,
+    response_size: i32,
+    body: &[u8],
+    status: Option<AskedStatus>,
+) -> Result<Vec<u8>, Fault> {
     let request = SimpleRequest {
         response_type: 0,
         response_size,
-        payload: payload(&body),
+        payload: payload(body),
         fill_username: false,
         fill_oauth_scope: false,
         response_compressed: None,

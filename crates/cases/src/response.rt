@@ -36,7 +36,7 @@ pub enum StreamViolation {
     DataBeforeHeaders(FrameHead),
     /// DATA or HEADERS behind END_STREAM.
     BehindEnd(FrameHead),
-    /// A frame behind the server's own RST_STREAM.
+    /// Another frame behind the server's own RST_STREAM.
     BehindReset(FrameHead),
     /// HEADERS behind those that began the response, without END_STREAM.
     TrailersWithoutEnd(StreamId),
@@ -50,7 +50,7 @@ impl Phase {
         ensures err { IfErr result (λ _. is_lawful self head.now ≡ false) }
     {
         match (self, head.kind) {
-            (Phase::Cancelled, _) => Ok(false),
+            (Phase::Cancelled, _) | (Phase::Reset, FrameKind::RstStream) => Ok(false),
             (Phase::Reset, _) => Err(StreamViolation::BehindReset(*head)),
             (Phase::Ended, FrameKind::Data | FrameKind::Headers) => {
                 Err(StreamViolation::BehindEnd(*head))
@@ -93,7 +93,7 @@ impl fmt::Display for StreamViolation {
                 let frame = FrameName(head);
                 write!(
                     f,
-                    "{frame}, wanted an odd number, since pushes are off (RFC 9113, 5.1.1)"
+                    "{frame}, wanted an odd number, since pushes are off (RFC 9113, 5.1)"
                 )
             }
             StreamViolation::DataBeforeHeaders(head) => {

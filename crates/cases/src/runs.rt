@@ -1,23 +1,26 @@
-//! The fourteen cases (gRPC, "Interoperability Test Case Descriptions").
+//! The cases (gRPC, "Interoperability Test Case Descriptions").
 
-ghost use Rattle.std.specs.Prelude.{◌≡◌, ◌<◌, ◌^◌, Err};
+ghost use Rattle.std.specs.Prelude.{◌≡◌, ◌<◌, ◌^◌, Err, IsErrAnd};
 ghost use Rattle.cases.specs.Names.{IsNoName};
 ghost use Rattle.cases.specs.declared.fault.CaseFault.TheVariants.{UnknownCase};
 
-use crate::call::{CANCEL, Call};
+use crate::call::Call;
 use crate::case::Case;
-use crate::connection::Connection;
+use crate::connection::{CANCEL, Connection};
+use crate::credit::Windows;
 use crate::expect::{
-    expect_bodies, expect_body, expect_count, expect_echoes, expect_empty, expect_status,
-    expect_sum,
+    expect_bodies, expect_body, expect_count, expect_echoes, expect_empty, expect_response,
+    expect_status, expect_sum,
 };
-use crate::fault::{CaseFault, Fault};
+use crate::failure::Failure;
+use crate::fault::Fault;
+use crate::line::Line;
 use crate::method::{Asked, Method};
 use crate::mismatch::{ReplyFault, Wanted};
-use crate::request::{AskedStatus, input_request, output_request, simple_request};
-use crate::silence::Silence;
+use crate::request::{
+    AskedStatus, input_request, output_request, simple_request, simple_request_of,
+};
 use bytes::Bytes;
-use device::{ConnRead, ConnWrite};
 use h2frame::StreamId;
 use std::alloc::Global;
 
@@ -59,40 +62,50 @@ const SPECIAL: AskedStatus = AskedStatus {
     text: "\t\ntest with whitespace\r\nand Unicode BMP \u{263a} and non-BMP \u{1f608}\t\n",
 };
 
-/// Runs the case with this name over a connection on which nothing was said. Where it fails, `notes` has a line that
-/// names the case, and says what came and what was wanted. That a silent server is given up is the device's part: its
-/// reads fail then.
-pub fn run_case<S: ConnRead + ConnWrite + Drop>(
+/// How many milliseconds a server has for ending a call whose deadline is over.
+const GRACE: u64 = 1_000;
+
+/// Runs the case with this name over a connection on which nothing was said. It ends once the
+/// device's time is over, if not before.
+pub fn run_case<S: Line + Drop>(
     alloc: Global,
     name: &str,
     device: S,
-    notes: &mut String,
-) -> Result<(), CaseFault>
-    ensures unknown { IsNoName name.now → result ≡ Err UnknownCase }
+    windows: Windows,
+) -> Result<(), Failure>
+    ensures unknown { IsNoName name.now
+        → IsErrAnd result (λ failure. failure.fault ≡ UnknownCase) }
 {
-    let Err(fault) = try_named(alloc, name, device) else {
-        return Ok(());
-    };
-    let answer = Err(fault.case_fault());
-    // The number tells of the fault even where there is no memory for its line.
-    let _written = writeln!(notes, "{name}: {fault}");
-    answer
+    match try_named(alloc, name, device, windows) {
+        Ok(()) => Ok(()),
+        Err(fault) => Err(Failure::of(alloc, &fault)),
+    }
 }
 
 /// Runs the case with this name, if there is one.
-fn try_named<S: ConnRead + ConnWrite + Drop>(
+fn try_named<S: Line + Drop>(
     alloc: Global,
     name: &str,
     device: S,
+    windows: Windows,
 ) -> Result<(), Fault>
     ensures unknown { IsNoName name.now → result ≡ Err Fault.UnknownCase }
 {
     let Some(case) = Case::named(name) else {
         return Err(Fault::UnknownCase);
     };
-    let mut connection = Connection::new(alloc, device);
-    match run(&mut connection, case) {
-        Err(Fault::Silence(silence)) if silence.how == Silence::Unwritten => {
+    let mut connection = Connection::new(alloc, device, windows);
+    let answer = run(&mut connection, case);
+    explain(&mut connection, answer)
+}
+
+/// What a run came to: where a write failed, what the server said before goes first.
+pub fn explain<S: Line>(
+    connection: &mut Connection<S>,
+    answer: Result<(), Fault>,
+) -> Result<(), Fault> {
+    match answer {
+        Err(Fault::Silence(silence)) if silence.is_unwritten() => {
             Err(connection.cause_of(silence))
         }
         answer => answer,
@@ -100,16 +113,13 @@ fn try_named<S: ConnRead + ConnWrite + Drop>(
 }
 
 /// Runs a case, and reads on for a short while behind it.
-fn run<S: ConnRead + ConnWrite>(connection: &mut Connection<S>, case: Case) -> Result<(), Fault> {
+fn run<S: Line>(connection: &mut Connection<S>, case: Case) -> Result<(), Fault> {
     connection.greet()?;
     run_calls(connection, case)?;
     connection.finish()
 }
 
-fn run_calls<S: ConnRead + ConnWrite>(
-    connection: &mut Connection<S>,
-    case: Case,
-) -> Result<(), Fault> {
+fn run_calls<S: Line>(connection: &mut Connection<S>, case: Case) -> Result<(), Fault> {
     match case {
         Case::EmptyUnary => empty_unary(connection),
         Case::LargeUnary => large_unary(connection),
@@ -125,11 +135,12 @@ fn run_calls<S: ConnRead + ConnWrite>(
         Case::CancelAfterBegin => cancel_after_begin(connection),
         Case::CancelAfterFirstResponse => cancel_after_first_response(connection),
         Case::TimeoutOnSleepingServer => timeout_on_sleeping_server(connection),
+        Case::CacheableUnary => cacheable_unary(connection),
     }
 }
 
 /// A call with one message, and what it is answered.
-fn ask<S: ConnRead + ConnWrite>(
+fn ask<S: Line>(
     connection: &mut Connection<S>,
     method: Method,
     request: &[u8],
@@ -140,14 +151,14 @@ fn ask<S: ConnRead + ConnWrite>(
     Ok((call, replies))
 }
 
-fn empty_unary<S: ConnRead + ConnWrite>(connection: &mut Connection<S>) -> Result<(), Fault> {
+fn empty_unary<S: Line>(connection: &mut Connection<S>) -> Result<(), Fault> {
     let alloc = connection.alloc;
     let (call, replies) = ask(connection, Method::EmptyCall, &[])?;
     expect_status(alloc, &call, OK)?;
     expect_empty(replies.as_slice())
 }
 
-fn large_unary<S: ConnRead + ConnWrite>(connection: &mut Connection<S>) -> Result<(), Fault> {
+fn large_unary<S: Line>(connection: &mut Connection<S>) -> Result<(), Fault> {
     let alloc = connection.alloc;
     let request = simple_request(alloc, LARGE_SIZE, LARGE_BODY, None)?;
     let (call, replies) = ask(connection, Method::UnaryCall, request.as_slice())?;
@@ -155,7 +166,7 @@ fn large_unary<S: ConnRead + ConnWrite>(connection: &mut Connection<S>) -> Resul
     expect_bodies(alloc, replies.as_slice(), &[LARGE_REPLY])
 }
 
-fn client_streaming<S: ConnRead + ConnWrite>(connection: &mut Connection<S>) -> Result<(), Fault> {
+fn client_streaming<S: Line>(connection: &mut Connection<S>) -> Result<(), Fault> {
     let alloc = connection.alloc;
     let mut call = Call::begin(
         connection,
@@ -173,7 +184,7 @@ fn client_streaming<S: ConnRead + ConnWrite>(connection: &mut Connection<S>) -> 
     expect_sum(alloc, replies.as_slice(), 74_922)
 }
 
-fn server_streaming<S: ConnRead + ConnWrite>(connection: &mut Connection<S>) -> Result<(), Fault> {
+fn server_streaming<S: Line>(connection: &mut Connection<S>) -> Result<(), Fault> {
     let alloc = connection.alloc;
     let request = output_request(alloc, &[31_415, 9, 2_653, 58_979], 0, None)?;
     let (call, replies) = ask(connection, Method::StreamingOutputCall, request.as_slice())?;
@@ -182,7 +193,7 @@ fn server_streaming<S: ConnRead + ConnWrite>(connection: &mut Connection<S>) -> 
 }
 
 /// Sends a request for one reply of this size, and reads the reply.
-fn exchange<S: ConnRead + ConnWrite>(
+fn exchange<S: Line>(
     connection: &mut Connection<S>,
     call: &mut Call,
     size: i32,
@@ -201,10 +212,7 @@ fn exchange<S: ConnRead + ConnWrite>(
 }
 
 /// Half-closes, and expects no further reply.
-fn finish<S: ConnRead + ConnWrite>(
-    connection: &mut Connection<S>,
-    call: &mut Call,
-) -> Result<(), Fault> {
+fn finish<S: Line>(connection: &mut Connection<S>, call: &mut Call) -> Result<(), Fault> {
     let alloc = connection.alloc;
     call.half_close(connection)?;
     let replies = call.replies(connection)?;
@@ -212,7 +220,7 @@ fn finish<S: ConnRead + ConnWrite>(
     expect_count(replies.as_slice(), 0)
 }
 
-fn ping_pong<S: ConnRead + ConnWrite>(connection: &mut Connection<S>) -> Result<(), Fault> {
+fn ping_pong<S: Line>(connection: &mut Connection<S>) -> Result<(), Fault> {
     let mut call = Call::begin(connection, FIRST, Method::FullDuplexCall, Asked::Nothing)?;
     exchange(connection, &mut call, 31_415, 31_415, 27_182)?;
     exchange(connection, &mut call, 9, 9, 8)?;
@@ -221,12 +229,12 @@ fn ping_pong<S: ConnRead + ConnWrite>(connection: &mut Connection<S>) -> Result<
     finish(connection, &mut call)
 }
 
-fn empty_stream<S: ConnRead + ConnWrite>(connection: &mut Connection<S>) -> Result<(), Fault> {
+fn empty_stream<S: Line>(connection: &mut Connection<S>) -> Result<(), Fault> {
     let mut call = Call::begin(connection, FIRST, Method::FullDuplexCall, Asked::Nothing)?;
     finish(connection, &mut call)
 }
 
-fn custom_metadata<S: ConnRead + ConnWrite>(connection: &mut Connection<S>) -> Result<(), Fault> {
+fn custom_metadata<S: Line>(connection: &mut Connection<S>) -> Result<(), Fault> {
     let alloc = connection.alloc;
     let mut unary = Call::begin(connection, FIRST, Method::UnaryCall, Asked::Echoes)?;
     let request = simple_request(alloc, LARGE_SIZE, LARGE_BODY, None)?;
@@ -239,7 +247,7 @@ fn custom_metadata<S: ConnRead + ConnWrite>(connection: &mut Connection<S>) -> R
 }
 
 /// The second call of custom_metadata.
-fn duplex_metadata<S: ConnRead + ConnWrite>(connection: &mut Connection<S>) -> Result<(), Fault> {
+fn duplex_metadata<S: Line>(connection: &mut Connection<S>) -> Result<(), Fault> {
     let alloc = connection.alloc;
     let mut call = Call::begin(connection, SECOND, Method::FullDuplexCall, Asked::Echoes)?;
     exchange(connection, &mut call, LARGE_SIZE, LARGE_REPLY, LARGE_BODY)?;
@@ -248,7 +256,7 @@ fn duplex_metadata<S: ConnRead + ConnWrite>(connection: &mut Connection<S>) -> R
 }
 
 /// UnaryCall ends with the status that it was asked for.
-fn ask_status<S: ConnRead + ConnWrite>(
+fn ask_status<S: Line>(
     connection: &mut Connection<S>,
     stream: StreamId,
     status: AskedStatus,
@@ -264,9 +272,7 @@ fn ask_status<S: ConnRead + ConnWrite>(
     expect_status(alloc, &call, status.wanted())
 }
 
-fn status_code_and_message<S: ConnRead + ConnWrite>(
-    connection: &mut Connection<S>,
-) -> Result<(), Fault> {
+fn status_code_and_message<S: Line>(connection: &mut Connection<S>) -> Result<(), Fault> {
     ask_status(connection, FIRST, PLAIN)?;
     let alloc = connection.alloc;
     let mut call = Call::begin(connection, SECOND, Method::FullDuplexCall, Asked::Nothing)?;
@@ -276,19 +282,14 @@ fn status_code_and_message<S: ConnRead + ConnWrite>(
     expect_status(alloc, &call, PLAIN.wanted())
 }
 
-fn unimplemented<S: ConnRead + ConnWrite>(
-    connection: &mut Connection<S>,
-    method: Method,
-) -> Result<(), Fault> {
+fn unimplemented<S: Line>(connection: &mut Connection<S>, method: Method) -> Result<(), Fault> {
     let alloc = connection.alloc;
     let (call, _replies) = ask(connection, method, &[])?;
     expect_status(alloc, &call, UNIMPLEMENTED)
 }
 
 /// The client's own status of what it cancelled is CANCELLED: what is to be seen is that the server goes on.
-fn cancel_after_begin<S: ConnRead + ConnWrite>(
-    connection: &mut Connection<S>,
-) -> Result<(), Fault> {
+fn cancel_after_begin<S: Line>(connection: &mut Connection<S>) -> Result<(), Fault> {
     let call = Call::begin(
         connection,
         FIRST,
@@ -298,18 +299,16 @@ fn cancel_after_begin<S: ConnRead + ConnWrite>(
     call.cancel(connection)
 }
 
-fn cancel_after_first_response<S: ConnRead + ConnWrite>(
-    connection: &mut Connection<S>,
-) -> Result<(), Fault> {
+fn cancel_after_first_response<S: Line>(connection: &mut Connection<S>) -> Result<(), Fault> {
     let mut call = Call::begin(connection, FIRST, Method::FullDuplexCall, Asked::Nothing)?;
     exchange(connection, &mut call, 31_415, 31_415, 27_182)?;
     call.cancel(connection)
 }
 
-/// A server may end such a call by a status or by cancelling it, and either means that its time is over.
-fn timeout_on_sleeping_server<S: ConnRead + ConnWrite>(
-    connection: &mut Connection<S>,
-) -> Result<(), Fault> {
+/// A server may end such a call by a status or by cancelling it, and either means that its time is
+/// over. No sentence has it end the call at all: a client's own clock does. So a call that the
+/// server lets stand is left, as a client leaves it.
+fn timeout_on_sleeping_server<S: Line>(connection: &mut Connection<S>) -> Result<(), Fault> {
     let alloc = connection.alloc;
     let mut call = Call::begin(
         connection,
@@ -319,6 +318,9 @@ fn timeout_on_sleeping_server<S: ConnRead + ConnWrite>(
     )?;
     let request = output_request(alloc, &[], 27_182, None)?;
     call.send(connection, request.as_slice(), false)?;
+    if !call.ends_within(connection, GRACE)? {
+        return call.cancel(connection);
+    }
     let replies = call.replies(connection)?;
     expect_count(replies.as_slice(), 0)?;
     if call.reset == Some(CANCEL) {
@@ -326,4 +328,26 @@ fn timeout_on_sleeping_server<S: ConnRead + ConnWrite>(
     }
     expect_status(alloc, &call, DEADLINE_EXCEEDED)?;
     call.leave(connection)
+}
+
+/// Two calls that ask the same, which nothing but the time is, in nanoseconds. That both bodies are
+/// the same is the part of a proxy that caches (gRPC's clients send GET for it), and no server's.
+fn cacheable_unary<S: Line>(connection: &mut Connection<S>) -> Result<(), Fault> {
+    let alloc = connection.alloc;
+    let now = connection.timestamp();
+    let body = format!(in alloc; "{now}")?;
+    let request = simple_request_of(alloc, 0, body.as_bytes(), None)?;
+    for stream in [FIRST, SECOND] {
+        let mut call = Call::begin(
+            connection,
+            stream,
+            Method::CacheableUnaryCall,
+            Asked::UserAddress,
+        )?;
+        call.send(connection, request.as_slice(), true)?;
+        let replies = call.replies(connection)?;
+        expect_status(alloc, &call, OK)?;
+        expect_response(alloc, replies.as_slice())?;
+    }
+    Ok(())
 }

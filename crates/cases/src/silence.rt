@@ -2,19 +2,23 @@
 
 use crate::input::Progress;
 use figures::{ByteCount, FrameName, Grouped};
-use h2frame::StreamId;
+use h2frame::{FrameHead, StreamId};
 use std::fmt;
 
 /// How a connection fell silent.
 #[derive(Clone, Copy, PartialEq, Eq)]
 pub enum Silence {
-    /// Nothing came in time, and the connection stands.
+    /// Nothing came any more until the case's time was over, and the connection stands.
     Stalled,
+    /// The server was still sending when the case's time was over.
+    Endless,
+    /// The server took no more of what is written until the case's time was over.
+    Untaken,
     /// The server ended the connection.
     Closed,
     /// The connection broke.
     Broken,
-    /// A write failed, or wasn't taken in time.
+    /// A write failed.
     Unwritten,
 }
 
@@ -27,6 +31,8 @@ pub enum Awaited {
     Settings,
     /// The fields that begin a response.
     Head(StreamId),
+    /// The same, where informational ones came.
+    FinalHead(StreamId),
     /// What follows so many bytes of a response's DATA.
     Trailers(StreamId, u64),
     /// The rest of a header block.
@@ -42,15 +48,54 @@ pub struct SilenceFault {
     pub awaited: Awaited,
     /// How far the next frame had come.
     pub progress: Progress,
+    /// How many milliseconds the case had gone on.
+    pub spent: u64,
+    /// How many frames had come, and what the last of them was.
+    pub frames: u64,
+    pub last: Option<FrameHead>,
     /// The last stream of a GOAWAY without an error, if one came.
     pub goaway: Option<StreamId>,
 }
 
 impl SilenceFault {
+    /// Whether it was a write that failed.
+    pub fn is_unwritten(&self) -> bool {
+        matches!(self.how, Silence::Unwritten | Silence::Untaken)
+    }
+
     /// Whether the connection is over, and between two frames. A server may end it so once all is said (RFC 9113,
     /// section 9.1).
     pub fn is_end(&self) -> bool {
-        self.how != Silence::Stalled && self.progress.came == 0
+        matches!(
+            self.how,
+            Silence::Closed | Silence::Broken | Silence::Unwritten
+        ) && self.progress.came == 0
+    }
+}
+
+impl SilenceFault {
+    /// Writes what came last.
+    fn tell_last<W: fmt::Write>(&self, f: &mut fmt::Formatter<W>) -> fmt::Result {
+        let Some(head) = self.last else {
+            return Ok(());
+        };
+        let (frames, last) = (Grouped(self.frames), FrameName(head));
+        if self.frames == 1 {
+            write!(f, "; one frame came, {last}")
+        } else {
+            write!(f, "; {frames} frames came, the last {last}")
+        }
+    }
+}
+
+/// Milliseconds, as seconds with a digit behind the point.
+#[derive(Clone, Copy)]
+struct Seconds(u64);
+
+impl fmt::Display for Seconds {
+    fn fmt<W: fmt::Write>(&self, f: &mut fmt::Formatter<W>) -> fmt::Result {
+        let (seconds, tenths) = (self.0 / 1000, self.0 % 1000 / 100);
+        write!(f, "{seconds}.{tenths} s")
     }
 }
 
@@ -58,6 +103,8 @@ impl fmt::Display for Silence {
     fn fmt<W: fmt::Write>(&self, f: &mut fmt::Formatter<W>) -> fmt::Result {
         match self {
             Silence::Stalled => write!(f, "stalled"),
+            Silence::Endless => write!(f, "not ended"),
+            Silence::Untaken => write!(f, "the server stopped reading"),
             Silence::Closed => write!(f, "the server closed the connection"),
             Silence::Broken => write!(f, "the connection broke"),
             Silence::Unwritten => write!(f, "a write failed"),
@@ -74,6 +121,9 @@ impl fmt::Display for Awaited {
             }
             Awaited::Settings => write!(f, "no SETTINGS came (RFC 9113, 3.4)"),
             Awaited::Head(stream) => write!(f, "no HEADERS came on stream {stream}"),
+            Awaited::FinalHead(stream) => {
+                write!(f, "informational HEADERS alone came on stream {stream}")
+            }
             Awaited::Trailers(stream, bytes) => {
                 let bytes = ByteCount(bytes);
                 write!(
@@ -84,7 +134,7 @@ impl fmt::Display for Awaited {
             Awaited::Block(stream) => {
                 write!(
                     f,
-                    "the header block on stream {stream} goes on, and no CONTINUATION came"
+                    "the header block on stream {stream} goes on, and no CONTINUATION ended it"
                 )
             }
             Awaited::Ping => write!(f, "PING was not acknowledged (RFC 9113, 6.7)"),
@@ -109,7 +159,14 @@ impl fmt::Display for Progress {
 impl fmt::Display for SilenceFault {
     fn fmt<W: fmt::Write>(&self, f: &mut fmt::Formatter<W>) -> fmt::Result {
         let (how, awaited, progress) = (self.how, self.awaited, self.progress);
-        write!(f, "{how}: {awaited}")?;
+        match how {
+            Silence::Endless | Silence::Untaken => {
+                let spent = Seconds(self.spent);
+                write!(f, "{how} after {spent}: {awaited}")?;
+                self.tell_last(f)?;
+            }
+            _ => write!(f, "{how}: {awaited}")?,
+        }
         if progress.came > 0 {
             write!(f, "; {progress} came")?;
         }

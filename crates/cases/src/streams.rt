@@ -13,7 +13,8 @@ struct Stream {
     bytes: u64,
 }
 
-/// The streams of a connection, in the order in which they were opened: two at most, in the cases that there are.
+/// The streams of a connection, in the order in which they were opened. The last one is looked for
+/// first: it has the call.
 #[derive(Drop)]
 pub struct Streams {
     streams: Vec<Stream>,
@@ -44,7 +45,7 @@ impl Streams {
 
     /// What the server's half of a stream has come to, and how many bytes of DATA came, if it was opened.
     pub fn find(&self, id: StreamId) -> Option<(Phase, u64)> {
-        let stream = self.streams.iter().find(|stream| stream.id == id)?;
+        let stream = self.streams.iter().rev().find(|stream| stream.id == id)?;
         Some((stream.phase, stream.bytes))
     }
 
@@ -67,26 +68,29 @@ impl Streams {
 
     /// A frame of a stream is taken.
     pub fn take(&mut self, head: &FrameHead) {
-        for stream in self.streams.iter_mut() {
+        for stream in self.streams.iter_mut().rev() {
             if stream.id == head.stream {
                 stream.phase = stream.phase.after(head);
+                return;
             }
         }
     }
 
     /// So many bytes of DATA came on a stream.
     pub fn count(&mut self, id: StreamId, length: u32) {
-        for stream in self.streams.iter_mut() {
+        for stream in self.streams.iter_mut().rev() {
             if stream.id == id {
                 stream.bytes = stream.bytes.saturating_add(u64::from(length));
+                return;
             }
         }
     }
 
     fn set(&mut self, id: StreamId, phase: Phase) {
-        for stream in self.streams.iter_mut() {
+        for stream in self.streams.iter_mut().rev() {
             if stream.id == id {
                 stream.phase = phase;
+                return;
             }
         }
     }

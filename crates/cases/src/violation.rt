@@ -27,8 +27,6 @@ pub enum Violation {
         head: FrameHead,
         is_ack: bool,
     },
-    /// SETTINGS were acknowledged once more than they were sent.
-    SettingsAckUnasked,
     /// The client's SETTINGS weren't acknowledged, though two PINGs behind them were.
     SettingsUnacknowledged,
     PushPromise(StreamId),
@@ -52,8 +50,6 @@ pub enum BlockViolation {
     Lone(FrameHead),
     /// Another frame inside the header block of this stream.
     Interrupted(StreamId, FrameHead),
-    /// The block of this stream is over the 65,536 bytes that the client takes.
-    TooLong(StreamId),
     /// The block of this stream, of so many bytes, isn't HPACK.
     Hpack {
         stream: StreamId,
@@ -78,12 +74,6 @@ impl fmt::Display for Violation {
                 write!(
                     f,
                     "{frame}{with} came first, wanted SETTINGS (RFC 9113, 3.4)"
-                )
-            }
-            Violation::SettingsAckUnasked => {
-                write!(
-                    f,
-                    "SETTINGS with ACK came, and none were left to acknowledge (RFC 9113, 6.5)"
                 )
             }
             Violation::SettingsUnacknowledged => {
@@ -129,12 +119,6 @@ impl fmt::Display for BlockViolation {
                     "{frame} came inside the header block of stream {stream} (RFC 9113, 4.3)"
                 )
             }
-            BlockViolation::TooLong(stream) => {
-                write!(
-                    f,
-                    "the header block of stream {stream} is over the 65,536 bytes that this client takes"
-                )
-            }
             BlockViolation::Hpack {
                 stream,
                 length,
@@ -158,7 +142,6 @@ fn section_of(fault: HpackFault) -> &'static str {
         HpackFault::Huffman => "RFC 7541, 5.2",
         HpackFault::SizeUpdate => "RFC 7541, 4.2 and 6.3",
         HpackFault::Truncated => "RFC 7541, 6",
-        HpackFault::TooLarge => "this client's own bound",
-        HpackFault::OutOfMemory | HpackFault::Dead => "RFC 9113, 4.3",
+        HpackFault::TooLarge | HpackFault::OutOfMemory | HpackFault::Dead => "RFC 9113, 4.3",
     }
 }
