@@ -2,7 +2,8 @@
 
 ghost use Rattle.std.specs.Prelude.{◌≡◌, ◌<◌, ◌≤◌, ◌^◌};
 
-use crate::deeds::Wrong;
+use crate::deeds::Ending;
+use crate::halt::Halt;
 use h2frame::StreamId;
 use lpm::write_message;
 use std::alloc::{AllocError, Global};
@@ -30,16 +31,17 @@ pub struct Call {
     pub acks: u32,
     /// Whether its header block began with the change of the table's size to 0.
     pub is_updated: bool,
-    /// The code with which the client reset it.
-    pub reset: Option<u32>,
+    /// How the client reset it.
+    pub reset: Option<Ending>,
     /// Whether steps are about it.
     pub is_played: bool,
-    /// Whether the server reset it.
+    /// Whether the server reset it, and whether the client has read that.
     pub is_reset: bool,
+    pub is_reset_read: bool,
     /// Whether the server says nothing more.
     pub is_over: bool,
-    /// For how many ticks its request has been whole.
-    pub waited: u32,
+    /// At which millisecond of the case its request was whole.
+    pub whole_at: Option<u64>,
     /// Whether its head was sent.
     pub has_head: bool,
     /// The right reply, once it was asked for, and how many of its bytes were sent.
@@ -63,8 +65,9 @@ impl Call {
             reset: None,
             is_played: false,
             is_reset: false,
+            is_reset_read: false,
             is_over: false,
-            waited: 0,
+            whole_at: None,
             has_head: false,
             reply: None,
             sent: 0,
@@ -88,7 +91,7 @@ impl Call {
     }
 
     /// Makes the right reply, where it isn't made yet.
-    pub fn prepare(&mut self, alloc: Global) -> Result<(), Wrong> {
+    pub fn prepare(&mut self, alloc: Global) -> Result<(), Halt> {
         if self.reply.is_none() {
             let reply = reply_to(alloc, self.request.as_slice())?;
             self.reply = Some(reply);
@@ -116,9 +119,9 @@ impl Call {
     }
 }
 
-/// The length-prefixed reply of a request: with a payload of as many zero bytes as a SimpleRequest asks for. Any other request
-/// has an empty reply.
-pub fn reply_to(alloc: Global, request: &[u8]) -> Result<Vec<u8>, Wrong> {
+/// The length-prefixed reply of a request: with a payload of as many zero bytes as a SimpleRequest
+/// asks for. Any other request has an empty reply.
+pub fn reply_to(alloc: Global, request: &[u8]) -> Result<Vec<u8>, Halt> {
     let body = vec![in alloc; 0; asked_size(alloc, request)]?;
     let response = SimpleResponse {
         payload: payload_of(&body),
@@ -126,12 +129,12 @@ pub fn reply_to(alloc: Global, request: &[u8]) -> Result<Vec<u8>, Wrong> {
         oauth_scope: Text::new(),
     };
     let Ok(message) = response.encode(alloc) else {
-        return Err(Wrong::OutOfMemory);
+        return Err(Halt::OutOfMemory);
     };
     let mut reply = Vec::new(alloc);
     match write_message(message.as_slice(), &mut reply) {
         Ok(()) => Ok(reply),
-        Err(_) => Err(Wrong::OutOfMemory),
+        Err(_) => Err(Halt::OutOfMemory),
     }
 }
 

@@ -4,8 +4,9 @@ ghost use Rattle.std.specs.Prelude.{◌≡◌, ◌<◌, ◌≤◌};
 
 use crate::host::play_out;
 use crate::misbehaviour::Misbehaviour;
+use crate::outcome::{Outcome, Tally};
 use crate::port::Port;
-use crate::report::{lines_of, push_listed};
+use crate::report::{outcome_of, push_heading, push_outcome, push_tally};
 use crate::table::{all, named};
 use device::{ConnWrite, DeviceFault, write_all};
 use std::alloc::{AllocError, AllocFailed, Global};
@@ -44,33 +45,53 @@ impl<T: Drop> From<AllocFailed<T>> for RunFault {
     }
 }
 
-/// Prints all misbehaviours, a line each: its name and what the server does.
-pub fn list<W: ConnWrite>(alloc: Global, output: &mut W) -> Result<(), RunFault> {
+/// Where misbehaviours are run, and for how long at most.
+#[derive(Clone, Copy)]
+pub struct Place<'a> {
+    /// The address that is listened on, or a name for it.
+    pub host: &'a str,
+    /// The port of the first; each later one has the next port.
+    pub port: u16,
+    /// How many seconds each may take.
+    pub seconds: u16,
+}
+
+/// Prints the names of all misbehaviours, a line each; or what is told of each before its client
+/// comes.
+pub fn list<W: ConnWrite>(alloc: Global, is_verbose: bool, output: &mut W) -> Result<(), RunFault> {
     let mut text = String::new(alloc);
     for play in all(alloc)?.as_slice() {
-        push_listed(&mut text, play)?;
+        if is_verbose {
+            push_heading(&mut text, play)?;
+        } else {
+            text.push_str(play.name)?;
+            text.push_str("\n")?;
+        }
     }
     write_all(output, text.as_bytes())?;
     Ok(())
 }
 
-/// Runs the misbehaviour of this name on a port of 127.0.0.1, for so many seconds at most, or, by the name `all`, all of them
-/// one after another: the first on this port, and each later one on the next port. Prints what came of each, and answers
-/// whether the client did right.
+/// Runs the misbehaviour of this name or, by the name `all`, all of them one after another. Prints
+/// what the client is to do before it is waited for, then what came of it, and last, of all, how
+/// many ended in which way. Answers whether each was ok.
 pub fn run<R: Net + Clock + Copy + Drop, W: ConnWrite>(
     rt: R,
     alloc: Global,
     name: &str,
-    port: u16,
-    seconds: u32,
+    place: Place<'_>,
     output: &mut W,
 ) -> Result<bool, RunFault> {
     let plays = all(alloc)?;
     if name == "all" {
-        return run_plays(rt, alloc, plays.as_slice(), port, seconds, output);
+        let tally = run_plays(rt, alloc, plays.as_slice(), place, output)?;
+        let mut text = String::new(alloc);
+        push_tally(&mut text, tally)?;
+        write_all(output, text.as_bytes())?;
+        return Ok(tally.is_ok());
     }
     match named(plays.as_slice(), name) {
-        Some(play) => run_plays(rt, alloc, &[play], port, seconds, output),
+        Some(play) => Ok(run_plays(rt, alloc, &[play], place, output)?.is_ok()),
         None => Err(RunFault::UnknownName),
     }
 }
@@ -80,67 +101,95 @@ fn run_plays<R: Net + Clock + Copy + Drop, W: ConnWrite>(
     rt: R,
     alloc: Global,
     plays: &[Misbehaviour],
-    port: u16,
-    seconds: u32,
+    place: Place<'_>,
     output: &mut W,
-) -> Result<bool, RunFault> {
-    let limit = Duration::from_secs(u64::from(seconds));
+) -> Result<Tally, RunFault> {
     let mut ports = Vec::new(alloc);
-    let mut next = port;
+    let mut next = place.port;
     for _play in plays {
-        ports.push(bind(rt, alloc, next, limit)?)?;
+        ports.push(bind(rt, place, next)?)?;
         next = next.saturating_add(1);
     }
-    announce(alloc, port, plays, output)?;
-    let mut is_right = true;
+    announce(alloc, ports.as_slice(), place, output)?;
+    let mut tally = Tally::NONE;
     for (play, world) in plays.iter().zip(ports) {
-        if !run_play(alloc, play, world, output)? {
-            is_right = false;
-        }
+        let outcome = run_play(alloc, play, world, output)?;
+        tally.count(outcome.verdict);
     }
-    Ok(is_right)
+    Ok(tally)
 }
 
 fn bind<R: Net + Clock + Copy + Drop>(
     rt: R,
-    alloc: Global,
+    place: Place<'_>,
     port: u16,
-    limit: Duration,
 ) -> Result<Port<R>, RunFault> {
-    match Port::bind(rt, alloc, port, limit) {
+    let limit = Duration::from_secs(u64::from(place.seconds));
+    match Port::bind(rt, place.host, port, limit) {
         Ok(port) => Ok(port),
         Err(error) => Err(RunFault::Port(port, error)),
     }
 }
 
 /// Says which ports are listened on.
-fn announce<W: ConnWrite>(
+fn announce<R: Net + Clock + Copy + Drop, W: ConnWrite>(
     alloc: Global,
-    port: u16,
-    plays: &[Misbehaviour],
+    ports: &[Port<R>],
+    place: Place<'_>,
     output: &mut W,
 ) -> Result<(), RunFault> {
     let mut text = String::new(alloc);
-    let last = u64::from(port) + (plays.len() as u64).saturating_sub(1);
-    if last == u64::from(port) {
-        writeln!(text, "listening 127.0.0.1:{port}")?;
+    push_address(&mut text, ports, place)?;
+    let last = u64::from(place.port) + (ports.len() as u64).saturating_sub(1);
+    if last == u64::from(place.port) {
+        text.push_str("\n")?;
     } else {
-        writeln!(text, "listening 127.0.0.1:{port} to {last}")?;
+        writeln!(
+            text,
+            " to {last}: a port for each, in the order of misbehave --list"
+        )?;
     }
     write_all(output, text.as_bytes())?;
     Ok(())
 }
 
-/// Runs a misbehaviour, and prints what came of it. Whether the client did right.
+/// Where the first port is.
+fn push_address<R: Net + Clock + Copy + Drop>(
+    text: &mut String,
+    ports: &[Port<R>],
+    place: Place<'_>,
+) -> Result<(), AllocError> {
+    let first = match ports {
+        [first, ..] => first.address(),
+        [] => return Ok(()),
+    };
+    match first {
+        Ok(address) => write!(text, "listening {address}"),
+        Err(_) => {
+            let Place { host, port, .. } = place;
+            write!(text, "listening {host}:{port}")
+        }
+    }
+}
+
+/// Runs a misbehaviour, and prints what the client is to do, and what came of it.
 fn run_play<R: Net + Clock + Copy + Drop, W: ConnWrite>(
     alloc: Global,
     play: &Misbehaviour,
     mut world: Port<R>,
     output: &mut W,
-) -> Result<bool, RunFault> {
-    world.begin();
-    let host = play_out(alloc, &mut world, play);
-    let text = lines_of(alloc, play, &host)?;
+) -> Result<Outcome, RunFault> {
+    let mut text = String::new(alloc);
+    push_heading(&mut text, play)?;
+    if let Ok(address) = world.address() {
+        writeln!(text, "  port: {address}")?;
+    }
     write_all(output, text.as_bytes())?;
-    Ok(host.verdict().is_none())
+    text.clear();
+    world.begin();
+    let host = play_out(alloc, &mut world, play)?;
+    let outcome = outcome_of(alloc, play, &host)?;
+    push_outcome(&mut text, host.log(), &outcome)?;
+    write_all(output, text.as_bytes())?;
+    Ok(outcome)
 }

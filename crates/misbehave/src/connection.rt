@@ -3,11 +3,15 @@
 ghost use Rattle.std.specs.Prelude.{◌≡◌, ◌<◌, ◌≤◌, ◌^◌, ◌++◌, false, length, pos, ◌≤ℤ◌, OnOk};
 ghost use Rattle.misbehave.specs.Written.{frame_text};
 
+use crate::breach::{
+    EVEN_STREAM, FRAME_AFTER_RESET, IDLE_STREAM, OLD_STREAM, PAST_WINDOW, SETTINGS_LENGTH,
+};
 use crate::call::Call;
-use crate::deeds::Wrong;
+use crate::deeds::Ending;
 use crate::frame_text::{
     ACK, DATA, NO_FLAGS, PING, SETTINGS, WINDOW_UPDATE, push_frame, push_frame_head,
 };
+use crate::halt::Halt;
 use crate::intake::{Intake, Told};
 use crate::line::Line;
 use crate::rules::Rules;
@@ -30,23 +34,47 @@ const MOST_CREDIT: i64 = 0x7fff_ffff;
 /// SETTINGS_MAX_FRAME_SIZE, by its number.
 const MAX_FRAME_SIZE: u16 = 5;
 
+/// The most writes before the connection is read again.
+const MOST_WRITES: usize = 16;
+
+/// The most writes where nothing is read any more.
+const LAST_WRITES: usize = 200;
+
+/// The most bytes that wait to be written while more is read.
+const MOST_WAITING: usize = 33_554_432;
+
 /// A connection.
 #[derive(Drop)]
 pub struct Connection<L> {
     pub alloc: Global,
     line: L,
-    intake: Intake,
+    pub intake: Intake,
     /// What the client may be sent.
     pub windows: SendWindows,
+    /// Whether DATA was sent that the windows don't count. The client gives them back too.
+    pub is_uncounted: bool,
     /// The longest payload that the client takes.
     pub longest: u32,
-    /// What is to be written.
+    /// What is to be written, and how many bytes of it were.
     pub out: Vec<u8>,
+    written: usize,
     /// What the client may send.
     pub rules: Rules,
     pub calls: Vec<Call>,
-    /// The code of the client's GOAWAY.
-    pub goaway: Option<u32>,
+    /// How the client ended the connection by GOAWAY.
+    pub goaway: Option<Ending>,
+    /// Whether it made a call while another was open, once SETTINGS of the server held.
+    pub has_overlap: bool,
+    /// Whether it has read all that steps sent.
+    pub is_all_read: bool,
+    /// The millisecond of the case, and that in which a call last went on: by the client's frames,
+    /// and by credit too.
+    pub now: u64,
+    pub stirred: u64,
+    pub progressed: u64,
+    /// How many bytes were read and written.
+    pub bytes_read: u64,
+    pub bytes_written: u64,
     /// Whether the client hasn't ended the connection, and no read or write of it failed.
     pub is_open: bool,
     /// Whether the server has ended its side.
@@ -60,17 +88,27 @@ impl<L: Line> Connection<L> {
         line: L,
         rules: Rules,
         opening: &'static [Setting],
-    ) -> Result<Connection<L>, Wrong> {
+        now: u64,
+    ) -> Result<Connection<L>, Halt> {
         let mut connection = Connection {
             alloc,
             line,
             intake: Intake::new(alloc),
             windows: SendWindows::new(alloc),
+            is_uncounted: false,
             longest: MAX_PAYLOAD,
             out: Vec::new(alloc),
+            written: 0,
             rules,
             calls: Vec::new(alloc),
             goaway: None,
+            has_overlap: false,
+            is_all_read: false,
+            now,
+            stirred: now,
+            progressed: now,
+            bytes_read: 0,
+            bytes_written: 0,
             is_open: true,
             is_shut: false,
         };
@@ -79,14 +117,14 @@ impl<L: Line> Connection<L> {
     }
 
     /// Sends SETTINGS.
-    pub fn set(&mut self, settings: &'static [Setting]) -> Result<(), Wrong> {
+    pub fn set(&mut self, settings: &'static [Setting]) -> Result<(), Halt> {
         let mut content = Vec::new(self.alloc);
         for (id, value) in settings {
             content.extend_from_slice(&id.to_be_bytes())?;
             content.extend_from_slice(&value.to_be_bytes())?;
         }
         self.push(SETTINGS, NO_FLAGS, 0, content.as_slice())?;
-        let change = self.rules.sent(settings)?;
+        let change = self.rules.sent(settings, self.now)?;
         move_windows(&mut self.calls, change);
         Ok(())
     }
@@ -108,15 +146,23 @@ impl<L: Line> Connection<L> {
         push_frame(&mut self.out, kind, flags, stream, content)
     }
 
-    /// Sends a PING.
-    pub fn ping(&mut self) -> Result<(), Wrong> {
-        let number = self.rules.ping()?;
+    /// Sends a PING, and answers its number.
+    pub fn ping(&mut self) -> Result<u64, Halt> {
+        let number = self.rules.ping(self.now)?;
         self.push(PING, NO_FLAGS, 0, &number.to_be_bytes())?;
-        Ok(())
+        Ok(number)
+    }
+
+    /// The client has read all that was sent.
+    pub fn mark_read(&mut self) {
+        self.rules.mark_read();
+        for call in self.calls.iter_mut() {
+            call.is_reset_read = call.is_reset;
+        }
     }
 
     /// Gives credit for so many bytes of a call.
-    pub fn credit(&mut self, stream: StreamId, increment: u32) -> Result<(), Wrong> {
+    pub fn credit(&mut self, stream: StreamId, increment: u32) -> Result<(), Halt> {
         if let Some(call) = call_on(&mut self.calls, stream) {
             call.window = call.window.saturating_add(i64::from(increment));
         }
@@ -124,8 +170,9 @@ impl<L: Line> Connection<L> {
         Ok(())
     }
 
-    /// From here on the bytes of calls are given back as they come. Their windows are the usual ones.
-    pub fn give_back(&mut self) -> Result<(), Wrong> {
+    /// From here on the bytes of calls are given back as they come. Their windows are the usual
+    /// ones.
+    pub fn give_back(&mut self) -> Result<(), Halt> {
         self.rules.gives_back = true;
         for index in 0..self.calls.len() {
             if let Some((stream, missing)) = self.missing(index) {
@@ -145,44 +192,75 @@ impl<L: Line> Connection<L> {
         Some((call.stream, missing as u32))
     }
 
-    /// Writes what is to be written.
+    /// Writes what is to be written, as far as the client takes it.
     pub fn flush(&mut self) {
-        if self.out.is_empty() {
-            return;
-        }
-        if self.is_open && self.line.write(self.out.as_slice()).is_err() {
-            self.is_open = false;
-        }
-        self.out.clear();
+        self.write_out(MOST_WRITES);
     }
 
-    /// Writes what is to be written, a byte at a time.
-    pub fn trickle(&mut self) {
-        for byte in self.out.as_slice() {
-            if self.is_open && self.line.write(&[*byte]).is_err() {
-                self.is_open = false;
+    fn write_out(&mut self, most: usize) {
+        for _ in 0..most {
+            let rest = match self.out.as_slice().get(self.written..) {
+                Some(rest) if self.is_open && !rest.is_empty() => rest,
+                _ => {
+                    self.out.clear();
+                    self.written = 0;
+                    return;
+                }
+            };
+            match self.line.write(rest) {
+                Ok(0) => return,
+                Ok(count) => self.note_written(count),
+                Err(_) => self.leave(),
             }
         }
-        self.out.clear();
+    }
+
+    /// Writes what is to be written, a byte at a time, as far as the client takes it.
+    pub fn trickle(&mut self) {
+        for at in self.written..self.out.len() {
+            let Some(byte) = self.out.as_slice().get(at) else {
+                return;
+            };
+            match self.line.write(&[*byte]) {
+                Ok(0) | Err(_) => return,
+                Ok(_) => self.note_written(1),
+            }
+        }
+    }
+
+    fn note_written(&mut self, count: usize) {
+        self.written = self.written.saturating_add(count);
+        self.bytes_written = self.bytes_written.saturating_add(count as u64);
+    }
+
+    /// The client has ended the connection.
+    fn leave(&mut self) {
+        self.is_open = false;
+        self.stirred = self.now;
     }
 
     /// Ends the server's side.
     pub fn shut(&mut self) {
-        self.flush();
+        self.write_out(LAST_WRITES);
         self.is_shut = true;
         self.line.shut();
     }
 
-    /// Reads what comes within a tick, and takes it. Whether something came.
-    pub fn pull(&mut self) -> Result<bool, Wrong> {
+    /// Reads what comes within a tick, and takes it. Whether something came. Nothing is read while
+    /// too much waits to be written.
+    pub fn pull(&mut self) -> Result<bool, Halt> {
+        if self.out.len() > MOST_WAITING {
+            return Ok(false);
+        }
         let mut piece = [0u8; PIECE];
         match self.line.read(&mut piece) {
             Ok(Some(0)) | Err(_) => {
-                self.is_open = false;
+                self.leave();
                 Ok(false)
             }
             Ok(None) => Ok(false),
             Ok(Some(count)) => {
+                self.bytes_read = self.bytes_read.saturating_add(count as u64);
                 self.intake.feed(&piece[..count])?;
                 self.take_all()?;
                 Ok(true)
@@ -190,7 +268,7 @@ impl<L: Line> Connection<L> {
         }
     }
 
-    fn take_all(&mut self) -> Result<(), Wrong> {
+    fn take_all(&mut self) -> Result<(), Halt> {
         for _ in 0..u64::MAX {
             let Some(told) = self.intake.next()? else {
                 return Ok(());
@@ -201,14 +279,11 @@ impl<L: Line> Connection<L> {
     }
 
     /// Takes what a frame tells.
-    fn take(&mut self, told: Told) -> Result<(), Wrong> {
+    fn take(&mut self, told: Told) -> Result<(), Halt> {
         match told {
             Told::Head(stream, last, is_updated) => self.head(stream, last, is_updated),
             Told::Data(stream, last, len, bytes) => self.data(stream, last, len, &bytes),
-            Told::Reset(stream, code) => {
-                self.reset(stream, code);
-                Ok(())
-            }
+            Told::Reset(stream, code) => self.reset(stream, code),
             Told::Settings(content) => self.settings(&content),
             Told::SettingsAck => {
                 let change = self.rules.acknowledged();
@@ -219,25 +294,40 @@ impl<L: Line> Connection<L> {
                 self.push(PING, ACK, 0, content.as_slice())?;
                 Ok(())
             }
-            Told::Pong(number) => self.rules.pong(number),
+            Told::Pong(number) => {
+                self.rules.pong(number);
+                Ok(())
+            }
             Told::GoAway(code) => {
-                self.goaway = Some(code);
+                self.goaway(code);
                 Ok(())
             }
             Told::Credit(stream, increment) => self.credited(stream, increment),
         }
     }
 
+    /// A call went on by the client's doing.
+    fn stir(&mut self) {
+        self.stirred = self.now;
+        self.progressed = self.now;
+    }
+
     /// The head of a call, or the end of its request.
-    fn head(&mut self, stream: StreamId, last: bool, is_updated: bool) -> Result<(), Wrong> {
+    fn head(&mut self, stream: StreamId, last: bool, is_updated: bool) -> Result<(), Halt> {
+        self.stir();
         if let Some(call) = call_on(&mut self.calls, stream) {
             call.is_whole = call.is_whole || last;
-            return self.rules.frame_on(call.is_reset);
+            return allow_frame(call);
         }
-        if stream == 0 || stream % 2 == 0 || self.windows.has(stream) {
-            return Err(Wrong::Framing);
+        if stream == 0 || stream % 2 == 0 {
+            return Err(Halt::Broke(EVEN_STREAM));
         }
-        self.rules.call_comes(open_calls(self.calls.as_slice()))?;
+        if self.calls.iter().any(|call| call.stream > stream) || self.windows.has(stream) {
+            return Err(Halt::Broke(OLD_STREAM));
+        }
+        let live = open_calls(self.calls.as_slice());
+        self.rules.call_comes(live)?;
+        self.has_overlap = self.has_overlap || live > 0 && self.rules.acks() > 0;
         self.windows.open(stream)?;
         let mut call = Call::new(self.alloc, stream, self.rules.window(), self.rules.acks());
         call.is_whole = last;
@@ -247,14 +337,15 @@ impl<L: Line> Connection<L> {
     }
 
     /// DATA of a call. The connection's bytes are given back at once.
-    fn data(&mut self, stream: StreamId, last: bool, len: u32, bytes: &Bytes) -> Result<(), Wrong> {
+    fn data(&mut self, stream: StreamId, last: bool, len: u32, bytes: &Bytes) -> Result<(), Halt> {
+        self.stir();
         if len > 0 {
             self.push(WINDOW_UPDATE, NO_FLAGS, 0, &len.to_be_bytes())?;
         }
         let Some(call) = call_on(&mut self.calls, stream) else {
-            return Err(Wrong::Framing);
+            return Err(Halt::Broke(IDLE_STREAM));
         };
-        self.rules.frame_on(call.is_reset)?;
+        allow_frame(call)?;
         take_data(call, last, len, bytes.as_slice())?;
         if self.rules.gives_back && len > 0 && !last {
             self.credit(stream, len)?;
@@ -262,18 +353,44 @@ impl<L: Line> Connection<L> {
         Ok(())
     }
 
-    /// The client gives a call up.
-    fn reset(&mut self, stream: StreamId, code: u32) {
+    /// The client gives a call up. The first reason counts.
+    fn reset(&mut self, stream: StreamId, code: u32) -> Result<(), Halt> {
+        self.stir();
+        let is_late = self.is_all_read;
         if let Some(call) = call_on(&mut self.calls, stream) {
-            call.reset = Some(code);
+            allow_frame(call)?;
+            let ending = Ending {
+                code,
+                is_goaway: false,
+                is_early: !call.is_over,
+                is_late,
+            };
+            call.reset = call.reset.or(Some(ending));
         }
         self.windows.close(stream);
+        Ok(())
+    }
+
+    /// The client gives the connection up. The first reason counts, but for NO_ERROR.
+    fn goaway(&mut self, code: u32) {
+        self.stir();
+        if self.goaway.is_none_or(|before| before.code == 0) {
+            self.goaway = Some(Ending {
+                code,
+                is_goaway: true,
+                is_early: self
+                    .calls
+                    .iter()
+                    .any(|call| !call.is_over && call.reset.is_none()),
+                is_late: self.is_all_read,
+            });
+        }
     }
 
     /// The client's SETTINGS hold from now on.
-    fn settings(&mut self, content: &Bytes) -> Result<(), Wrong> {
+    fn settings(&mut self, content: &Bytes) -> Result<(), Halt> {
         if content.len() % 6 != 0 {
-            return Err(Wrong::Framing);
+            return Err(Halt::Broke(SETTINGS_LENGTH));
         }
         let settings = read_settings(self.alloc, content.as_slice())?;
         for setting in settings.as_slice() {
@@ -290,26 +407,39 @@ impl<L: Line> Connection<L> {
         Ok(())
     }
 
-    /// The client's windows have another size at first. One that grows is not made use of unless the client is told that its
-    /// SETTINGS hold.
-    fn resize(&mut self, size: u32) -> Result<(), Wrong> {
-        if self.rules.acknowledges || size < USUAL_WINDOW {
-            self.windows.initial(size)?;
+    /// The client's windows have another size at first. One that grows is not made use of unless
+    /// the client is told that its SETTINGS hold.
+    fn resize(&mut self, size: u32) -> Result<(), Halt> {
+        if !self.rules.acknowledges && size >= USUAL_WINDOW {
+            return Ok(());
         }
-        Ok(())
+        let change = self.windows.initial(size);
+        self.judge_windows(change)
+    }
+
+    /// Whether a window may become what the client made of it. Where DATA weren't counted, one over
+    /// 2^31 - 1 may be the server's own doing.
+    fn judge_windows(&self, change: Result<(), WindowFault>) -> Result<(), Halt> {
+        match change {
+            Ok(()) | Err(WindowFault::Unknown) => Ok(()),
+            Err(WindowFault::Overflow) if self.is_uncounted => Ok(()),
+            Err(fault) => Err(Halt::from(fault)),
+        }
     }
 
     /// More may be sent.
-    fn credited(&mut self, stream: StreamId, increment: u32) -> Result<(), Wrong> {
-        match self.windows.credit(stream, increment) {
-            Ok(()) | Err(WindowFault::Unknown) => Ok(()),
-            Err(fault) => Err(Wrong::from(fault)),
+    fn credited(&mut self, stream: StreamId, increment: u32) -> Result<(), Halt> {
+        self.progressed = self.now;
+        if let Some(call) = call_on(&mut self.calls, stream) {
+            allow_frame(call)?;
         }
+        let change = self.windows.credit(stream, increment);
+        self.judge_windows(change)
     }
 
-    /// Sends DATA of the right reply, as the windows let them through, up to so many bytes in a frame; behind them so much
-    /// padding. Answers whether a frame was sent.
-    pub fn send_piece(&mut self, index: usize, most: usize) -> Result<bool, Wrong> {
+    /// Sends DATA of the right reply, as the windows let them through, up to so many bytes in a
+    /// frame; behind them so much padding. Answers whether a frame was sent.
+    pub fn send_piece(&mut self, index: usize, most: usize) -> Result<bool, Halt> {
         let Some(call) = self.calls.get_mut(index) else {
             return Ok(false);
         };
@@ -333,8 +463,18 @@ pub fn call_on(calls: &mut Vec<Call>, stream: StreamId) -> Option<&mut Call> {
     calls.iter_mut().find(|call| call.stream == stream)
 }
 
+/// A frame comes on a call's stream, which the server may have reset.
+fn allow_frame(call: &Call) -> Result<(), Halt>
+    ensures { OnOk result (call.now.is_reset_read ≡ false) }
+{
+    if call.is_reset_read {
+        return Err(Halt::Broke(FRAME_AFTER_RESET));
+    }
+    Ok(())
+}
+
 /// How many calls neither side has ended.
-fn open_calls(calls: &[Call]) -> usize {
+pub fn open_calls(calls: &[Call]) -> usize {
     calls.iter().filter(|call| call.is_open()).count()
 }
 
@@ -346,12 +486,12 @@ fn move_windows(calls: &mut Vec<Call>, change: i64) {
 }
 
 /// Takes DATA of a call, which count so much.
-fn take_data(call: &mut Call, last: bool, len: u32, bytes: &[u8]) -> Result<(), Wrong>
+fn take_data(call: &mut Call, last: bool, len: u32, bytes: &[u8]) -> Result<(), Halt>
     ensures { OnOk result (0 < len → pos 0 ≤ℤ call.new.window) }
 {
     call.window = call.window.saturating_sub(i64::from(len));
     if call.window < 0 && len > 0 {
-        return Err(Wrong::PastWindow);
+        return Err(Halt::Broke(PAST_WINDOW));
     }
     call.is_whole = call.is_whole || last;
     call.take(bytes)?;

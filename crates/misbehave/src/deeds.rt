@@ -1,142 +1,93 @@
 //! What a client did, as far as the wire shows it.
 
-ghost use Rattle.std.specs.Prelude.{◌≡◌};
+use crate::breach::Breach;
+use crate::lack::Lack;
 
-use flow::WindowFault;
-use h2frame::FrameFault;
-use hpack_codec::HpackFault;
-use session::{BadPreface, FragmentFault, SettingsFault};
-use std::alloc::{AllocError, AllocFailed};
+/// NO_ERROR, REFUSED_STREAM, CANCEL and ENHANCE_YOUR_CALM: with these a peer gives up for a reason
+/// of its own, and doesn't say that the other one erred (RFC 9113, section 7).
+const OWN_REASONS: &[u32] = &[0, 7, 8, 11];
 
-/// What no client may do, whatever the server does; and want of memory.
+/// NO_ERROR and CANCEL: what a program that has enough says, too.
+const ENOUGH: &[u32] = &[0, 8];
+
+/// How a client ended a call, by RST_STREAM, or the connection, by GOAWAY.
 #[derive(Clone, Copy)]
-pub enum Wrong {
-    /// Its bytes don't begin with the preface of HTTP/2, or are no frames.
-    Framing,
-    /// A header block can't be read.
-    HeaderBlock,
-    /// SETTINGS or WINDOW_UPDATE with a value that isn't allowed.
-    Value,
-    /// DATA past a window.
-    PastWindow,
-    /// A call more than are allowed at once.
-    TooManyCalls,
-    /// A call on a connection behind a GOAWAY that it has read.
-    CallBehindGoaway,
-    /// A frame on a stream behind a RST_STREAM that it has read.
-    FrameBehindReset,
-    /// The answer of a PING that wasn't sent.
-    OtherPong,
-    /// A header block without the change of the table's size that it has to begin with.
-    NoSizeUpdate,
-    /// The request was whole before the server could misbehave: it has to be longer.
-    ShortRequest,
-    /// No memory was to be had.
-    OutOfMemory,
+pub struct Ending {
+    /// The error code that it gave.
+    pub code: u32,
+    /// Whether it is the connection that it ended.
+    pub is_goaway: bool,
+    /// Whether the server had not yet said all of the call.
+    pub is_early: bool,
+    /// Whether it was seen before that the client had read all, and went on.
+    pub is_late: bool,
 }
 
-impl Wrong {
-    /// What is printed of it.
-    pub fn text(self) -> &'static str {
-        match self {
-            Wrong::Framing => "it sent what is no frame of HTTP/2",
-            Wrong::HeaderBlock => "it sent a header block that can't be read",
-            Wrong::Value => "it sent SETTINGS or WINDOW_UPDATE with a value that isn't allowed",
-            Wrong::PastWindow => "it sent DATA past a window",
-            Wrong::TooManyCalls => "it had more calls open than are allowed",
-            Wrong::CallBehindGoaway => "it opened a stream behind a GOAWAY that it had read",
-            Wrong::FrameBehindReset =>
-                "it sent a frame on a stream behind a RST_STREAM that it had read",
-            Wrong::OtherPong => "it answered a PING that wasn't sent",
-            Wrong::NoSizeUpdate =>
-                "a header block didn't begin with the change of the table's size",
-            Wrong::ShortRequest =>
-                "its request was too short to try this: make it as long as that of large_unary",
-            Wrong::OutOfMemory => "out of memory",
-        }
+impl Ending {
+    /// Whether it may be for a reason of the client's own.
+    pub fn is_own_reason(&self) -> bool {
+        OWN_REASONS.contains(&self.code)
+    }
+
+    /// Whether it answers what the server did, rather than that the program has enough.
+    pub fn is_answer(&self) -> bool {
+        !self.is_late || !ENOUGH.contains(&self.code)
     }
 }
 
 /// What a client did on the connection that the steps are about, and beside it.
 #[derive(Clone, Copy)]
 pub struct Deeds {
-    pub wrong: Option<Wrong>,
-    /// Whether all steps were done.
-    pub is_played: bool,
-    /// The code with which it reset the stream of the call that the steps are about.
-    pub reset: Option<u32>,
-    /// The code of its GOAWAY.
-    pub goaway: Option<u32>,
+    /// What it did that no client may do.
+    pub breach: Option<Breach>,
+    /// What it still owes after a long time: the answer of a PING, or an acknowledgement.
+    pub overdue: Option<Breach>,
+    /// What it doesn't do though the case needs it.
+    pub lack: Option<Lack>,
+    /// Whether all that the server does wrong was sent.
+    pub is_shown: bool,
+    /// Whether the server has said all of the call, or of all, where the steps are about all.
+    pub is_over: bool,
+    /// Whether the server waits for the client, which answers PINGs, and has done nothing of the
+    /// call for a long time.
+    pub is_stalled: bool,
+    /// How it reset the call that the steps are about.
+    pub reset: Option<Ending>,
+    /// How it ended the connection by GOAWAY.
+    pub goaway: Option<Ending>,
     /// Whether it ended the connection.
     pub has_left: bool,
-    /// Whether it answered the PING behind the last step.
-    pub has_answered: bool,
+    /// Whether it answered the first PING after what the server does wrong.
+    pub has_read: bool,
+    /// Whether it answered both PINGs after the last step.
+    pub has_gone_on: bool,
     /// How many calls it made on the connection.
     pub calls: usize,
     /// How many calls it made on others.
     pub calls_elsewhere: usize,
+    /// Whether it made a call while another was open, once the server's SETTINGS held.
+    pub has_overlap: bool,
+    /// What the step waits for that isn't done.
+    pub awaited: &'static str,
 }
 
-impl From<AllocError> for Wrong {
-    fn from(_error: AllocError) -> Wrong {
-        Wrong::OutOfMemory
-    }
-}
-
-impl<T: Drop> From<AllocFailed<T>> for Wrong {
-    fn from(_error: AllocFailed<T>) -> Wrong {
-        Wrong::OutOfMemory
-    }
-}
-
-impl From<BadPreface> for Wrong {
-    fn from(_fault: BadPreface) -> Wrong {
-        Wrong::Framing
-    }
-}
-
-impl From<FrameFault> for Wrong {
-    fn from(fault: FrameFault) -> Wrong {
-        match fault {
-            FrameFault::OutOfMemory => Wrong::OutOfMemory,
-            FrameFault::ZeroIncrement(_) => Wrong::Value,
-            _ => Wrong::Framing,
-        }
-    }
-}
-
-impl From<FragmentFault> for Wrong {
-    fn from(fault: FragmentFault) -> Wrong {
-        match fault {
-            FragmentFault::OutOfMemory => Wrong::OutOfMemory,
-            _ => Wrong::HeaderBlock,
-        }
-    }
-}
-
-impl From<HpackFault> for Wrong {
-    fn from(fault: HpackFault) -> Wrong {
-        match fault {
-            HpackFault::OutOfMemory => Wrong::OutOfMemory,
-            _ => Wrong::HeaderBlock,
-        }
-    }
-}
-
-impl From<SettingsFault> for Wrong {
-    fn from(fault: SettingsFault) -> Wrong {
-        match fault {
-            SettingsFault::OutOfMemory => Wrong::OutOfMemory,
-            SettingsFault::Refused(_) => Wrong::Value,
-        }
-    }
-}
-
-impl From<WindowFault> for Wrong {
-    fn from(fault: WindowFault) -> Wrong {
-        match fault {
-            WindowFault::OutOfMemory => Wrong::OutOfMemory,
-            _ => Wrong::Value,
-        }
-    }
+impl Deeds {
+    /// Nothing.
+    pub const NONE: Deeds = Deeds {
+        breach: None,
+        overdue: None,
+        lack: None,
+        is_shown: false,
+        is_over: false,
+        is_stalled: false,
+        reset: None,
+        goaway: None,
+        has_left: false,
+        has_read: false,
+        has_gone_on: false,
+        calls: 0,
+        calls_elsewhere: 0,
+        has_overlap: false,
+        awaited: "",
+    };
 }

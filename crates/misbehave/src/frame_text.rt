@@ -68,7 +68,8 @@ pub fn push_frame(
     out.extend_from_slice(content)
 }
 
-/// Appends a field as a literal that becomes no entry, whose name is spelled out (RFC 7541, section 6.2.2). It has to be short.
+/// Appends a field as a literal that becomes no entry, whose name is spelled out (RFC 7541, section
+/// 6.2.2). It has to be short.
 fn push_field(out: &mut Vec<u8>, name: &[u8], value: &[u8]) -> Result<(), AllocError>
     requires name { length name.now < 127 }
     requires value { length value.now < 127 }

@@ -1,14 +1,16 @@
 //! Misbehaviours in frames: what they hold, how long they are, and where they stand.
 
-use crate::misbehaviour::{GOES_ON, Misbehaviour, Need, PLAIN, Right};
+use crate::misbehaviour::{Calls, Duty, Misbehaviour, Need, PLAIN};
 use crate::responses::{HEAD, OK};
+use crate::sentences::Sentence;
 use crate::step::{Last, Part, Step};
 
 pub static FRAMING: [Misbehaviour; 9] = [
     Misbehaviour {
         name: "data_after_trailers",
-        does: "sends DATA on the call's stream behind the trailers of a good reply",
-        wants: "it passes over them, or ends the stream or the connection with STREAM_CLOSED (RFC 9113, 5.1)",
+        does: "sends DATA on the call's stream after the trailers of a good reply",
+        wants: "it passes over them, or resets the stream or ends the connection with \
+            STREAM_CLOSED (RFC 9113, 5.1 and 6.1)",
         steps: &[
             Step::AwaitCall,
             Step::AwaitRequest,
@@ -17,96 +19,91 @@ pub static FRAMING: [Misbehaviour; 9] = [
             Step::Trailers(OK),
             Step::Frame(0, 0, b"late"),
         ],
-        right: Right {
-            resets: &[5],
-            goaways: &[5],
-            ..GOES_ON
-        },
         ..PLAIN
     },
     Misbehaviour {
         name: "hpack_index_0",
         does: "answers with a header block of the index 0",
-        wants: "it ends the connection with COMPRESSION_ERROR (RFC 7541, 6.1; RFC 9113, 4.3)",
+        wants: "it ends the connection (RFC 7541, 6.1; RFC 9113, 4.3 and 5.4)",
         steps: &[
             Step::AwaitCall,
             Step::AwaitRequest,
             Step::Frame(1, 4, b"\x88\x80"),
         ],
-        right: Right {
-            goaways: &[9],
-            goes_on: false,
-            ..GOES_ON
-        },
+        duty: Duty::EndsConnection(9, Sentence::Decoding),
+        need: Need::Nothing,
         ..PLAIN
     },
     Misbehaviour {
         name: "block_cut_by_data",
         does: "sends DATA inside the header block of the head",
-        wants: "it ends the connection with PROTOCOL_ERROR (RFC 9113, 4.3 and 6.10)",
+        wants: "it ends the connection (RFC 9113, 6.2 and 5.4)",
         steps: &[
             Step::AwaitCall,
             Step::AwaitRequest,
             Step::Frame(1, 0, b"\x88"),
             Step::Frame(0, 0, b"\x00\x00\x00\x00\x00"),
         ],
-        right: Right {
-            goaways: &[1],
-            goes_on: false,
-            ..GOES_ON
-        },
+        duty: Duty::EndsConnection(1, Sentence::CutBlock),
+        need: Need::Nothing,
         ..PLAIN
     },
     Misbehaviour {
         name: "frame_too_long",
-        does: "sends a DATA frame of one byte more than SETTINGS_MAX_FRAME_SIZE allows, 16,385 where the client said none",
-        wants: "it ends the stream or the connection with FRAME_SIZE_ERROR, or with FLOW_CONTROL_ERROR where its window is smaller (RFC 9113, 4.2)",
+        does: "sends a DATA frame of one byte more than SETTINGS_MAX_FRAME_SIZE allows, 16,385 \
+            where the client said none",
+        wants: "it resets the call, or ends the connection (RFC 9113, 4.2 and 5.4)",
         steps: &[
             Step::AwaitCall,
             Step::AwaitRequest,
             Step::Head(HEAD),
             Step::TooLong,
+            Step::AwaitReading,
             Step::Trailers(OK),
         ],
-        right: Right {
-            resets: &[3, 6],
-            goaways: &[3, 6],
-            goes_on: false,
-            need: Need::Nothing,
-        },
+        duty: Duty::EndsStream(6, Sentence::FrameSize),
+        need: Need::Nothing,
         ..PLAIN
     },
     Misbehaviour {
         name: "byte_by_byte",
-        does: "answers well, the reply's first 1,000 bytes in DATA frames of a byte that are written byte by byte",
-        wants: "the call goes well (RFC 9113, 4.1; gRPC over HTTP/2, \"Length-Prefixed-Message\")",
+        does: "answers well, the reply's first 1,000 bytes in DATA frames of a byte that are \
+            written byte by byte",
+        wants: "the call goes well (RFC 9113, 4.1; gRPC over HTTP/2, \"Data Frames\")",
         steps: &[
             Step::AwaitCall,
             Step::AwaitRequest,
             Step::Head(HEAD),
             Step::Reply(Part::Bytewise),
+            Step::AwaitReading,
             Step::Reply(Part::Rest),
             Step::Trailers(OK),
         ],
+        duty: Duty::Completes(Sentence::NoAlignment),
         ..PLAIN
     },
     Misbehaviour {
         name: "padding_1_mib",
         does: "answers well, in DATA frames with 1 MiB of padding",
-        wants: "it gives credit for the padding too, and the call goes well (RFC 9113, 6.1 and 6.9.1)",
+        wants: "it gives credit for the padding too, and the call goes well (RFC 9113, 6.1 and \
+            6.9.1)",
         steps: &[
             Step::AwaitCall,
             Step::AwaitRequest,
             Step::Head(HEAD),
             Step::Reply(Part::Padded),
+            Step::AwaitReading,
             Step::Trailers(OK),
         ],
+        duty: Duty::Completes(Sentence::Padding),
         ..PLAIN
     },
     Misbehaviour {
         name: "table_size_0",
         does: "sets SETTINGS_HEADER_TABLE_SIZE to 0 in the middle of the first call",
-        wants: "the header block of its next call begins with a change of the table's size to 0, and uses no entry (RFC 7541, 4.2; RFC 9113, 4.3.1)",
+        calls: Calls::Two,
+        wants: "the header block of its next call begins with a change of the table's size to 0 \
+            (RFC 7541, 4.2; RFC 9113, 4.3.1)",
         steps: &[
             Step::AwaitCall,
             Step::AwaitRequest,
@@ -117,16 +114,13 @@ pub static FRAMING: [Misbehaviour; 9] = [
             Step::Trailers(OK),
             Step::AwaitUpdatedCall,
         ],
-        right: Right {
-            need: Need::SecondCall,
-            ..GOES_ON
-        },
         ..PLAIN
     },
     Misbehaviour {
         name: "settings_unacknowledged",
         does: "answers well, and never acknowledges the client's SETTINGS",
-        wants: "the call goes well; in the end it may close the connection with SETTINGS_TIMEOUT (RFC 9113, 6.5.3)",
+        wants: "the call goes well; in the end it may close the connection with SETTINGS_TIMEOUT \
+            (RFC 9113, 6.5.3)",
         acknowledges: false,
         steps: &[
             Step::AwaitCall,
@@ -135,27 +129,20 @@ pub static FRAMING: [Misbehaviour; 9] = [
             Step::Reply(Part::Rest),
             Step::Trailers(OK),
         ],
-        right: Right {
-            goaways: &[4],
-            ..GOES_ON
-        },
         ..PLAIN
     },
     Misbehaviour {
         name: "goaway_last_0",
         does: "sends GOAWAY with NO_ERROR and the last stream 0 while a call waits for its answer",
-        wants: "it opens no further stream there; the call fails with UNAVAILABLE, or is made again on a new connection (RFC 9113, 6.8)",
+        calls: Calls::Two,
+        wants: "it opens no further stream there; the call fails with UNAVAILABLE, or is made \
+            again on a new connection, and so is the next (RFC 9113, 6.8)",
         steps: &[
             Step::AwaitCall,
             Step::AwaitRequest,
             Step::GoAway(Last::None),
         ],
-        right: Right {
-            resets: &[0, 7, 8],
-            goaways: &[0],
-            goes_on: true,
-            need: Need::Nothing,
-        },
+        need: Need::CallElsewhere,
         ..PLAIN
     },
 ];

@@ -1,19 +1,31 @@
-//! The connections of a misbehaviour: the one that its steps are about, and those that are answered well beside it.
+//! The connections of a misbehaviour: the one that its steps are about, and those that are answered
+//! well beside it.
 
 ghost use Rattle.std.specs.Prelude.{◌≡◌};
 
-use crate::deeds::{Deeds, Wrong};
-use crate::line::World;
+use crate::breach::Breach;
+use crate::connection::open_calls;
+use crate::deeds::Deeds;
+use crate::halt::Halt;
+use crate::lack::{Lack, NO_CONNECTION, STRANGER};
+use crate::line::{Line, World};
 use crate::misbehaviour::{Misbehaviour, PLAIN};
 use crate::player::Player;
-use crate::verdict::{Why, judge};
-use std::alloc::Global;
+use crate::verdict::{Judgement, judge};
+use std::alloc::{AllocError, Global};
 
-/// For how many ticks nobody has to come before a client counts as gone.
-const GONE: u32 = 50;
+/// For how many milliseconds a client has to be away before it counts as gone, where it did all
+/// that is asked, and where not.
+const AWAY: u64 = 500;
 
-/// For how many ticks nothing has to come of a client that is done before it isn't waited for.
-const QUIET: u32 = 200;
+const GONE: u64 = 5_000;
+
+/// For how many milliseconds no call has to go on before a client that did all that is asked isn't
+/// watched any more.
+const QUIET: u64 = 2_000;
+
+/// The most connections beside the one that the steps are about. Later ones are ended at once.
+const MOST_OTHERS: usize = 100;
 
 /// A misbehaviour that is being played.
 #[derive(Drop)]
@@ -24,58 +36,79 @@ pub struct Host<W: World> {
     main: Option<Player<W::Line>>,
     /// The other connections.
     others: Vec<Player<W::Line>>,
-    /// For how many turns nothing has come.
-    quiet: u32,
-    wrong: Option<Wrong>,
+    /// What the client did that none may, or doesn't do though it has to.
+    breach: Option<Breach>,
+    lack: Option<Lack>,
+    /// Whether a connection came that isn't HTTP/2.
+    has_stranger: bool,
+    /// Whether a call came on another connection while one was open on the first.
+    has_overlap: bool,
+    /// The millisecond of the case in which a connection was last made.
+    admitted: u64,
+    /// How long the case took.
+    pub milliseconds: u64,
+    /// Whether time was over.
+    pub is_late: bool,
 }
 
 /// Plays a misbehaviour until the client has gone, or time is over.
-pub fn play_out<W: World>(alloc: Global, world: &mut W, play: &Misbehaviour) -> Host<W> {
+pub fn play_out<W: World>(
+    alloc: Global,
+    world: &mut W,
+    play: &Misbehaviour,
+) -> Result<Host<W>, AllocError> {
     let mut host = Host {
         alloc,
         play: *play,
         main: None,
         others: Vec::new(alloc),
-        quiet: 0,
-        wrong: None,
+        breach: None,
+        lack: None,
+        has_stranger: false,
+        has_overlap: false,
+        admitted: 0,
+        milliseconds: 0,
+        is_late: false,
     };
     for _ in 0..u64::MAX {
-        if let Err(wrong) = host.turn(world) {
-            host.wrong = Some(wrong);
-        }
-        if host.is_over() || world.is_over() {
+        host.milliseconds = world.milliseconds();
+        if host.is_over() {
             break;
         }
+        if world.is_over() {
+            host.is_late = true;
+            break;
+        }
+        host.turn(world)?;
     }
-    host
+    Ok(host)
 }
 
 impl<W: World> Host<W> {
     /// Takes what comes within a tick.
-    fn turn(&mut self, world: &mut W) -> Result<(), Wrong> {
+    fn turn(&mut self, world: &mut W) -> Result<(), AllocError> {
         if let Some(line) = world.accept() {
-            self.admit(line)?;
-            self.quiet = 0;
+            let admitted = self.admit(line);
+            self.heed(admitted)?;
         }
-        let has_come = self.turn_main()? | self.turn_others()?;
-        if has_come {
-            self.quiet = 0;
-            return Ok(());
-        }
-        self.quiet = self.quiet.saturating_add(1);
+        self.turn_main()?;
+        self.turn_others(world)?;
         if !self.is_connected() {
             world.rest();
         }
         Ok(())
     }
 
-    /// A connection was made. The steps are about the first one; about a later one where no call came on those before it.
-    fn admit(&mut self, line: W::Line) -> Result<(), Wrong> {
+    /// A connection was made. The steps are about the first one; about a later one where no call
+    /// came on those before it.
+    fn admit(&mut self, line: W::Line) -> Result<(), Halt> {
+        let now = self.milliseconds;
+        self.admitted = now;
         if self.is_wanted() {
-            let player = Player::new(self.alloc, line, &self.play)?;
+            let player = Player::new(self.alloc, line, &self.play, now)?;
             self.main = Some(player);
-        } else {
-            let player = Player::new(self.alloc, line, &PLAIN)?;
+        } else if self.others.len() < MOST_OTHERS {
+            let player = Player::new(self.alloc, line, &PLAIN, now)?;
             self.others.push(player)?;
         }
         Ok(())
@@ -91,21 +124,55 @@ impl<W: World> Host<W> {
         }
     }
 
-    fn turn_main(&mut self) -> Result<bool, Wrong> {
-        match &mut self.main {
-            Some(main) if main.connection.is_open => main.turn(),
-            _ => Ok(false),
+    /// Heeds why a connection goes no further.
+    fn heed(&mut self, turned: Result<(), Halt>) -> Result<(), AllocError> {
+        match turned {
+            Ok(()) => {}
+            Err(Halt::Broke(breach)) => self.breach = Some(breach),
+            Err(Halt::Lacks(lack)) => self.lack = Some(lack),
+            Err(Halt::Stranger) => self.has_stranger = true,
+            Err(Halt::OutOfMemory) => return Err(AllocError),
         }
+        Ok(())
     }
 
-    fn turn_others(&mut self) -> Result<bool, Wrong> {
-        let mut has_come = false;
-        for other in self.others.iter_mut() {
-            if other.connection.is_open && other.turn()? {
-                has_come = true;
+    fn turn_main(&mut self) -> Result<(), AllocError> {
+        let now = self.milliseconds;
+        let turned = match &mut self.main {
+            Some(main) if main.connection.is_open => turn_of(main, now),
+            _ => Ok(()),
+        };
+        self.heed(turned)
+    }
+
+    fn turn_others(&mut self, world: &W) -> Result<(), AllocError> {
+        let is_busy = self.is_main_busy();
+        for index in 0..self.others.len() {
+            if world.is_over() {
+                break;
             }
+            let Some(other) = self.others.get_mut(index) else {
+                break;
+            };
+            if !other.connection.is_open {
+                continue;
+            }
+            let calls = other.connection.calls.len();
+            let turned = turn_of(other, world.milliseconds());
+            let has_call = other.connection.calls.len() > calls;
+            self.has_overlap = self.has_overlap || is_busy && has_call;
+            self.heed(turned)?;
         }
-        Ok(has_come)
+        Ok(())
+    }
+
+    /// Whether a call is open on the first connection, where the SETTINGS hold with which it began.
+    fn is_main_busy(&self) -> bool {
+        match &self.main {
+            Some(main) => main.connection.rules.acks() > 0
+                && open_calls(main.connection.calls.as_slice()) > 0,
+            None => false,
+        }
     }
 
     /// Whether a connection is open.
@@ -122,55 +189,81 @@ impl<W: World> Host<W> {
 
     /// Whether nothing more is to be seen of the client.
     fn is_over(&self) -> bool {
-        if self.wrong.is_some() {
+        if self.breach.is_some() || self.lack.is_some() {
             return true;
         }
         let Some(main) = &self.main else {
             return false;
         };
-        let patience = if self.is_connected() { QUIET } else { GONE };
-        let is_done = !main.connection.is_open || main.connection.rules.is_past_fence();
-        is_done && self.quiet >= patience && !self.is_waited_for()
+        let judgement = self.judgement();
+        let is_owing = main.overdue().is_some() || main.is_stalled();
+        if is_owing && matches!(judgement, Judgement::Wrong(_)) {
+            return true;
+        }
+        let is_settled = !matches!(judgement, Judgement::Untested(_));
+        let idle = self.milliseconds.saturating_sub(self.stirred());
+        if is_settled {
+            return idle >= if self.is_connected() { QUIET } else { AWAY };
+        }
+        !self.is_connected() && idle >= GONE
     }
 
-    /// Whether the client may still do what it has to.
-    fn is_waited_for(&self) -> bool {
-        matches!(
-            self.verdict(),
-            Some(Why::NoSecondCall | Why::NoCall | Why::Stayed)
-        )
+    /// The millisecond of the case in which the client last did something of a call, or of
+    /// connections.
+    fn stirred(&self) -> u64 {
+        let mut last = self.admitted;
+        if let Some(main) = &self.main {
+            last = last.max(main.connection.stirred);
+        }
+        for other in &self.others {
+            last = last.max(other.connection.stirred);
+        }
+        last
     }
 
     /// What the client did.
     pub fn deeds(&self) -> Deeds {
         let calls_elsewhere = calls_of(self.others.as_slice());
-        match &self.main {
-            Some(main) => Deeds {
-                wrong: self.wrong,
-                is_played: main.is_played(),
-                reset: main.reset(),
-                goaway: main.connection.goaway,
-                has_left: !main.connection.is_open,
-                has_answered: main.connection.rules.is_past_fence(),
-                calls: main.connection.calls.len(),
+        let Some(main) = &self.main else {
+            return Deeds {
+                breach: self.breach,
+                lack: Some(Lack::Seen(NO_CONNECTION)),
                 calls_elsewhere,
-            },
-            None => Deeds {
-                wrong: self.wrong,
-                is_played: false,
-                reset: None,
-                goaway: None,
-                has_left: false,
-                has_answered: false,
-                calls: 0,
-                calls_elsewhere,
-            },
+                ..Deeds::NONE
+            };
+        };
+        let connection = &main.connection;
+        Deeds {
+            breach: self.breach,
+            overdue: main.overdue(),
+            lack: self.lack.or(self.stranger_only()),
+            is_shown: main.is_shown,
+            is_over: main.is_over(),
+            is_stalled: main.is_stalled(),
+            reset: main.reset(),
+            goaway: connection.goaway,
+            has_left: !connection.is_open,
+            has_read: main.has_read,
+            has_gone_on: main.has_gone_on(),
+            calls: connection.calls.len(),
+            calls_elsewhere,
+            has_overlap: self.has_overlap || connection.has_overlap,
+            awaited: main.awaited(),
         }
     }
 
-    /// Why what the client did isn't right, or nothing where it is.
-    pub fn verdict(&self) -> Option<Why> {
-        judge(&self.play.right, &self.deeds())
+    /// That nothing but strangers came.
+    fn stranger_only(&self) -> Option<Lack> {
+        if self.has_stranger && self.is_wanted() {
+            Some(Lack::Seen(STRANGER))
+        } else {
+            None
+        }
+    }
+
+    /// What is to be said of the client.
+    pub fn judgement(&self) -> Judgement {
+        judge(&self.play, &self.deeds())
     }
 
     /// What was sent, in words.
@@ -181,13 +274,29 @@ impl<W: World> Host<W> {
         }
     }
 
-    /// How many steps were done.
-    pub fn steps_done(&self) -> usize {
-        match &self.main {
-            Some(main) => main.progress().0,
-            None => 0,
+    /// How many bytes were read and written.
+    pub fn bytes(&self) -> (u64, u64) {
+        let mut read: u64 = 0;
+        let mut written: u64 = 0;
+        if let Some(main) = &self.main {
+            read = main.connection.bytes_read;
+            written = main.connection.bytes_written;
         }
+        for other in &self.others {
+            read = read.saturating_add(other.connection.bytes_read);
+            written = written.saturating_add(other.connection.bytes_written);
+        }
+        (read, written)
     }
+}
+
+/// Takes what comes on a connection within a tick. One that goes no further is left.
+fn turn_of<L: Line>(player: &mut Player<L>, now: u64) -> Result<(), Halt> {
+    let turned = player.turn(now);
+    if turned.is_err() {
+        player.connection.is_open = false;
+    }
+    turned
 }
 
 /// How many calls came on these connections.

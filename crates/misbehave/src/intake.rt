@@ -3,23 +3,30 @@
 ghost use Rattle.std.specs.Prelude.{◌≡◌, ◌<◌, ◌^◌};
 ghost use Rattle.h2frame.specs.declared.kind.FrameKind.TheVariants.{Headers};
 
-use crate::deeds::Wrong;
+use crate::breach::{FRAME_TOO_LONG, LOST_CONTINUATION, PUSHED, UNREADABLE_BLOCK};
+use crate::halt::Halt;
 use bytes::Bytes;
 use h2frame::{Flags, Frame, FrameKind, FrameReader, MAX_PAYLOAD, StreamId, increment};
 use hpack_codec::Decoder;
 use session::{HeaderBlock, Preface};
 use std::alloc::Global;
 
-/// The first byte of a header block that begins with a change of the table's size to 0 (RFC 7541, section 6.3).
+/// A header block of the newest entry of the dynamic table, whose index is 62 (RFC 7541, section
+/// 2.3.3).
+const NEWEST_ENTRY: &[u8] = &[0x80 | 62];
+
+/// The first byte of a header block that begins with a change of the table's size to 0 (RFC 7541,
+/// section 6.3).
 const NO_TABLE: u8 = 0x20;
 
 /// What a frame tells, or a header block.
 #[derive(Drop)]
 pub enum Told {
-    /// A whole header block of a stream; whether nothing follows on it; and whether it begins with the change of the
-    /// table's size to 0.
+    /// A whole header block of a stream; whether nothing follows on it; and whether it begins with
+    /// the change of the table's size to 0.
     Head(StreamId, bool, bool),
-    /// DATA of a stream, and whether nothing follows on it; and how many bytes count against the windows.
+    /// DATA of a stream, and whether nothing follows on it; and how many bytes count against the
+    /// windows.
     Data(StreamId, bool, u32, Bytes),
     /// RST_STREAM with a code.
     Reset(StreamId, u32),
@@ -61,14 +68,14 @@ impl Intake {
     }
 
     /// Takes what came.
-    pub fn feed(&mut self, piece: &[u8]) -> Result<(), Wrong> {
+    pub fn feed(&mut self, piece: &[u8]) -> Result<(), Halt> {
         let rest = self.preface.take(piece)?;
         self.reader.feed(rest)?;
         Ok(())
     }
 
     /// What is told next, if something is.
-    pub fn next(&mut self) -> Result<Option<Told>, Wrong> {
+    pub fn next(&mut self) -> Result<Option<Told>, Halt> {
         for _ in 0..u64::MAX {
             let Some(answer) = self.reader.next() else {
                 return Ok(None);
@@ -82,13 +89,14 @@ impl Intake {
     }
 
     /// What a frame tells.
-    fn take(&mut self, frame: Frame) -> Result<Option<Told>, Wrong> {
+    fn take(&mut self, frame: Frame) -> Result<Option<Told>, Halt> {
         if let Some(block) = self.block.take() {
             return self.go_on(block, &frame);
         }
         match frame.head.kind {
             FrameKind::Headers => self.begin(&frame),
-            FrameKind::PushPromise | FrameKind::Continuation => Err(Wrong::Framing),
+            FrameKind::PushPromise => Err(Halt::Broke(PUSHED)),
+            FrameKind::Continuation => Err(Halt::Broke(LOST_CONTINUATION)),
             FrameKind::Priority | FrameKind::Unknown(_) => Ok(None),
             FrameKind::Data | FrameKind::RstStream => Ok(told_of_stream(frame)),
             FrameKind::Settings | FrameKind::Ping | FrameKind::GoAway | FrameKind::WindowUpdate =>
@@ -96,26 +104,32 @@ impl Intake {
         }
     }
 
-    fn begin(&mut self, frame: &Frame) -> Result<Option<Told>, Wrong>
+    fn begin(&mut self, frame: &Frame) -> Result<Option<Told>, Halt>
         requires { frame.now.head.kind ≡ Headers }
     {
         if frame.content.len() > MAX_PAYLOAD as usize {
-            return Err(Wrong::Framing);
+            return Err(Halt::Broke(FRAME_TOO_LONG));
         }
         let block = HeaderBlock::begin(self.alloc, frame)?;
         self.keep(block)
     }
 
-    fn go_on(&mut self, mut block: HeaderBlock, frame: &Frame) -> Result<Option<Told>, Wrong> {
+    fn go_on(&mut self, mut block: HeaderBlock, frame: &Frame) -> Result<Option<Told>, Halt> {
         if block.is_whole() {
-            return Err(Wrong::HeaderBlock);
+            return Err(Halt::Broke(UNREADABLE_BLOCK));
         }
         block.add(frame)?;
         self.keep(block)
     }
 
+    /// Whether the client's header blocks have put an entry into the dynamic table. No block is
+    /// read afterwards.
+    pub fn has_entries(&mut self) -> bool {
+        self.decoder.block(NEWEST_ENTRY).is_ok()
+    }
+
     /// Reads a block that is whole, and keeps another.
-    fn keep(&mut self, block: HeaderBlock) -> Result<Option<Told>, Wrong> {
+    fn keep(&mut self, block: HeaderBlock) -> Result<Option<Told>, Halt> {
         if !block.is_whole() {
             self.block = Some(block);
             return Ok(None);

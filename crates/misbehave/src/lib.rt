@@ -1,37 +1,50 @@
 //! A server that misbehaves, for authors of clients.
 //!
-//! A misbehaviour is a short list of steps in a table: what the server sends and what it waits for, and what a right client
-//! may do then. `run` plays one of them, or all, against whatever client calls: the six of gRPC's negative HTTP/2 tests by
-//! their names and rules, and more. What a client did is seen on the wire.
+//! A misbehaviour is a short list of steps in a table: what the server sends and what it waits for,
+//! what the client is to do, and which sentence binds it then. `run` plays one of them, or all,
+//! against whatever client calls: the eight of gRPC's negative HTTP/2 tests by their names and
+//! rules, and more. What a client did is seen on the wire. A client is told as wrong only where a
+//! sentence forbids what it did, which is printed; and as not tested where it didn't do what the
+//! case needs.
 //!
-//! To add one, write its entry in `official`, `responses`, `framing`, `windows` or `closing`.
+//! To add one, write its entry in `official`, `responses`, `framing`, `windows` or `closing`, and
+//! its sentence in `sentences`.
 //!
-//! Read `step` and `misbehaviour` for what an entry says, then the tables; `deeds` and `verdict` for what is right; `intake`,
-//! `rules`, `call` and `connection` for the server's side of a connection; `frame_text` for how frames are written; `sending`
-//! and `player` for the steps; `line`, `host` and `port` for connections; `report` and `command` for what is printed and run.
+//! Read `step` and `misbehaviour` for what an entry says, then the tables; `breach` and `sentences`
+//! for what binds a client, `lack` for what a case needs of it, `deeds` and `verdict` for what is
+//! said of it; `intake`, `rules`, `call` and `connection` for the server's side of a connection,
+//! and `halt` for why it goes no further; `frame_text` for how frames are written; `fence`,
+//! `sending` and `player` for the steps; `line`, `host` and `port` for connections; `outcome`,
+//! `report` and `command` for what is printed and run.
 #![tactic(auto)]
 
+mod breach;
 mod call;
 mod closing;
 mod command;
 mod connection;
 mod deeds;
+mod fence;
 mod frame_text;
 mod framing;
+mod halt;
 mod host;
 mod intake;
+mod lack;
 mod line;
 mod misbehaviour;
 mod official;
+mod outcome;
 mod player;
 mod port;
 mod report;
 mod responses;
 mod rules;
 mod sending;
+mod sentences;
 mod step;
 mod table;
 mod verdict;
 mod windows;
 
-pub use command::{RunFault, list, run};
+pub use command::{Place, RunFault, list, run};

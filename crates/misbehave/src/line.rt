@@ -8,12 +8,15 @@ pub struct LineEnded;
 
 /// A connection's bytes.
 pub trait Line: Drop {
-    /// Reads some bytes into the front of `buf`, and answers how many, or nothing where none came within a tick.
+    /// Reads some bytes into the front of `buf`, and answers how many, or nothing where none came
+    /// within a tick.
     fn read(&mut self, buf: &mut [u8]) -> Result<Option<usize>, LineEnded>
         ensures { IfOk result (λ came. IfSome came (λ count. count ≤ length buf.new)) };
 
-    /// Writes all of the bytes.
-    fn write(&mut self, bytes: &[u8]) -> Result<(), LineEnded>;
+    /// Writes some of the bytes from the front, and answers how many: none where the client took
+    /// none within a tick.
+    fn write(&mut self, bytes: &[u8]) -> Result<usize, LineEnded>
+        ensures { IfOk result (λ count. count ≤ length bytes.now) };
 
     /// Ends this side of the connection: nothing more is written.
     fn shut(&mut self);
@@ -25,6 +28,9 @@ pub trait World {
 
     /// The next connection, if one was made.
     fn accept(&mut self) -> Option<Self::Line>;
+
+    /// How many milliseconds have passed since the case began.
+    fn milliseconds(&self) -> u64;
 
     /// Whether time is over.
     fn is_over(&self) -> bool;

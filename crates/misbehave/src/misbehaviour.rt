@@ -1,32 +1,58 @@
 //! A misbehaviour: what the server does, and what a right client does then.
 
-ghost use Rattle.std.specs.Prelude.{◌≡◌};
-
+use crate::sentences::Sentence;
 use crate::step::{Setting, Step};
 
-/// What a right client may do. What no list or mark allows is wrong.
+/// Which calls the client is to make.
 #[derive(Clone, Copy)]
-pub struct Right {
-    /// The codes with which it may reset the call's stream.
-    pub resets: &'static [u32],
-    /// The codes of the GOAWAY with which it may end the connection. Where there are some, it may end it without one, too.
-    pub goaways: &'static [u32],
-    /// Whether it may go on as if nothing had happened.
-    pub goes_on: bool,
-    /// What has to be seen of it besides.
-    pub need: Need,
+pub enum Calls {
+    One,
+    /// Two, one after another.
+    Two,
+    /// One, and then ten at once.
+    Eleven,
 }
 
-/// What has to be seen of a client.
+impl Calls {
+    /// What the client is told to do.
+    pub fn text(self) -> &'static str {
+        match self {
+            Calls::One => "call UnaryCall as large_unary does, wait for its end, and close the \
+                channel a second later",
+            Calls::Two => "call UnaryCall as large_unary does, wait for its end, a second later \
+                call it once more on the same channel, wait for its end, and close the channel",
+            Calls::Eleven => "call UnaryCall as large_unary does, wait for its end, call it ten \
+                times at once on the same channel, wait for their ends, and close the channel",
+        }
+    }
+}
+
+/// What a client may not do of the call that the steps are about, or has to do, and the sentence
+/// that says so.
+#[derive(Clone, Copy)]
+pub enum Duty {
+    /// No sentence says more than those that bind each client.
+    Free,
+    /// It may not give the call up by an error before its response has ended.
+    Completes(Sentence),
+    /// It has to end the stream, or the connection. The standard names the error of this code.
+    EndsStream(u32, Sentence),
+    /// It has to end the connection. The standard names the error of this code.
+    EndsConnection(u32, Sentence),
+}
+
+/// What has to be seen of a client before anything can be said of it.
 #[derive(Clone, Copy)]
 pub enum Need {
     Nothing,
-    /// A second call.
-    SecondCall,
-    /// A second call on another connection.
-    OtherConnection,
-    /// That it ends its side of the connection.
-    Leaving,
+    /// That it read the response.
+    Reading,
+    /// A call on another connection.
+    CallElsewhere,
+    /// A call while another was open.
+    CallsAtOnce,
+    /// That it noticed the end of the connection.
+    Sign,
 }
 
 /// A misbehaviour of the server.
@@ -35,7 +61,9 @@ pub struct Misbehaviour {
     pub name: &'static str,
     /// What the server does.
     pub does: &'static str,
-    /// What a right client does, and which section says so.
+    /// Which calls the client is to make.
+    pub calls: Calls,
+    /// What a right client does then, and which section says so.
     pub wants: &'static str,
     /// The parameters of the SETTINGS with which the connection begins.
     pub opening: &'static [Setting],
@@ -44,42 +72,20 @@ pub struct Misbehaviour {
     /// Whether a call's bytes are given back as they come, before a step says so.
     pub gives_back: bool,
     pub steps: &'static [Step],
-    pub right: Right,
+    pub duty: Duty,
+    pub need: Need,
 }
 
 /// A misbehaviour whose connection begins as a right one does, and which does nothing yet.
 pub const PLAIN: Misbehaviour = Misbehaviour {
     name: "",
     does: "",
+    calls: Calls::One,
     wants: "",
     opening: &[],
     acknowledges: true,
     gives_back: true,
     steps: &[],
-    right: GOES_ON,
+    duty: Duty::Free,
+    need: Need::Reading,
 };
-
-/// The call goes on to its end.
-pub const GOES_ON: Right = Right {
-    resets: &[],
-    goaways: &[],
-    goes_on: true,
-    need: Need::Nothing,
-};
-
-/// The call may end by an error of its own, and the connection goes on.
-pub const CALL_ENDS: Right = Right {
-    resets: CALL_CODES,
-    ..GOES_ON
-};
-
-/// An error of the stream, which may be treated as one of the connection (RFC 9113, section 5.4.1): PROTOCOL_ERROR.
-pub const MALFORMED: Right = Right {
-    resets: &[1],
-    goaways: &[1],
-    goes_on: false,
-    need: Need::Nothing,
-};
-
-/// The codes with which a client may reset a call whose answer is no good: NO_ERROR, PROTOCOL_ERROR, INTERNAL_ERROR and CANCEL.
-pub const CALL_CODES: &[u32] = &[0, 1, 2, 8];

@@ -1,32 +1,37 @@
-//! The misbehaviours of gRPC's own negative HTTP/2 tests, by their names and rules (gRPC, "Negative HTTP/2 Interop Test Case
-//! Descriptions").
+//! The misbehaviours of gRPC's own tests of clients, by their names and rules (gRPC, "Negative
+//! HTTP/2 Interop Test Case Descriptions").
 
-use crate::misbehaviour::{GOES_ON, Misbehaviour, Need, PLAIN, Right};
+use crate::misbehaviour::{Calls, Duty, Misbehaviour, Need, PLAIN};
 use crate::responses::{HEAD, OK};
+use crate::sentences::Sentence;
 use crate::step::{Last, Part, Step};
 
-pub static OFFICIAL: [Misbehaviour; 6] = [
+const RESET: &str =
+    "the call fails; it sends nothing more on its stream, no RST_STREAM either (RFC 9113, 5.4.2 \
+        and 6.4)";
+
+pub static OFFICIAL: [Misbehaviour; 8] = [
     Misbehaviour {
         name: "goaway",
-        does: "answers the first call well, behind a GOAWAY that names it as the last",
-        wants: "it reads the reply, opens no further stream there, and makes the next call on a new connection (RFC 9113, 6.8)",
+        does: "answers the first call well, after a GOAWAY that names it as the last",
+        calls: Calls::Two,
+        wants: "both calls go well, and the second comes on a new connection (RFC 9113, 6.8)",
         steps: &[
             Step::AwaitCall,
             Step::AwaitRequest,
             Step::GoAway(Last::ThisCall),
+            Step::AwaitReading,
             Step::Head(HEAD),
             Step::Reply(Part::Rest),
             Step::Trailers(OK),
         ],
-        right: Right {
-            need: Need::OtherConnection,
-            ..GOES_ON
-        },
+        duty: Duty::Completes(Sentence::BothCallsGoWell),
+        need: Need::CallElsewhere,
         ..PLAIN
     },
     Misbehaviour {
         name: "rst_after_header",
-        does: "resets the call with NO_ERROR behind its head",
+        does: "resets the call with NO_ERROR after its head",
         wants: RESET,
         steps: &[
             Step::AwaitCall,
@@ -38,7 +43,7 @@ pub static OFFICIAL: [Misbehaviour; 6] = [
     },
     Misbehaviour {
         name: "rst_during_data",
-        does: "resets the call with NO_ERROR behind half of its reply",
+        does: "resets the call with NO_ERROR after half of its reply",
         wants: RESET,
         steps: &[
             Step::AwaitCall,
@@ -51,7 +56,7 @@ pub static OFFICIAL: [Misbehaviour; 6] = [
     },
     Misbehaviour {
         name: "rst_after_data",
-        does: "resets the call with NO_ERROR behind its whole reply, in place of the trailers",
+        does: "resets the call with NO_ERROR after its whole reply, in place of the trailers",
         wants: RESET,
         steps: &[
             Step::AwaitCall,
@@ -74,30 +79,60 @@ pub static OFFICIAL: [Misbehaviour; 6] = [
             Step::Ping,
             Step::Head(HEAD),
             Step::Reply(Part::Pinged),
-            Step::Ping,
+            Step::AwaitReading,
             Step::Trailers(OK),
             Step::Ping,
             Step::AwaitPongs,
         ],
+        duty: Duty::Completes(Sentence::PingedCallGoesWell),
         ..PLAIN
     },
     Misbehaviour {
         name: "max_streams",
-        does: "allows one call at a time until two were answered, each after a while, and then a hundred",
-        wants: "it never has two calls open at once while one is allowed, and none fails (RFC 9113, 5.1.2)",
+        does: "allows one call at a time until two were answered, each after a while, and then a \
+            hundred",
+        calls: Calls::Eleven,
+        wants: "it never has two calls open on a connection while one is allowed, and all go well \
+            (RFC 9113, 5.1.2)",
         opening: &[(3, 1)],
         steps: &[
             Step::AnswerSlowly(2),
             Step::Settings(&[(3, 100)]),
             Step::AwaitAcks,
         ],
-        right: Right {
-            need: Need::SecondCall,
-            ..GOES_ON
-        },
+        duty: Duty::Completes(Sentence::AllCallsGoWell),
+        need: Need::CallsAtOnce,
+        ..PLAIN
+    },
+    Misbehaviour {
+        name: "data_frame_padding",
+        does: "answers well, in DATA frames of five bytes and 255 bytes of padding",
+        wants: "it gives credit for the padding too, and the call goes well (RFC 9113, 6.1 and \
+            6.9.1)",
+        steps: &[
+            Step::AwaitCall,
+            Step::AwaitRequest,
+            Step::Head(HEAD),
+            Step::Reply(Part::PaddedFives),
+            Step::AwaitReading,
+            Step::Trailers(OK),
+        ],
+        duty: Duty::Completes(Sentence::PaddedCallGoesWell),
+        ..PLAIN
+    },
+    Misbehaviour {
+        name: "no_df_padding_sanity_test",
+        does: "answers well, in DATA frames of five bytes, without padding",
+        wants: "the call goes well",
+        steps: &[
+            Step::AwaitCall,
+            Step::AwaitRequest,
+            Step::Head(HEAD),
+            Step::Reply(Part::Fives),
+            Step::AwaitReading,
+            Step::Trailers(OK),
+        ],
+        duty: Duty::Completes(Sentence::SmallFramesGoWell),
         ..PLAIN
     },
 ];
-
-const RESET: &str =
-    "the call fails; it sends nothing more on its stream, no RST_STREAM either, and the connection goes on (RFC 9113, 5.4.2)";

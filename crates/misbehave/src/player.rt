@@ -2,9 +2,13 @@
 
 ghost use Rattle.std.specs.Prelude.{◌≡◌, ◌<◌, ◌≤◌, ◌^◌, length};
 
+use crate::breach::{Breach, NO_SIZE_UPDATE};
 use crate::call::Call;
 use crate::connection::Connection;
-use crate::deeds::Wrong;
+use crate::deeds::Ending;
+use crate::fence::{Fence, SETTLING};
+use crate::halt::Halt;
+use crate::lack::{Lack, NO_ENTRIES, SHORT_REQUEST};
 use crate::line::Line;
 use crate::misbehaviour::Misbehaviour;
 use crate::rules::Rules;
@@ -12,11 +16,17 @@ use crate::sending;
 use crate::step::Step;
 use std::alloc::Global;
 
-/// For how many ticks a request has to be whole where calls are answered slowly.
-const SLOWLY: u32 = 10;
+/// For how many milliseconds a request has to be whole where calls are answered slowly.
+const SLOWLY: u64 = 100;
 
 /// The most pieces that are read before the player looks at other connections.
-const MOST_PIECES: usize = 64;
+const MOST_PIECES: usize = 16;
+
+/// After how many milliseconds without anything of a call the client is sent a PING, and after how
+/// many it is done with.
+const PROBED: u64 = 5_000;
+
+const STALLED: u64 = 10_000;
 
 /// A connection, and how far the steps were done on it.
 #[derive(Drop)]
@@ -27,28 +37,40 @@ pub struct Player<L> {
     done: usize,
     /// Which call they are about.
     current: Option<usize>,
-    /// For how many ticks nothing has come since the last step.
-    ticks: u32,
+    /// The millisecond of the case in which the last step was done.
+    since: u64,
     /// How many padded frames were sent.
     padded: u32,
-    /// Whether the PING behind the last step was sent.
-    has_fence: bool,
+    /// Whether the client has read what was sent.
+    fence: Fence,
+    /// Whether a step sent nothing, since the client had given the call up.
+    is_cut: bool,
+    /// Whether all that the server does wrong was sent, or the first frame of an odd reply.
+    pub is_shown: bool,
+    /// Whether a PING after that was answered.
+    pub has_read: bool,
+    /// The PING that was sent to a client that does nothing of a call.
+    probe: Option<u64>,
     /// What was sent, in words.
     pub log: String,
 }
 
 impl<L: Line> Player<L> {
     /// A connection that was just made.
-    pub fn new(alloc: Global, line: L, play: &Misbehaviour) -> Result<Player<L>, Wrong> {
+    pub fn new(alloc: Global, line: L, play: &Misbehaviour, now: u64) -> Result<Player<L>, Halt> {
         let rules = Rules::new(alloc, play.acknowledges, play.gives_back);
         Ok(Player {
-            connection: Connection::new(alloc, line, rules, play.opening)?,
+            connection: Connection::new(alloc, line, rules, play.opening, now)?,
             steps: play.steps,
             done: 0,
             current: None,
-            ticks: 0,
+            since: now,
             padded: 0,
-            has_fence: false,
+            fence: Fence::Open,
+            is_cut: false,
+            is_shown: false,
+            has_read: false,
+            probe: None,
             log: String::new(alloc),
         })
     }
@@ -58,50 +80,100 @@ impl<L: Line> Player<L> {
         self.done >= self.steps.len()
     }
 
-    /// How many steps were done, and how many there are.
-    pub fn progress(&self) -> (usize, usize) {
-        (self.done, self.steps.len())
+    /// Whether the client answered both PINGs after the last step.
+    pub fn has_gone_on(&self) -> bool {
+        self.connection.is_all_read
     }
 
-    /// The code with which the client reset the call that the steps are about, or any, where they are about all.
-    pub fn reset(&self) -> Option<u32> {
+    /// What the step waits for that isn't done.
+    pub fn awaited(&self) -> &'static str {
+        match self.steps.get(self.done) {
+            Some(step) => step.awaited(),
+            None => Step::AwaitReading.awaited(),
+        }
+    }
+
+    /// How the client reset the call that the steps are about, or any, where they are about all.
+    pub fn reset(&self) -> Option<Ending> {
         match self.current_call() {
             Some(call) => call.reset,
             None => self.connection.calls.iter().find_map(|call| call.reset),
         }
     }
 
-    /// Does what can be done, and takes what comes within a tick. Whether something came.
-    pub fn turn(&mut self) -> Result<bool, Wrong> {
-        let mut has_come = false;
+    /// Whether the server has said all of the call that the steps are about, or of all, where they
+    /// are about all.
+    pub fn is_over(&self) -> bool {
+        match self.current_call() {
+            Some(call) => call.is_over,
+            None => self
+                .connection
+                .calls
+                .iter()
+                .all(|call| call.is_over || call.reset.is_some()),
+        }
+    }
+
+    /// What the client has owed for a long time.
+    pub fn overdue(&self) -> Option<Breach> {
+        if !self.connection.is_open || self.connection.is_shut {
+            return None;
+        }
+        self.connection.rules.overdue(self.connection.now)
+    }
+
+    /// Whether the client has done nothing of a call for a long time, though it answers PINGs.
+    pub fn is_stalled(&self) -> bool {
+        match self.probe {
+            Some(number) => self.idle() >= STALLED && !self.connection.rules.is_waiting(number),
+            None => false,
+        }
+    }
+
+    /// For how many milliseconds neither a step was done nor a call went on.
+    fn idle(&self) -> u64 {
+        let since = self.connection.progressed.max(self.since);
+        self.connection.now.saturating_sub(since)
+    }
+
+    /// Does what can be done, and takes what comes within a tick.
+    pub fn turn(&mut self, now: u64) -> Result<(), Halt> {
+        self.connection.now = now;
         for _ in 0..MOST_PIECES {
             self.advance()?;
             self.connection.flush();
-            if !self.connection.is_open {
-                return Ok(has_come);
+            if !self.connection.is_open || !self.connection.pull()? {
+                break;
             }
-            if !self.connection.pull()? {
-                self.tick();
-                return Ok(has_come);
-            }
-            has_come = true;
-            self.ticks = 0;
         }
-        Ok(has_come)
+        self.look_at_requests();
+        self.send_probe()
     }
 
-    /// Nothing came for a tick.
-    fn tick(&mut self) {
-        self.ticks = self.ticks.saturating_add(1);
+    /// Notes when requests became whole.
+    fn look_at_requests(&mut self) {
+        let now = self.connection.now;
         for call in self.connection.calls.iter_mut() {
-            if call.is_whole {
-                call.waited = call.waited.saturating_add(1);
+            if call.is_whole && call.whole_at.is_none() {
+                call.whole_at = Some(now);
             }
         }
+    }
+
+    /// Sends a PING to a client that does nothing of a call that the server waits for.
+    fn send_probe(&mut self) -> Result<(), Halt> {
+        if self.idle() < PROBED {
+            self.probe = None;
+            return Ok(());
+        }
+        if self.probe.is_none() && !self.is_played() && self.connection.is_open {
+            self.probe = Some(self.connection.ping()?);
+        }
+        Ok(())
     }
 
     /// Does all steps that can be done, and answers all calls that no step is about.
-    fn advance(&mut self) -> Result<(), Wrong> {
+    fn advance(&mut self) -> Result<(), Halt> {
         let steps = self.steps;
         for _ in 0..steps.len() {
             let Some(step) = steps.get(self.done) else {
@@ -113,31 +185,33 @@ impl<L: Line> Player<L> {
             self.note(step)?;
         }
         if self.is_played() {
-            self.stand_behind()?;
+            self.stand_after()?;
         }
         Ok(())
     }
 
     /// A step was done.
-    fn note(&mut self, step: &Step) -> Result<(), Wrong> {
+    fn note(&mut self, step: &Step) -> Result<(), Halt> {
         let word = step.word();
-        if !word.is_empty() {
+        if !word.is_empty() && !self.is_cut {
             if !self.log.is_empty() {
                 self.log.push_str(", ")?;
             }
             self.log.push_str(word)?;
         }
         self.done = self.done.saturating_add(1);
-        self.ticks = 0;
+        self.since = self.connection.now;
+        self.fence = Fence::Open;
         Ok(())
     }
 
-    /// Behind the last step: a PING, and right answers.
-    fn stand_behind(&mut self) -> Result<(), Wrong> {
-        if !self.has_fence {
-            self.has_fence = true;
-            self.connection.ping()?;
-            self.connection.rules.fence();
+    /// After the last step: PINGs, and right answers.
+    fn stand_after(&mut self) -> Result<(), Halt> {
+        if !self.steps.is_empty() {
+            self.is_shown = self.is_shown || !self.is_cut;
+            if !self.connection.is_shut && self.is_read()? {
+                self.connection.is_all_read = true;
+            }
         }
         if self.connection.rules.has_goaway || self.connection.is_shut {
             return Ok(());
@@ -145,31 +219,66 @@ impl<L: Line> Player<L> {
         self.answer(0)
     }
 
-    /// Answers the calls that no step is about, once their requests have been whole for so many ticks.
-    fn answer(&mut self, ticks: u32) -> Result<(), Wrong> {
+    /// Whether the client has read all that was sent. What was sent up to the first question is the
+    /// misbehaviour.
+    fn is_read(&mut self) -> Result<bool, Halt> {
+        self.is_shown = self.is_shown || !self.is_cut;
+        match self.fence {
+            Fence::Open => self.fence = Fence::First(self.connection.ping()?),
+            Fence::First(number) => {
+                if !self.connection.rules.is_waiting(number) {
+                    self.has_read = true;
+                    self.fence = Fence::Answered(self.connection.now);
+                }
+            }
+            Fence::Answered(at) => {
+                if self.connection.now.saturating_sub(at) >= SETTLING {
+                    self.fence = Fence::Second(self.connection.ping()?);
+                }
+            }
+            Fence::Second(number) => {
+                if !self.connection.rules.is_waiting(number) {
+                    self.fence = Fence::Past;
+                    self.connection.mark_read();
+                }
+            }
+            Fence::Past => {}
+        }
+        Ok(matches!(self.fence, Fence::Past))
+    }
+
+    /// Answers the calls that no step is about, once their requests have been whole for so many
+    /// milliseconds.
+    fn answer(&mut self, milliseconds: u64) -> Result<(), Halt> {
         for index in 0..self.connection.calls.len() {
-            if self.is_due(index, ticks) {
+            if self.is_due(index, milliseconds) {
                 sending::answer(&mut self.connection, index)?;
             }
         }
         Ok(())
     }
 
-    fn is_due(&self, index: usize, ticks: u32) -> bool {
-        match self.connection.calls.as_slice().get(index) {
-            Some(call) => {
-                !call.is_played
-                    && call.is_whole
-                    && !call.is_over
-                    && call.reset.is_none()
-                    && call.waited >= ticks
-            }
+    fn is_due(&self, index: usize, milliseconds: u64) -> bool {
+        let Some(call) = self.connection.calls.as_slice().get(index) else {
+            return false;
+        };
+        let is_free = !call.is_played && !call.is_over && call.reset.is_none();
+        is_free && self.has_been_whole(call, milliseconds)
+    }
+
+    /// Whether a request has been whole for so many milliseconds.
+    fn has_been_whole(&self, call: &Call, milliseconds: u64) -> bool {
+        if milliseconds == 0 {
+            return call.is_whole;
+        }
+        match call.whole_at {
+            Some(at) => self.connection.now.saturating_sub(at) >= milliseconds,
             None => false,
         }
     }
 
     /// Does a step, or a part of it. Whether it was done.
-    fn is_done(&mut self, step: &Step) -> Result<bool, Wrong> {
+    fn is_done(&mut self, step: &Step) -> Result<bool, Halt> {
         match step {
             Step::AwaitCall => Ok(self.await_call()),
             Step::AwaitUpdatedCall => self.await_updated_call(),
@@ -180,7 +289,9 @@ impl<L: Line> Player<L> {
             Step::AwaitBytes(count) => self.await_bytes(*count),
             Step::AwaitAcks => Ok(self.connection.rules.is_acknowledged()),
             Step::AwaitPongs => Ok(self.connection.rules.is_answered()),
-            Step::Pause(ticks) => Ok(self.ticks >= *ticks),
+            Step::AwaitReading => self.is_read(),
+            Step::Pause(length) => Ok(self.connection.now.saturating_sub(self.since) >= *length),
+            Step::Unfinished => self.is_unfinished(),
             Step::AnswerSlowly(count) => {
                 self.answer(SLOWLY)?;
                 Ok(self.answered() >= *count)
@@ -194,7 +305,7 @@ impl<L: Line> Player<L> {
     }
 
     /// Does a step that sends something.
-    fn is_sent(&mut self, step: &Step) -> Result<bool, Wrong> {
+    fn is_sent(&mut self, step: &Step) -> Result<bool, Halt> {
         match step {
             Step::Settings(settings) => {
                 self.connection.set(settings)?;
@@ -206,15 +317,33 @@ impl<L: Line> Player<L> {
             }
             Step::Close => {
                 self.connection.shut();
-                self.has_fence = true;
                 Ok(true)
             }
-            _ => {
-                let Some(index) = self.current else {
-                    return Ok(true);
-                };
-                sending::is_sent(&mut self.connection, index, &mut self.padded, step)
-            }
+            _ => self.is_sent_of_call(step),
+        }
+    }
+
+    /// Does a step that sends something of the call. Nothing is sent of a call that the client has
+    /// given up.
+    fn is_sent_of_call(&mut self, step: &Step) -> Result<bool, Halt> {
+        let Some(index) = self.current else {
+            return Ok(true);
+        };
+        if self.reset().is_some() {
+            self.is_cut = true;
+            return Ok(true);
+        }
+        if let Step::Reply(part) = step {
+            self.is_shown = self.is_shown || part.is_odd() && !self.is_cut;
+        }
+        sending::is_sent(&mut self.connection, index, &mut self.padded, step)
+    }
+
+    /// Whether the request goes on still, as it has to.
+    fn is_unfinished(&self) -> Result<bool, Halt> {
+        match self.current_call() {
+            Some(call) if call.is_whole => Err(Halt::Lacks(Lack::Seen(SHORT_REQUEST))),
+            _ => Ok(true),
         }
     }
 
@@ -237,19 +366,20 @@ impl<L: Line> Player<L> {
         true
     }
 
-    /// Whether a call came behind the acknowledgement of all SETTINGS that were sent.
-    fn await_updated_call(&mut self) -> Result<bool, Wrong> {
+    /// Whether a call came after the acknowledgement of all SETTINGS that were sent.
+    fn await_updated_call(&mut self) -> Result<bool, Halt> {
         let acks = self.connection.rules.acks();
         let mut calls = self.connection.calls.iter();
         match calls.find(|call| !call.is_played && call.acks >= acks) {
             Some(call) if call.is_updated => Ok(true),
-            Some(_) => Err(Wrong::NoSizeUpdate),
+            Some(_) if self.connection.intake.has_entries() => Err(Halt::Broke(NO_SIZE_UPDATE)),
+            Some(_) => Err(Halt::Lacks(Lack::Seen(NO_ENTRIES))),
             None => Ok(false),
         }
     }
 
     /// Whether so many bytes came of the call.
-    fn await_bytes(&self, count: usize) -> Result<bool, Wrong> {
+    fn await_bytes(&self, count: usize) -> Result<bool, Halt> {
         let Some(call) = self.current_call() else {
             return Ok(true);
         };
@@ -257,7 +387,7 @@ impl<L: Line> Player<L> {
             return Ok(true);
         }
         if call.is_whole {
-            return Err(Wrong::ShortRequest);
+            return Err(Halt::Lacks(Lack::Seen(SHORT_REQUEST)));
         }
         Ok(false)
     }

@@ -1,100 +1,226 @@
-//! What is printed of a misbehaviour.
+//! What is printed of a misbehaviour: before the client comes, and once it was judged.
 
 ghost use Rattle.std.specs.Prelude.{◌≡◌};
 
-use crate::deeds::Deeds;
+use crate::deeds::{Deeds, Ending};
 use crate::host::Host;
+use crate::lack::Lack;
 use crate::line::World;
-use crate::misbehaviour::Misbehaviour;
-use crate::verdict::Why;
+use crate::misbehaviour::{Duty, Misbehaviour};
+use crate::outcome::{Outcome, Rule, Tally};
+use crate::verdict::{Fault, Judgement};
 use figures::error_name;
 use std::alloc::{AllocError, Global};
+
+/// PROTOCOL_ERROR and INTERNAL_ERROR, which may stand for any other error (RFC 9113, section 5.4).
+const GENERIC: &[u32] = &[1, 2];
 
 /// The name of an error code, as a sentence has it.
 fn error_text(code: u32) -> &'static str {
     error_name(code).unwrap_or("an unknown error")
 }
 
-/// The lines that tell what was done, what is right, what the client did, and whether that is right.
-pub fn lines_of<W: World>(
+/// What the server does, what the client is to do, and what is right then.
+pub fn push_heading(text: &mut String, play: &Misbehaviour) -> Result<(), AllocError> {
+    let Misbehaviour {
+        name,
+        does,
+        calls,
+        wants,
+        ..
+    } = *play;
+    let client = calls.text();
+    writeln!(text, "{name}: the server {does}")?;
+    writeln!(text, "  client: {client}")?;
+    writeln!(text, "  right: {wants}")
+}
+
+/// What came of a misbehaviour that was played.
+pub fn outcome_of<W: World>(
     alloc: Global,
     play: &Misbehaviour,
     host: &Host<W>,
-) -> Result<String, AllocError> {
-    let mut text = String::new(alloc);
-    let name = play.name;
-    let does = play.does;
-    let wants = play.wants;
-    let log = host.log();
-    writeln!(text, "{name}: the server {does}")?;
-    writeln!(text, "  sent: {log}")?;
-    writeln!(text, "  right: {wants}")?;
-    text.push_str("  client: ")?;
-    push_deeds(&mut text, &host.deeds())?;
-    text.push_str("\n")?;
-    push_verdict(&mut text, name, host.verdict())?;
-    Ok(text)
+) -> Result<Outcome, AllocError> {
+    let deeds = host.deeds();
+    let judgement = host.judgement();
+    let mut came = String::new(alloc);
+    push_deeds(&mut came, named_error(play.duty), &deeds)?;
+    if host.is_late {
+        came.push_str("; time was over")?;
+    }
+    let mut reason = String::new(alloc);
+    let mut rule = None;
+    match judgement {
+        Judgement::Right => {}
+        Judgement::Wrong(fault) => {
+            push_fault(&mut reason, &fault, &deeds)?;
+            rule = Some(fault.rule());
+        }
+        Judgement::Untested(lack) => push_lack(&mut reason, lack, play)?,
+    }
+    let (bytes_read, bytes_written) = host.bytes();
+    Ok(Outcome {
+        name: play.name,
+        verdict: judgement.verdict(),
+        rule,
+        wanted: play.wants,
+        came,
+        reason,
+        milliseconds: host.milliseconds,
+        tries: 1,
+        bytes_read,
+        bytes_written,
+    })
 }
 
-/// What a client did, in words.
-fn push_deeds(text: &mut String, deeds: &Deeds) -> Result<(), AllocError> {
+/// The error that the standard names for a misbehaviour.
+fn named_error(duty: Duty) -> Option<u32> {
+    match duty {
+        Duty::EndsStream(code, _) | Duty::EndsConnection(code, _) => Some(code),
+        _ => None,
+    }
+}
+
+/// What was sent, what the client did, and last the line of the verdict.
+pub fn push_outcome(text: &mut String, sent: &str, outcome: &Outcome) -> Result<(), AllocError> {
+    let came = outcome.came.as_str();
+    writeln!(text, "  sent: {sent}")?;
+    writeln!(text, "  came: {came}")?;
+    let milliseconds = outcome.milliseconds;
+    let read = outcome.bytes_read;
+    let written = outcome.bytes_written;
+    writeln!(
+        text,
+        "  took: {milliseconds} ms, {read} bytes read, {written} written"
+    )?;
+    if let Some(rule) = outcome.rule {
+        push_rule(text, rule)?;
+    }
+    let name = outcome.name;
+    let verdict = outcome.verdict.text();
+    write!(text, "{name} {verdict}")?;
+    if !outcome.reason.is_empty() {
+        let reason = outcome.reason.as_str();
+        write!(text, ": {reason}")?;
+    }
+    text.push_str("\n")
+}
+
+fn push_rule(text: &mut String, rule: Rule) -> Result<(), AllocError> {
+    let Rule {
+        standard,
+        section,
+        sentence,
+    } = rule;
+    writeln!(text, "  rule: {standard}, {section}: \"{sentence}\"")
+}
+
+/// How many cases ended in which way.
+pub fn push_tally(text: &mut String, tally: Tally) -> Result<(), AllocError> {
+    let Tally {
+        ok,
+        failed,
+        not_tested,
+    } = tally;
+    writeln!(
+        text,
+        "misbehave: {ok} ok, {failed} failed, {not_tested} not tested"
+    )
+}
+
+/// What a client did, in words. The standard may name the error for it.
+fn push_deeds(text: &mut String, named: Option<u32>, deeds: &Deeds) -> Result<(), AllocError> {
     let calls = deeds.calls;
     let elsewhere = deeds.calls_elsewhere;
+    let noun = if calls == 1 { "call" } else { "calls" };
     write!(
         text,
-        "made {calls} calls on the connection and {elsewhere} on others"
+        "{calls} {noun} on the connection and {elsewhere} on others"
     )?;
-    if let Some(code) = deeds.reset {
-        let error = error_text(code);
-        write!(text, ", reset the call with {error}")?;
+    if let Some(reset) = deeds.reset {
+        text.push_str(", RST_STREAM of the call with ")?;
+        push_error(text, reset.code, named)?;
     }
-    if let Some(code) = deeds.goaway {
-        let error = error_text(code);
-        write!(text, ", sent GOAWAY with {error}")?;
+    if let Some(goaway) = deeds.goaway {
+        text.push_str(", GOAWAY with ")?;
+        push_error(text, goaway.code, named)?;
     }
-    if deeds.has_answered {
-        text.push_str(", answered the PING behind the last step")?;
+    if deeds.has_gone_on {
+        text.push_str(", answers of the PINGs after the last step")?;
     }
     if deeds.has_left {
-        text.push_str(", ended the connection")?;
+        text.push_str(", the end of the connection")?;
     }
     Ok(())
 }
 
-/// `NAME ok`, or `NAME failed` and why.
-fn push_verdict(text: &mut String, name: &str, verdict: Option<Why>) -> Result<(), AllocError> {
-    let Some(why) = verdict else {
-        return writeln!(text, "{name} ok");
+/// An error, and which the standard names where that is another.
+fn push_error(text: &mut String, code: u32, named: Option<u32>) -> Result<(), AllocError> {
+    text.push_str(error_text(code))?;
+    let Some(other) = named else {
+        return Ok(());
     };
-    write!(text, "{name} failed ")?;
-    push_why(text, why)?;
-    text.push_str("\n")
+    if other == code {
+        return Ok(());
+    }
+    let other = error_text(other);
+    write!(text, " (the standard names {other}")?;
+    if GENERIC.contains(&code) {
+        text.push_str(", for which a generic error may stand: RFC 9113, 5.4")?;
+    }
+    text.push_str(")")
 }
 
-fn push_why(text: &mut String, why: Why) -> Result<(), AllocError> {
-    match why {
-        Why::Wrong(wrong) => text.push_str(wrong.text()),
-        Why::GoAway(code) => {
-            let error = error_text(code);
-            write!(text, "it sent GOAWAY with {error}")
+/// What a client did wrong.
+fn push_fault(text: &mut String, fault: &Fault, deeds: &Deeds) -> Result<(), AllocError> {
+    match fault {
+        Fault::Breach(breach) => text.push_str(breach.deed),
+        Fault::GaveUp(ending, _) => {
+            push_ending(text, ending)?;
+            text.push_str(" before its response had ended")
         }
-        Why::Reset(code) => {
-            let error = error_text(code);
-            write!(text, "it reset the call with {error}")
+        Fault::Stalled(_) => {
+            let awaited = deeds.awaited;
+            write!(
+                text,
+                "for 10 seconds the server waited for {awaited}, while it answered PINGs"
+            )
         }
-        Why::NoCall => text.push_str("no call came"),
-        Why::LeftEarly => text.push_str("it ended the connection before the last step"),
-        Why::Stalled => text.push_str("time was over before the last step"),
-        Why::WentOn => text.push_str("it went on as if nothing had happened"),
-        Why::Silent => text.push_str("it didn't answer the PING behind the last step"),
-        Why::NoSecondCall => text.push_str("the next call that it has to make didn't come"),
-        Why::Stayed => text.push_str("it didn't end its side of the connection"),
+        Fault::KeptStream(_) => text.push_str(
+            "it went on, and neither reset the call nor ended the connection",
+        ),
+        Fault::KeptConnection(_) => text.push_str("it went on, and didn't end the connection"),
     }
 }
 
-/// The line of a misbehaviour in the list.
-pub fn push_listed(text: &mut String, play: &Misbehaviour) -> Result<(), AllocError> {
-    let name = play.name;
-    let does = play.does;
-    writeln!(text, "{name}: {does}")
+/// How a client gave a call up.
+fn push_ending(text: &mut String, ending: &Ending) -> Result<(), AllocError> {
+    let error = error_text(ending.code);
+    if ending.is_goaway {
+        write!(text, "it ended the connection by GOAWAY with {error}")
+    } else {
+        write!(text, "it reset the call with {error}")
+    }
+}
+
+/// What a client didn't do, and what it has to do.
+fn push_lack(text: &mut String, lack: Lack, play: &Misbehaviour) -> Result<(), AllocError> {
+    match lack {
+        Lack::Seen(shortfall) => {
+            let seen = shortfall.seen;
+            let todo = shortfall.todo;
+            write!(text, "{seen}: {todo}")
+        }
+        Lack::GaveUp(ending) => {
+            push_ending(text, &ending)?;
+            text.push_str(
+                ", maybe of its own accord: let the call end by itself, with a deadline of 20 \
+                    seconds at least",
+            )
+        }
+        Lack::Awaited(awaited) => {
+            let client = play.calls.text();
+            write!(text, "the server waited in vain for {awaited}: {client}")
+        }
+    }
 }

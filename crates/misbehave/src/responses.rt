@@ -1,6 +1,7 @@
 //! Misbehaviours in what a call is answered: its head, its messages and its trailers.
 
-use crate::misbehaviour::{CALL_ENDS, MALFORMED, Misbehaviour, PLAIN};
+use crate::misbehaviour::{Duty, Misbehaviour, Need, PLAIN};
+use crate::sentences::Sentence;
 use crate::step::{Pair, Part, Step};
 
 /// The head of a right response.
@@ -10,16 +11,18 @@ pub const HEAD: &[Pair] = &[(":status", "200"), ("content-type", "application/gr
 pub const OK: &[Pair] = &[("grpc-status", "0")];
 
 const CALL_FAILS: &str =
-    "the call fails with UNKNOWN, and the connection goes on (gRPC over HTTP/2, \"Responses\")";
+    "the call fails with a status that the client makes up (gRPC over HTTP/2, \"Responses\")";
 
 const INTERNAL: &str =
-    "the call fails with INTERNAL, and the connection goes on (gRPC over HTTP/2, \"Length-Prefixed-Message\")";
+    "the call fails; INTERNAL fits (gRPC over HTTP/2, \"Requests\": Length-Prefixed-Message)";
 
 const HTTP_STATUS: &str =
-    "the call fails with the status that the HTTP status means (404 UNIMPLEMENTED, 503 UNAVAILABLE, others UNKNOWN), and the connection goes on (gRPC, \"HTTP to gRPC Status Code Mapping\")";
+    "the call fails with the status that the HTTP status means (404 UNIMPLEMENTED, 503 \
+        UNAVAILABLE, 200 UNKNOWN; gRPC, \"HTTP to gRPC Status Code Mapping\")";
 
 const GIVEN_STATUS: &str =
-    "the call ends with the given grpc-status, whatever the HTTP status, and the connection goes on (gRPC, \"HTTP to gRPC Status Code Mapping\")";
+    "the call ends with the given grpc-status, whatever the HTTP status (gRPC, \"HTTP to gRPC \
+        Status Code Mapping\")";
 
 pub static RESPONSES: [Misbehaviour; 18] = [
     Misbehaviour {
@@ -33,21 +36,20 @@ pub static RESPONSES: [Misbehaviour; 18] = [
             Step::Reply(Part::Rest),
             Step::Trailers(&[("x-trailer", "1")]),
         ],
-        right: CALL_ENDS,
         ..PLAIN
     },
     Misbehaviour {
         name: "no_content_type",
         does: "answers well, but for a head without content-type",
-        wants: "the call ends well, or fails; the connection goes on (gRPC over HTTP/2, \"Responses\")",
+        wants: "the call ends well, or fails (gRPC over HTTP/2, \"Responses\")",
         steps: &[
             Step::AwaitCall,
             Step::AwaitRequest,
             Step::Head(&[(":status", "200")]),
+            Step::AwaitReading,
             Step::Reply(Part::Rest),
             Step::Trailers(OK),
         ],
-        right: CALL_ENDS,
         ..PLAIN
     },
     Misbehaviour {
@@ -59,7 +61,6 @@ pub static RESPONSES: [Misbehaviour; 18] = [
             Step::AwaitRequest,
             Step::Trailers(&[(":status", "404"), ("content-type", "text/html")]),
         ],
-        right: CALL_ENDS,
         ..PLAIN
     },
     Misbehaviour {
@@ -75,7 +76,6 @@ pub static RESPONSES: [Misbehaviour; 18] = [
                 ("grpc-status", "5"),
             ]),
         ],
-        right: CALL_ENDS,
         ..PLAIN
     },
     Misbehaviour {
@@ -83,7 +83,6 @@ pub static RESPONSES: [Misbehaviour; 18] = [
         does: "answers by :status 200 alone",
         wants: HTTP_STATUS,
         steps: &[Step::AwaitCall, Step::AwaitRequest, Step::Trailers(HEAD)],
-        right: CALL_ENDS,
         ..PLAIN
     },
     Misbehaviour {
@@ -99,7 +98,6 @@ pub static RESPONSES: [Misbehaviour; 18] = [
                 ("grpc-status", "5"),
             ]),
         ],
-        right: CALL_ENDS,
         ..PLAIN
     },
     Misbehaviour {
@@ -111,7 +109,6 @@ pub static RESPONSES: [Misbehaviour; 18] = [
             Step::AwaitRequest,
             Step::Trailers(&[(":status", "503"), ("content-type", "text/html")]),
         ],
-        right: CALL_ENDS,
         ..PLAIN
     },
     Misbehaviour {
@@ -127,13 +124,13 @@ pub static RESPONSES: [Misbehaviour; 18] = [
                 ("grpc-status", "5"),
             ]),
         ],
-        right: CALL_ENDS,
         ..PLAIN
     },
     Misbehaviour {
         name: "trailers_without_end_stream",
-        does: "ends a good reply with trailers that lack END_STREAM, and with nothing behind them",
-        wants: "the response is malformed: RST_STREAM, or an end of the connection, with PROTOCOL_ERROR (RFC 9113, 8.1 and 8.1.1)",
+        does: "ends a good reply with trailers that lack END_STREAM, and with nothing after them",
+        wants: "the response is malformed: it resets the call, or ends the connection (RFC 9113, \
+            8.1, 8.1.1 and 5.4)",
         steps: &[
             Step::AwaitCall,
             Step::AwaitRequest,
@@ -141,13 +138,15 @@ pub static RESPONSES: [Misbehaviour; 18] = [
             Step::Reply(Part::Rest),
             Step::Head(OK),
         ],
-        right: MALFORMED,
+        duty: Duty::EndsStream(1, Sentence::UnendedTrailers),
+        need: Need::Nothing,
         ..PLAIN
     },
     Misbehaviour {
         name: "upper_case_head",
         does: "answers well, but for a head with a name in upper case",
-        wants: "the response is malformed: RST_STREAM, or an end of the connection, with PROTOCOL_ERROR (RFC 9113, 8.2.1 and 8.1.1)",
+        wants: "the response is malformed: it resets the call, or ends the connection (RFC 9113, \
+            8.2.1, 8.1.1 and 5.4)",
         steps: &[
             Step::AwaitCall,
             Step::AwaitRequest,
@@ -156,15 +155,18 @@ pub static RESPONSES: [Misbehaviour; 18] = [
                 ("content-type", "application/grpc"),
                 ("X-Upper", "1"),
             ]),
+            Step::AwaitReading,
             Step::Reply(Part::Rest),
             Step::Trailers(OK),
         ],
-        right: MALFORMED,
+        duty: Duty::EndsStream(1, Sentence::UpperCase),
+        need: Need::Nothing,
         ..PLAIN
     },
     Misbehaviour {
         name: "flag_1_without_encoding",
-        does: "answers with a message whose flag says that it is compressed, though no encoding was said",
+        does: "answers with a message whose flag says that it is compressed, though no encoding \
+            was said",
         wants: INTERNAL,
         steps: &[
             Step::AwaitCall,
@@ -173,7 +175,6 @@ pub static RESPONSES: [Misbehaviour; 18] = [
             Step::Data(b"\x01\x00\x00\x00\x02\x0a\x00"),
             Step::Trailers(OK),
         ],
-        right: CALL_ENDS,
         ..PLAIN
     },
     Misbehaviour {
@@ -187,12 +188,12 @@ pub static RESPONSES: [Misbehaviour; 18] = [
             Step::Data(b"\x07\x00\x00\x00\x02\x0a\x00"),
             Step::Trailers(OK),
         ],
-        right: CALL_ENDS,
         ..PLAIN
     },
     Misbehaviour {
         name: "prefix_says_more",
-        does: "answers with a message whose prefix says 100 bytes, and with two of them before good trailers",
+        does: "answers with a message whose prefix says 100 bytes, and with two of them before \
+            good trailers",
         wants: INTERNAL,
         steps: &[
             Step::AwaitCall,
@@ -201,12 +202,12 @@ pub static RESPONSES: [Misbehaviour; 18] = [
             Step::Data(b"\x00\x00\x00\x00\x64\x0a\x00"),
             Step::Trailers(OK),
         ],
-        right: CALL_ENDS,
         ..PLAIN
     },
     Misbehaviour {
         name: "prefix_says_less",
-        does: "answers with a message whose prefix says two bytes, and with six bytes before good trailers",
+        does: "answers with a message whose prefix says two bytes, and with six bytes before good \
+            trailers",
         wants: INTERNAL,
         steps: &[
             Step::AwaitCall,
@@ -215,13 +216,12 @@ pub static RESPONSES: [Misbehaviour; 18] = [
             Step::Data(b"\x00\x00\x00\x00\x02\x0a\x00\x0a\x00\x0a\x00"),
             Step::Trailers(OK),
         ],
-        right: CALL_ENDS,
         ..PLAIN
     },
     Misbehaviour {
         name: "percent_broken",
         does: "ends the call with status 2 and a grpc-message with broken escapes",
-        wants: "the call ends with UNKNOWN and some text, and the connection goes on (gRPC over HTTP/2, \"Responses\")",
+        wants: "the call ends with UNKNOWN and some text (gRPC over HTTP/2, \"Responses\")",
         steps: &[
             Step::AwaitCall,
             Step::AwaitRequest,
@@ -232,13 +232,12 @@ pub static RESPONSES: [Misbehaviour; 18] = [
                 ("grpc-message", "100% of %zz %4"),
             ]),
         ],
-        right: CALL_ENDS,
         ..PLAIN
     },
     Misbehaviour {
         name: "bin_not_base64",
         does: "ends a good reply with trailers in which the value of x-test-bin is no base64",
-        wants: "the call ends, and the connection goes on (gRPC over HTTP/2, \"Requests\": Binary-Header)",
+        wants: "the call ends (gRPC over HTTP/2, \"Requests\": Binary-Header)",
         steps: &[
             Step::AwaitCall,
             Step::AwaitRequest,
@@ -246,7 +245,6 @@ pub static RESPONSES: [Misbehaviour; 18] = [
             Step::Reply(Part::Rest),
             Step::Trailers(&[("grpc-status", "0"), ("x-test-bin", "!?*=not base64")]),
         ],
-        right: CALL_ENDS,
         ..PLAIN
     },
     Misbehaviour {
@@ -257,14 +255,16 @@ pub static RESPONSES: [Misbehaviour; 18] = [
             Step::AwaitCall,
             Step::AwaitRequest,
             Step::Continued(HEAD),
+            Step::AwaitReading,
             Step::Reply(Part::Rest),
             Step::Trailers(OK),
         ],
+        duty: Duty::Completes(Sentence::Continuations),
         ..PLAIN
     },
     Misbehaviour {
         name: "interim_heads",
-        does: "answers well, behind three heads of status 100 and 103",
+        does: "answers well, after three heads of status 100 and 103",
         wants: "the call goes well (RFC 9113, 8.1; RFC 9110, 15.2)",
         steps: &[
             Step::AwaitCall,
@@ -272,10 +272,12 @@ pub static RESPONSES: [Misbehaviour; 18] = [
             Step::Head(&[(":status", "100")]),
             Step::Head(&[(":status", "103"), ("link", "</a>")]),
             Step::Head(&[(":status", "103")]),
+            Step::AwaitReading,
             Step::Head(HEAD),
             Step::Reply(Part::Rest),
             Step::Trailers(OK),
         ],
+        duty: Duty::Completes(Sentence::InterimHeads),
         ..PLAIN
     },
 ];

@@ -1,8 +1,9 @@
-//! What the client may send, by what it was told: SETTINGS, GOAWAY and PINGs.
+//! What the client may send, by what it was told: SETTINGS, GOAWAY and PINGs; and what it owes.
 
-ghost use Rattle.std.specs.Prelude.{◌≡◌, ◌≤◌, ◌<◌, Contains, OnOk};
+ghost use Rattle.std.specs.Prelude.{◌≡◌, ◌≤◌, ◌<◌, false, OnOk};
 
-use crate::deeds::Wrong;
+use crate::breach::{Breach, CALL_AFTER_GOAWAY, NO_ACK, NO_PONG, OTHER_PONG, TOO_MANY_CALLS};
+use crate::halt::Halt;
 use crate::step::Setting;
 use std::alloc::Global;
 use std::collections::VecDeque;
@@ -12,8 +13,26 @@ const MAX_CALLS: u16 = 3;
 
 const INITIAL_WINDOW: u16 = 4;
 
-/// What the client may send. Parameters that allow more hold once they are sent, those that allow less once they are
-/// acknowledged: until then the client may not know of them.
+/// After how many milliseconds an answer is overdue. A client that reads a connection only now and
+/// then does so more often.
+const PATIENCE: u64 = 10_000;
+
+/// SETTINGS that were sent, and when, in milliseconds of the case.
+#[derive(Clone, Copy)]
+struct Waiting {
+    settings: &'static [Setting],
+    at: u64,
+}
+
+/// A PING that was sent, and when.
+#[derive(Clone, Copy)]
+struct Ping {
+    number: u64,
+    at: u64,
+}
+
+/// What the client may send. Parameters that allow more hold once they are sent, those that allow
+/// less once they are acknowledged: until then the client may not know of them.
 #[derive(Drop)]
 pub struct Rules {
     /// Whether the client's SETTINGS are acknowledged.
@@ -25,15 +44,16 @@ pub struct Rules {
     /// How many calls may be open at once.
     calls: u32,
     /// The SETTINGS that aren't acknowledged, in order.
-    waiting: VecDeque<&'static [Setting]>,
+    waiting: VecDeque<Waiting>,
     acks: u32,
     /// The PINGs that aren't answered.
-    pings: Vec<u64>,
+    pings: Vec<Ping>,
     next_ping: u64,
-    /// The PING behind the last step, once it was sent.
-    fence: Option<u64>,
-    /// Whether a GOAWAY was sent.
+    /// Whether a PING was answered that wasn't sent.
+    has_other_pong: bool,
+    /// Whether a GOAWAY was sent, and whether the client has read it.
     pub has_goaway: bool,
+    pub is_goaway_read: bool,
 }
 
 impl Rules {
@@ -48,8 +68,9 @@ impl Rules {
             acks: 0,
             pings: Vec::new(alloc),
             next_ping: 0,
-            fence: None,
+            has_other_pong: false,
             has_goaway: false,
+            is_goaway_read: false,
         }
     }
 
@@ -73,9 +94,29 @@ impl Rules {
         self.pings.is_empty()
     }
 
+    /// Whether the PING of this number isn't answered.
+    pub fn is_waiting(&self, number: u64) -> bool {
+        self.pings.iter().any(|ping| ping.number == number)
+    }
+
+    /// What the client has owed for a long time.
+    pub fn overdue(&self, now: u64) -> Option<Breach> {
+        if self.pings.iter().any(|ping| is_overdue(ping.at, now)) {
+            return Some(if self.has_other_pong {
+                OTHER_PONG
+            } else {
+                NO_PONG
+            });
+        }
+        match self.waiting.front() {
+            Some(waiting) if is_overdue(waiting.at, now) => Some(NO_ACK),
+            _ => None,
+        }
+    }
+
     /// SETTINGS were sent. By how much the windows of calls grow.
-    pub fn sent(&mut self, settings: &'static [Setting]) -> Result<i64, Wrong> {
-        self.waiting.push_back(settings)?;
+    pub fn sent(&mut self, settings: &'static [Setting], now: u64) -> Result<i64, Halt> {
+        self.waiting.push_back(Waiting { settings, at: now })?;
         Ok(self.hold(settings, true))
     }
 
@@ -83,12 +124,13 @@ impl Rules {
     pub fn acknowledged(&mut self) -> i64 {
         self.acks = self.acks.saturating_add(1);
         match self.waiting.pop_front() {
-            Some(settings) => self.hold(settings, false),
+            Some(waiting) => self.hold(waiting.settings, false),
             None => 0,
         }
     }
 
-    /// Those parameters hold that allow more, or those that allow less. By how much the windows of calls change.
+    /// Those parameters hold that allow more, or those that allow less. By how much the windows of
+    /// calls change.
     fn hold(&mut self, settings: &'static [Setting], more: bool) -> i64 {
         let before = self.window;
         for (id, value) in settings {
@@ -103,54 +145,43 @@ impl Rules {
     }
 
     /// The number of the next PING, which is being sent.
-    pub fn ping(&mut self) -> Result<u64, Wrong> {
+    pub fn ping(&mut self, now: u64) -> Result<u64, Halt> {
         self.next_ping = self.next_ping.saturating_add(1);
-        self.pings.push(self.next_ping)?;
-        Ok(self.next_ping)
+        let number = self.next_ping;
+        self.pings.push(Ping { number, at: now })?;
+        Ok(number)
     }
 
-    /// The last PING stands behind the last step.
-    pub fn fence(&mut self) {
-        self.fence = Some(self.next_ping);
-    }
-
-    /// Whether the PING behind the last step was answered: the client has read all before it.
-    pub fn is_past_fence(&self) -> bool {
-        match self.fence {
-            Some(number) => !self.pings.as_slice().contains(&number),
-            None => false,
+    /// A PING was answered. An answer of one that wasn't sent breaks no rule by itself: the PING
+    /// that it is for is still owed.
+    pub fn pong(&mut self, number: u64) {
+        if !self.is_waiting(number) {
+            self.has_other_pong = self.has_other_pong || number == 0 || number > self.next_ping;
         }
+        self.pings.retain(|ping| ping.number != number);
     }
 
-    /// A PING was answered.
-    pub fn pong(&mut self, number: u64) -> Result<(), Wrong>
-        ensures { OnOk result (Contains self.old.pings.items number) }
-    {
-        if !self.pings.as_slice().contains(&number) {
-            return Err(Wrong::OtherPong);
-        }
-        self.pings.retain(|waiting| *waiting != number);
-        Ok(())
+    /// The client has read all that was sent.
+    pub fn mark_read(&mut self) {
+        self.is_goaway_read = self.has_goaway;
     }
 
     /// A call comes while so many are open.
-    pub fn call_comes(&self, live: usize) -> Result<(), Wrong>
-        ensures { OnOk result (live < self.now.calls) }
+    pub fn call_comes(&self, live: usize) -> Result<(), Halt>
+        ensures allowed { OnOk result (live < self.now.calls) }
+        ensures open { OnOk result (self.now.is_goaway_read ≡ false) }
     {
-        if self.has_goaway && self.is_past_fence() {
-            return Err(Wrong::CallBehindGoaway);
+        if self.is_goaway_read {
+            return Err(Halt::Broke(CALL_AFTER_GOAWAY));
         }
         if live >= self.calls as usize {
-            return Err(Wrong::TooManyCalls);
+            return Err(Halt::Broke(TOO_MANY_CALLS));
         }
         Ok(())
     }
+}
 
-    /// A frame comes on a stream, which the server may have reset.
-    pub fn frame_on(&self, is_reset: bool) -> Result<(), Wrong> {
-        if is_reset && self.is_past_fence() {
-            return Err(Wrong::FrameBehindReset);
-        }
-        Ok(())
-    }
+/// Whether what has been owed since then is overdue.
+fn is_overdue(since: u64, now: u64) -> bool {
+    now.saturating_sub(since) >= PATIENCE
 }

@@ -3,11 +3,12 @@
 ghost use Rattle.std.specs.Prelude.{◌≡◌, ◌<◌, ◌≤◌, ◌^◌, length};
 
 use crate::connection::Connection;
-use crate::deeds::Wrong;
 use crate::frame_text::{
     CONTINUATION, DATA, END_HEADERS, END_STREAM, GOAWAY, HEADERS, NO_FLAGS, PADDED, RST_STREAM,
     block_of, push_frame, push_frame_head,
 };
+use crate::halt::Halt;
+use crate::lack::{LONGEST_FRAMES, Lack, SHORT_REPLY, WIDE_WINDOWS};
 use crate::line::Line;
 use crate::responses::{HEAD, OK};
 use crate::step::{Last, Pair, Part, Step};
@@ -25,6 +26,15 @@ const PADDED_PIECE: usize = 100;
 /// How many bytes of a reply are sent one by one.
 const SINGLE_BYTES: usize = 1_000;
 
+/// How many bytes of a reply the frames of gRPC's own tests of padding have.
+const FIVE: usize = 5;
+
+/// The window of a stream, where no SETTINGS say another (RFC 9113, section 6.9.2).
+const USUAL_WINDOW: usize = 65_535;
+
+/// The longest frame that there is (RFC 9113, section 4.2).
+const LONGEST: u32 = 16_777_215;
+
 /// The most CONTINUATIONs.
 const CONTINUATIONS: usize = 20;
 
@@ -37,20 +47,16 @@ const MOST_PAST: u32 = 16_000_000;
 /// Zero bytes.
 const ZEROS: [u8; 16_384] = [0; 16_384];
 
-/// Does a step, or a part of it, about the call of this index. Whether it was done. Nothing is sent of a call that the client
-/// has reset.
+/// Does a step, or a part of it, about the call of this index. Whether it was done.
 pub fn is_sent<L: Line>(
     connection: &mut Connection<L>,
     index: usize,
     padded: &mut u32,
     step: &Step,
-) -> Result<bool, Wrong> {
+) -> Result<bool, Halt> {
     let Some(call) = connection.calls.as_slice().get(index) else {
         return Ok(true);
     };
-    if call.reset.is_some() || !connection.is_open {
-        return Ok(true);
-    }
     let stream = call.stream;
     match step {
         Step::Reply(part) => reply(connection, index, padded, *part),
@@ -73,7 +79,10 @@ fn is_framed<L: Line>(
     connection: &mut Connection<L>,
     stream: StreamId,
     step: &Step,
-) -> Result<bool, Wrong> {
+) -> Result<bool, Halt> {
+    if !matches!(step, Step::Credit(_) | Step::GoAway(_)) {
+        connection.is_uncounted = true;
+    }
     match step {
         Step::Credit(increment) => connection.credit(stream, *increment)?,
         Step::GoAway(last) => goaway(connection, stream, *last)?,
@@ -91,7 +100,7 @@ fn is_framed<L: Line>(
 }
 
 /// Answers a call well, as far as the windows let its reply through.
-pub fn answer<L: Line>(connection: &mut Connection<L>, index: usize) -> Result<(), Wrong> {
+pub fn answer<L: Line>(connection: &mut Connection<L>, index: usize) -> Result<(), Halt> {
     let has_head = match connection.calls.as_slice().get(index) {
         Some(call) => call.has_head,
         None => true,
@@ -112,7 +121,7 @@ fn head<L: Line>(
     index: usize,
     fields: &[Pair],
     flags: u8,
-) -> Result<bool, Wrong> {
+) -> Result<bool, Halt> {
     let block = block_of(connection.alloc, fields)?;
     let Some(call) = connection.calls.get_mut(index) else {
         return Ok(true);
@@ -139,7 +148,7 @@ fn reset<L: Line>(
     index: usize,
     stream: StreamId,
     code: u32,
-) -> Result<bool, Wrong> {
+) -> Result<bool, Halt> {
     if let Some(call) = connection.calls.get_mut(index) {
         call.is_reset = true;
     }
@@ -152,7 +161,7 @@ fn goaway<L: Line>(
     connection: &mut Connection<L>,
     stream: StreamId,
     last: Last,
-) -> Result<(), Wrong> {
+) -> Result<(), Halt> {
     let named = match last {
         Last::ThisCall => stream,
         Last::None => 0,
@@ -170,7 +179,7 @@ fn continued<L: Line>(
     connection: &mut Connection<L>,
     stream: StreamId,
     fields: &[Pair],
-) -> Result<bool, Wrong> {
+) -> Result<bool, Halt> {
     let block = block_of(connection.alloc, fields)?;
     let mut rest = block.as_slice();
     let mut kind = HEADERS;
@@ -191,7 +200,7 @@ fn reply<L: Line>(
     index: usize,
     padded: &mut u32,
     part: Part,
-) -> Result<bool, Wrong> {
+) -> Result<bool, Halt> {
     match part {
         Part::Half => {
             let half = reply_len(connection, index)? / 2;
@@ -200,12 +209,47 @@ fn reply<L: Line>(
         Part::Rest => send_up_to(connection, index, usize::MAX),
         Part::Pinged => send_pinged(connection, index),
         Part::Bytewise => send_bytewise(connection, index),
-        Part::Padded => send_padded(connection, index, padded),
+        Part::Padded => send_padded(connection, index, padded, PADDED_FRAMES, PADDED_PIECE),
+        Part::Fives => {
+            has_long_reply(connection, index)?;
+            send_in(connection, index, FIVE)
+        }
+        Part::PaddedFives => {
+            has_long_reply(connection, index)?;
+            send_padded(connection, index, padded, 0, FIVE)
+        }
     }
 }
 
+/// The right reply has to be longer than a window.
+fn has_long_reply<L: Line>(connection: &mut Connection<L>, index: usize) -> Result<(), Halt> {
+    if reply_len(connection, index)? > USUAL_WINDOW {
+        Ok(())
+    } else {
+        Err(Halt::Lacks(Lack::Seen(SHORT_REPLY)))
+    }
+}
+
+/// Sends the right reply in frames of so many bytes, as the windows let them through. Whether all
+/// of it was sent.
+fn send_in<L: Line>(
+    connection: &mut Connection<L>,
+    index: usize,
+    most: usize,
+) -> Result<bool, Halt> {
+    for _ in 0..u64::MAX {
+        if left_of(connection, index, usize::MAX)? == 0 {
+            return Ok(true);
+        }
+        if !connection.send_piece(index, most)? {
+            return Ok(false);
+        }
+    }
+    Ok(false)
+}
+
 /// How many bytes the right reply has.
-fn reply_len<L: Line>(connection: &mut Connection<L>, index: usize) -> Result<usize, Wrong> {
+fn reply_len<L: Line>(connection: &mut Connection<L>, index: usize) -> Result<usize, Halt> {
     let alloc = connection.alloc;
     let Some(call) = connection.calls.get_mut(index) else {
         return Ok(0);
@@ -219,7 +263,7 @@ fn left_of<L: Line>(
     connection: &mut Connection<L>,
     index: usize,
     most: usize,
-) -> Result<usize, Wrong> {
+) -> Result<usize, Halt> {
     let len = reply_len(connection, index)?.min(most);
     match connection.calls.as_slice().get(index) {
         Some(call) => Ok(len.saturating_sub(call.sent)),
@@ -227,12 +271,13 @@ fn left_of<L: Line>(
     }
 }
 
-/// Sends the first so many bytes of the right reply, as the windows let them through. Whether all of them were sent.
+/// Sends the first so many bytes of the right reply, as the windows let them through. Whether all
+/// of them were sent.
 fn send_up_to<L: Line>(
     connection: &mut Connection<L>,
     index: usize,
     most: usize,
-) -> Result<bool, Wrong> {
+) -> Result<bool, Halt> {
     for _ in 0..u64::MAX {
         let left = left_of(connection, index, most)?;
         if left == 0 {
@@ -246,7 +291,7 @@ fn send_up_to<L: Line>(
 }
 
 /// Sends what is left of the right reply, with a PING before each frame.
-fn send_pinged<L: Line>(connection: &mut Connection<L>, index: usize) -> Result<bool, Wrong> {
+fn send_pinged<L: Line>(connection: &mut Connection<L>, index: usize) -> Result<bool, Halt> {
     for _ in 0..u64::MAX {
         let left = left_of(connection, index, usize::MAX)?;
         if left == 0 {
@@ -260,8 +305,9 @@ fn send_pinged<L: Line>(connection: &mut Connection<L>, index: usize) -> Result<
     Ok(false)
 }
 
-/// Sends the first thousand bytes of the right reply, each in a frame of its own that is written byte by byte.
-fn send_bytewise<L: Line>(connection: &mut Connection<L>, index: usize) -> Result<bool, Wrong> {
+/// Sends the first thousand bytes of the right reply, each in a frame of its own that is written
+/// byte by byte.
+fn send_bytewise<L: Line>(connection: &mut Connection<L>, index: usize) -> Result<bool, Halt> {
     for _ in 0..SINGLE_BYTES {
         let left = left_of(connection, index, SINGLE_BYTES)?;
         if left == 0 {
@@ -275,18 +321,23 @@ fn send_bytewise<L: Line>(connection: &mut Connection<L>, index: usize) -> Resul
     Ok(true)
 }
 
-/// Sends the right reply in padded frames.
+/// Sends the right reply in padded frames of so many bytes of it at most, and in so many frames at
+/// least.
 fn send_padded<L: Line>(
     connection: &mut Connection<L>,
     index: usize,
     padded: &mut u32,
-) -> Result<bool, Wrong> {
+    least: u32,
+    most: usize,
+) -> Result<bool, Halt>
+    requires { most ≤ 100 }
+{
     for _ in 0..u64::MAX {
         let left = left_of(connection, index, usize::MAX)?;
-        if left == 0 && *padded >= PADDED_FRAMES {
+        if left == 0 && *padded >= least {
             return Ok(true);
         }
-        if !send_padded_piece(connection, index, left.min(PADDED_PIECE))? {
+        if !send_padded_piece(connection, index, left.min(most))? {
             return Ok(false);
         }
         *padded = padded.saturating_add(1);
@@ -299,7 +350,7 @@ fn send_padded_piece<L: Line>(
     connection: &mut Connection<L>,
     index: usize,
     len: usize,
-) -> Result<bool, Wrong>
+) -> Result<bool, Halt>
     requires { len ≤ 100 }
 {
     let Some(call) = connection.calls.get_mut(index) else {
@@ -322,8 +373,11 @@ fn send_padded_piece<L: Line>(
 }
 
 /// Sends a DATA frame that is one byte longer than the client allows.
-fn too_long<L: Line>(connection: &mut Connection<L>, stream: StreamId) -> Result<(), Wrong> {
-    let len = connection.longest.saturating_add(1).min(16_777_215);
+fn too_long<L: Line>(connection: &mut Connection<L>, stream: StreamId) -> Result<(), Halt> {
+    if connection.longest >= LONGEST {
+        return Err(Halt::Lacks(Lack::Seen(LONGEST_FRAMES)));
+    }
+    let len = connection.longest + 1;
     push_frame_head(&mut connection.out, DATA, NO_FLAGS, stream, len)?;
     push_zeros(&mut connection.out, len)?;
     Ok(())
@@ -338,12 +392,11 @@ fn push_zeros(out: &mut Vec<u8>, count: u32) -> Result<(), AllocError> {
 }
 
 /// Sends DATA past the client's windows: the beginning of a message that is as long.
-fn past_window<L: Line>(connection: &mut Connection<L>, stream: StreamId) -> Result<(), Wrong> {
-    let count = connection
-        .windows
-        .room(stream)
-        .saturating_add(PAST)
-        .min(MOST_PAST);
+fn past_window<L: Line>(connection: &mut Connection<L>, stream: StreamId) -> Result<(), Halt> {
+    let count = connection.windows.room(stream).saturating_add(PAST);
+    if count > MOST_PAST {
+        return Err(Halt::Lacks(Lack::Seen(WIDE_WINDOWS)));
+    }
     let [a, b, c, d] = count.to_be_bytes();
     push_frame(
         &mut connection.out,

@@ -1,4 +1,5 @@
-//! The steps of a misbehaviour. Each is about the call that was waited for last, on the connection of that call.
+//! The steps of a misbehaviour. Each is about the call that was waited for last, on the connection
+//! of that call.
 
 /// The name and the value of a header field.
 pub type Pair = (&'static str, &'static str);
@@ -6,7 +7,8 @@ pub type Pair = (&'static str, &'static str);
 /// The number and the value of a parameter of SETTINGS (RFC 9113, section 6.5.2).
 pub type Setting = (u16, u32);
 
-/// Which bytes of a call's right reply are sent, and how. A reply is the length-prefixed message that the request asks for.
+/// Which bytes of a call's right reply are sent, and how. A reply is the length-prefixed message
+/// that the request asks for.
 #[derive(Clone, Copy)]
 pub enum Part {
     /// The first half.
@@ -19,6 +21,17 @@ pub enum Part {
     Bytewise,
     /// All of it, in frames whose padding is 1 MiB together.
     Padded,
+    /// All of it, in frames of five bytes.
+    Fives,
+    /// All of it, in frames of five bytes and 255 bytes of padding.
+    PaddedFives,
+}
+
+impl Part {
+    /// Whether its frames are not as most servers send them.
+    pub fn is_odd(self) -> bool {
+        !matches!(self, Part::Half | Part::Rest)
+    }
 }
 
 /// Which stream a GOAWAY names as the last.
@@ -30,13 +43,13 @@ pub enum Last {
     None,
 }
 
-/// A step. A pause is told in ticks, hundredths of a second in which nothing comes.
+/// A step. A pause is told in milliseconds.
 #[derive(Clone, Copy)]
 pub enum Step {
     /// Waits for the head of the next call.
     AwaitCall,
-    /// The same, of a call that is made after the last SETTINGS were acknowledged. Its header block has to begin with the
-    /// change of the table's size to 0.
+    /// The same, of a call that is made after the last SETTINGS were acknowledged. Its header block
+    /// has to begin with the change of the table's size to 0.
     AwaitUpdatedCall,
     /// Waits until the call's request is whole.
     AwaitRequest,
@@ -46,10 +59,14 @@ pub enum Step {
     AwaitAcks,
     /// Waits until all PINGs that were sent are answered.
     AwaitPongs,
+    /// Waits until the client has read what was sent, which is the misbehaviour.
+    AwaitReading,
     /// Waits until so many calls were answered, each after a pause.
     AnswerSlowly(usize),
-    /// Waits for so many ticks.
-    Pause(u32),
+    /// Waits for so many milliseconds.
+    Pause(u64),
+    /// The call's request has to go on still.
+    Unfinished,
     /// Sends SETTINGS.
     Settings(&'static [Setting]),
     /// Sends credit for so many bytes of the call.
@@ -103,6 +120,20 @@ impl Step {
             Step::Close => "the end of the connection",
             Step::AnswerSlowly(_) => "replies",
             _ => "",
+        }
+    }
+
+    /// What of the client the step waits for.
+    pub fn awaited(&self) -> &'static str {
+        match self {
+            Step::AwaitCall => "a call",
+            Step::AwaitUpdatedCall => "a second call, made once the first had ended",
+            Step::AwaitRequest | Step::AwaitBytes(_) => "the rest of its request",
+            Step::AwaitAcks => "its acknowledgement of SETTINGS",
+            Step::AwaitPongs | Step::AwaitReading => "its answer of a PING",
+            Step::AnswerSlowly(_) => "a second call",
+            Step::Reply(_) => "its credit for the rest of the reply",
+            _ => "its next frame",
         }
     }
 }

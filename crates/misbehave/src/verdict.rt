@@ -1,185 +1,239 @@
 //! Whether what a client did is right.
 
-ghost use Rattle.std.specs.Prelude.{◌≡◌, ◌≢◌, ◌<◌, ◌≤◌, ◌+◌, ◌⊎◌, ◌↔◌, None, Some, true, false, length, Contains, IfSome, IsNone, IsSome, IsTrue};
-ghost use Rattle.misbehave.specs.declared.misbehaviour.Need.TheVariants.{Nothing, SecondCall, OtherConnection, Leaving};
+ghost use Rattle.std.specs.Prelude.{◌≡◌, ◌<◌, ◌⊎◌, None, true, IsSome};
+ghost use Rattle.misbehave.specs.Judgements.{HasToEnd, IsAccused, IsFree};
+ghost use Rattle.misbehave.specs.declared.misbehaviour.Need.TheVariants as needs;
+ghost use Rattle.misbehave.specs.declared.verdict.Judgement.TheVariants as judgement;
 
-use crate::deeds::{Deeds, Wrong};
-use crate::misbehaviour::{Need, Right};
+use crate::breach::Breach;
+use crate::deeds::{Deeds, Ending};
+use crate::lack::{
+    LEFT_EARLY, LEFT_UNREAD, Lack, NO_CALL, NO_CALL_ELSEWHERE, NO_SIGN, ONE_AT_A_TIME, Shortfall,
+    TIME_OVER,
+};
+use crate::misbehaviour::{Duty, Misbehaviour, Need};
+use crate::outcome::{Rule, Verdict};
+use crate::sentences::Sentence;
 
-/// Why what a client did isn't right.
+/// What a client did wrong.
 #[derive(Clone, Copy)]
-pub enum Why {
-    /// It did what no client may do.
-    Wrong(Wrong),
-    /// It made no call.
-    NoCall,
-    /// It ended the connection by GOAWAY with this code.
-    GoAway(u32),
-    /// It reset the call with this code.
-    Reset(u32),
-    /// It ended the connection before the last step.
-    LeftEarly,
-    /// The last step was not done when time was over: what was waited for didn't come.
-    Stalled,
-    /// It went on where the stream or the connection had to be ended.
-    WentOn,
-    /// It neither answered the PING behind the last step nor ended the connection.
-    Silent,
-    /// It made no second call.
-    NoSecondCall,
-    /// It did not end its side of the connection.
-    Stayed,
+pub enum Fault {
+    /// What no client may do, whatever the server does.
+    Breach(Breach),
+    /// It gave the call up by an error.
+    GaveUp(Ending, Sentence),
+    /// It did nothing of the call, though it could.
+    Stalled(Sentence),
+    /// It went on where it had to end the stream.
+    KeptStream(Sentence),
+    /// It went on where it had to end the connection.
+    KeptConnection(Sentence),
 }
 
-/// Why a client's deeds are not right, or nothing where they are.
-pub fn judge(right: &Right, deeds: &Deeds) -> Option<Why>
-    ensures lawful { IsNone result → deeds.now.wrong ≡ None }
-    ensures goaway { IsNone result → IfSome deeds.now.goaway
-        (λ code. (code ≡ 0) ⊎ Contains right.now.goaways.now code) }
-    ensures reset { IsNone result → IfSome deeds.now.reset
-        (λ code. Contains right.now.resets.now code) }
+impl Fault {
+    /// The sentence that forbids it.
+    pub fn rule(&self) -> Rule {
+        match self {
+            Fault::Breach(breach) => breach.rule,
+            Fault::GaveUp(_, sentence)
+            | Fault::Stalled(sentence)
+            | Fault::KeptStream(sentence)
+            | Fault::KeptConnection(sentence) => sentence.rule(),
+        }
+    }
+}
 
-    // Who may not go on has ended the stream or the connection.
-    ensures ended { IsNone result → right.now.goes_on ≡ false → deeds.now.has_answered ≡ true
-        → IsSome deeds.now.goaway ⊎ IsSome deeds.now.reset }
-    ensures second { IsNone result → right.now.need ≡ SecondCall
-        → 2 ≤ deeds.now.calls + deeds.now.calls_elsewhere }
-    ensures other { IsNone result → right.now.need ≡ OtherConnection
+/// What is to be said of a client.
+#[derive(Clone, Copy)]
+pub enum Judgement {
+    Right,
+    Wrong(Fault),
+    Untested(Lack),
+}
+
+impl Judgement {
+    pub fn verdict(&self) -> Verdict {
+        match self {
+            Judgement::Right => Verdict::Ok,
+            Judgement::Wrong(_) => Verdict::Failed,
+            Judgement::Untested(_) => Verdict::NotTested,
+        }
+    }
+}
+
+/// What is to be said of a client's deeds.
+pub fn judge(play: &Misbehaviour, deeds: &Deeds) -> Judgement
+    // Who did right broke no rule, was shown the misbehaviour, and did what the case needs.
+    ensures lawful { result ≡ judgement.Right → deeds.now.breach ≡ None }
+    ensures shown { result ≡ judgement.Right → deeds.now.is_shown ≡ true }
+    ensures ended { result ≡ judgement.Right → HasToEnd play.now.duty
+        → IsSome deeds.now.reset ⊎ (IsSome deeds.now.goaway ⊎ (deeds.now.has_left ≡ true)) }
+    ensures elsewhere { result ≡ judgement.Right → play.now.need ≡ needs.CallElsewhere
         → 0 < deeds.now.calls_elsewhere }
-    ensures leaving { IsNone result → right.now.need ≡ Leaving → deeds.now.has_left ≡ true }
+    ensures at_once { result ≡ judgement.Right → play.now.need ≡ needs.CallsAtOnce
+        → deeds.now.has_overlap ≡ true }
 
-    // Who went on to the end where it may, with no error, and where no more is needed, did right.
-    ensures good { deeds.now.wrong ≡ None → deeds.now.goaway ≡ None → deeds.now.reset ≡ None
-        → deeds.now.is_played ≡ true → deeds.now.has_answered ≡ true
-        → right.now.goes_on ≡ true → right.now.need ≡ Nothing → IsNone result }
+    // Who broke no rule that binds each client is told as wrong only where a duty is more.
+    ensures free { IsAccused result → IsFree play.now.duty
+        → IsSome deeds.now.breach ⊎ IsSome deeds.now.overdue }
+    ensures kept { IsAccused result → HasToEnd play.now.duty → deeds.now.breach ≡ None
+        → deeds.now.overdue ≡ None → deeds.now.has_gone_on ≡ true }
 {
-    if let Some(wrong) = deeds.wrong {
-        return Some(Why::Wrong(wrong));
+    if let Some(breach) = deeds.breach {
+        return Judgement::Wrong(Fault::Breach(breach));
     }
-    match error_of(right, deeds) {
-        ErrorOf::Refused(why) => Some(why),
-        ErrorOf::Allowed => missing(right.need, deeds),
-        ErrorOf::None => match stand(right, deeds) {
-            Some(why) => Some(why),
-            None => missing(right.need, deeds),
-        },
+    if let Some(lack) = deeds.lack {
+        return Judgement::Untested(lack);
+    }
+    if let Some(breach) = overdue(play.duty, deeds) {
+        return Judgement::Wrong(Fault::Breach(breach));
+    }
+    if !deeds.is_shown {
+        return Judgement::Untested(unshown(deeds));
+    }
+    match judge_duty(play.duty, deeds) {
+        Judgement::Right => judge_need(play.need, deeds),
+        other => other,
     }
 }
 
-/// By which error a client ended the call or the connection.
-#[derive(Clone, Copy)]
-enum ErrorOf {
-    None,
-    Allowed,
-    Refused(Why),
-}
-
-/// Whether a code is one of these.
-fn is_among(code: u32, codes: &[u32]) -> bool
-    ensures { IsTrue result ↔ Contains codes.now code }
+/// What a client still owes after a long time. One that has to end the connection need not read on
+/// there.
+fn overdue(duty: Duty, deeds: &Deeds) -> Option<Breach>
+    ensures { IsSome result → IsSome deeds.now.overdue }
 {
-    codes.contains(&code)
-}
-
-/// Whether a client ended the connection or the call by an error, and may do so.
-fn error_of(right: &Right, deeds: &Deeds) -> ErrorOf
-    ensures goaway { (result ≡ ErrorOf.None) ⊎ (result ≡ ErrorOf.Allowed) → IfSome deeds.now.goaway
-        (λ code. (code ≡ 0) ⊎ Contains right.now.goaways.now code) }
-    ensures reset { (result ≡ ErrorOf.None) ⊎ (result ≡ ErrorOf.Allowed) → IfSome deeds.now.reset
-        (λ code. Contains right.now.resets.now code) }
-    ensures allowed { result ≡ ErrorOf.Allowed → IsSome deeds.now.goaway ⊎ IsSome deeds.now.reset }
-    ensures none { deeds.now.goaway ≡ None → deeds.now.reset ≡ None → result ≡ ErrorOf.None }
-{
-    if let Some(code) = deeds.reset {
-        if !is_among(code, right.resets) {
-            return ErrorOf::Refused(Why::Reset(code));
-        }
-    }
-    match deeds.goaway {
-        None | Some(0) => {
-            if deeds.reset.is_some() {
-                ErrorOf::Allowed
-            } else {
-                ErrorOf::None
-            }
-        }
-        Some(code) => {
-            if is_among(code, right.goaways) {
-                ErrorOf::Allowed
-            } else {
-                ErrorOf::Refused(Why::GoAway(code))
-            }
-        }
+    match duty {
+        Duty::EndsConnection(_, _) => None,
+        _ => deeds.overdue,
     }
 }
 
-/// What is wrong with where things stand, of a client that said of no error. One that may end the connection may do so
-/// without a GOAWAY.
-fn stand(right: &Right, deeds: &Deeds) -> Option<Why>
-    ensures ended { IsNone result → right.now.goes_on ≡ false → deeds.now.has_answered ≡ false }
-    ensures good { deeds.now.is_played ≡ true → deeds.now.has_answered ≡ true
-        → right.now.goes_on ≡ true → IsNone result }
-{
-    if !deeds.is_played {
-        if deeds.has_left {
-            return left_early(right, deeds);
-        }
-        return Some(unplayed(deeds));
-    }
-    if deeds.has_answered && !right.goes_on {
-        return Some(Why::WentOn);
-    }
-    if deeds.has_answered || deeds.has_left {
-        return None;
-    }
-    match right.need {
-        Need::Leaving => Some(Why::Stayed),
-        _ => Some(Why::Silent),
-    }
-}
-
-/// Where a client left before the last step.
-fn left_early(right: &Right, deeds: &Deeds) -> Option<Why>
-    ensures { IsNone result → deeds.now.has_answered ≡ false }
-{
-    if right.goaways.is_empty() || deeds.calls == 0 || deeds.has_answered {
-        return Some(unplayed_left(deeds));
-    }
-    None
-}
-
-fn unplayed_left(deeds: &Deeds) -> Why {
+/// Why a client wasn't shown what the server does wrong.
+fn unshown(deeds: &Deeds) -> Lack {
     if deeds.calls == 0 {
-        Why::NoCall
-    } else {
-        Why::LeftEarly
+        return Lack::Seen(NO_CALL);
     }
+    if let Some(reset) = deeds.reset {
+        return Lack::GaveUp(reset);
+    }
+    if deeds.has_left && !deeds.is_over {
+        return Lack::Seen(LEFT_EARLY);
+    }
+    Lack::Awaited(deeds.awaited)
 }
 
-fn unplayed(deeds: &Deeds) -> Why {
-    if deeds.calls == 0 {
-        Why::NoCall
-    } else {
-        Why::Stalled
-    }
-}
-
-/// What had to be seen of a client and wasn't.
-fn missing(need: Need, deeds: &Deeds) -> Option<Why>
-    ensures second { IsNone result → need ≡ SecondCall
-        → 2 ≤ deeds.now.calls + deeds.now.calls_elsewhere }
-    ensures other { IsNone result → need ≡ OtherConnection → 0 < deeds.now.calls_elsewhere }
-    ensures leaving { IsNone result → need ≡ Leaving → deeds.now.has_left ≡ true }
-    ensures nothing { need ≡ Nothing → IsNone result }
+/// Whether a client that was shown the misbehaviour did its duty.
+fn judge_duty(duty: Duty, deeds: &Deeds) -> Judgement
+    ensures ended { result ≡ judgement.Right → HasToEnd duty
+        → IsSome deeds.now.reset ⊎ (IsSome deeds.now.goaway ⊎ (deeds.now.has_left ≡ true)) }
+    ensures free { IsFree duty → result ≡ judgement.Right }
+    ensures kept { IsAccused result → HasToEnd duty → deeds.now.has_gone_on ≡ true }
 {
-    let (seen, why) = match need {
-        Need::Nothing => (true, Why::Silent),
-        Need::SecondCall => (
-            deeds.calls.saturating_add(deeds.calls_elsewhere) >= 2,
-            Why::NoSecondCall,
-        ),
-        Need::OtherConnection => (deeds.calls_elsewhere > 0, Why::NoSecondCall),
-        Need::Leaving => (deeds.has_left, Why::Stayed),
+    match duty {
+        Duty::Free => Judgement::Right,
+        Duty::Completes(sentence) => completes(sentence, deeds),
+        Duty::EndsStream(_, sentence) => ends_stream(sentence, deeds),
+        Duty::EndsConnection(_, sentence) => ends(Fault::KeptConnection(sentence), deeds),
+    }
+}
+
+/// Whether a client let the call go on to its end.
+fn completes(sentence: Sentence, deeds: &Deeds) -> Judgement {
+    if let Some(reset) = deeds.reset {
+        if reset.is_early && reset.is_own_reason() {
+            return Judgement::Untested(Lack::GaveUp(reset));
+        }
+        if reset.is_early {
+            return Judgement::Wrong(Fault::GaveUp(reset, sentence));
+        }
+    }
+    if let Some(goaway) = deeds.goaway {
+        if goaway.is_early && !goaway.is_own_reason() {
+            return Judgement::Wrong(Fault::GaveUp(goaway, sentence));
+        }
+    }
+    if deeds.is_over {
+        return Judgement::Right;
+    }
+    if deeds.has_left {
+        return Judgement::Untested(Lack::Seen(LEFT_EARLY));
+    }
+    if deeds.is_stalled {
+        return Judgement::Wrong(Fault::Stalled(sentence));
+    }
+    Judgement::Untested(Lack::Awaited(deeds.awaited))
+}
+
+/// Whether a client ended the stream, or the connection.
+fn ends_stream(sentence: Sentence, deeds: &Deeds) -> Judgement
+    ensures ended { result ≡ judgement.Right
+        → IsSome deeds.now.reset ⊎ (IsSome deeds.now.goaway ⊎ (deeds.now.has_left ≡ true)) }
+    ensures kept { IsAccused result → deeds.now.has_gone_on ≡ true }
+{
+    if let Some(reset) = deeds.reset {
+        if reset.is_answer() {
+            return Judgement::Right;
+        }
+    }
+    ends(Fault::KeptStream(sentence), deeds)
+}
+
+/// Whether a client ended the connection. The fault is what it did wrong where it went on.
+fn ends(fault: Fault, deeds: &Deeds) -> Judgement
+    ensures ended { result ≡ judgement.Right
+        → IsSome deeds.now.goaway ⊎ (deeds.now.has_left ≡ true) }
+    ensures kept { IsAccused result → deeds.now.has_gone_on ≡ true }
+{
+    if let Some(goaway) = deeds.goaway {
+        if goaway.is_answer() {
+            return Judgement::Right;
+        }
+    }
+    if deeds.has_gone_on {
+        return Judgement::Wrong(fault);
+    }
+    if deeds.has_left {
+        return Judgement::Right;
+    }
+    Judgement::Untested(Lack::Seen(TIME_OVER))
+}
+
+/// Whether a client did what has to be seen before it is told as right.
+fn judge_need(need: Need, deeds: &Deeds) -> Judgement
+    ensures fair { ¬ IsAccused result }
+    ensures elsewhere { result ≡ judgement.Right → need ≡ needs.CallElsewhere
+        → 0 < deeds.now.calls_elsewhere }
+    ensures at_once { result ≡ judgement.Right → need ≡ needs.CallsAtOnce
+        → deeds.now.has_overlap ≡ true }
+{
+    let (seen, shortfall) = match need {
+        Need::Nothing => (true, TIME_OVER),
+        Need::Reading => (has_read(deeds), unread(deeds)),
+        Need::CallElsewhere => (deeds.calls_elsewhere > 0, NO_CALL_ELSEWHERE),
+        Need::CallsAtOnce => (deeds.has_overlap, ONE_AT_A_TIME),
+        Need::Sign => (has_noticed(deeds), NO_SIGN),
     };
-    if seen { None } else { Some(why) }
+    if seen {
+        Judgement::Right
+    } else {
+        Judgement::Untested(Lack::Seen(shortfall))
+    }
+}
+
+/// Whether a client read what the server did, or ended the call or the connection by an error.
+fn has_read(deeds: &Deeds) -> bool {
+    deeds.has_read || deeds.reset.is_some() || deeds.goaway.is_some()
+}
+
+fn unread(deeds: &Deeds) -> Shortfall {
+    if deeds.has_left {
+        LEFT_UNREAD
+    } else {
+        TIME_OVER
+    }
+}
+
+/// Whether a client noticed the end of the connection.
+fn has_noticed(deeds: &Deeds) -> bool {
+    deeds.has_left || deeds.reset.is_some() || deeds.goaway.is_some() || deeds.calls_elsewhere > 0
 }
