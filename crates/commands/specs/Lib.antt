@@ -1,6 +1,7 @@
 pub mod Body
 pub mod BodyExamples
 pub mod Call
+pub mod Case
 pub mod Drain
 pub mod Hex
 pub mod HexExamples

@@ -9,12 +9,13 @@ ghost use Rattle.cases.specs.declared.fault.CaseFault.{CaseFault as Fault};
 ghost use Rattle.commands.specs.Drain.{drain_report, goaway_line, goaway_lines};
 ghost use Rattle.commands.specs.declared.drain.Goaway.{Goaway as Seen};
 
-use crate::client::{PATIENCE, set_patience};
+use crate::client::PATIENCE;
+use crate::connecting::set_ticks;
 use crate::log::Log;
 use crate::port::{Service, serve_apart};
 use crate::stopping::Stop;
-use cases::{CaseFault, ReportFault, print_line};
-use device::{ConnWrite, Marked, write_all};
+use cases::{CaseFault, Failure, Limit, ReportFault, Timed, Windows, print_line};
+use device::{ConnWrite, write_all};
 use h2frame::{Frame, FrameKind, FrameReader, StreamId};
 use handlers::Methods;
 use std::alloc::{AllocError, Global};
@@ -23,7 +24,7 @@ use std::io::{Read, Write};
 use std::net::{Net, TcpListener, TcpStream};
 use std::sync::{Arc, Wait};
 use std::thread::Threads;
-use std::time::Clock;
+use std::time::{Clock, Duration};
 use words::LOOPBACK;
 
 /// What the client runs: one call, of four messages, each with its reply.
@@ -86,7 +87,7 @@ where
 }
 
 /// Runs the case over this connection, closes it, and answers what came of it, and the GOAWAYs that were read.
-fn run_client<R: Wait + Eprint + Copy + Drop>(
+fn run_client<R: Wait + Clock + Eprint + Copy + Drop>(
     rt: R,
     alloc: Global,
     stream: TcpStream,
@@ -100,20 +101,33 @@ fn run_client<R: Wait + Eprint + Copy + Drop>(
         goaways: Vec::new(alloc),
         has_stopped: false,
     };
-    let mut notes = String::new(alloc);
-    let answer = cases::run_case(alloc, CASE, Marked::new(&mut watched), &mut notes);
+    let answer = watch(rt, alloc, &mut watched);
     let Watched { rt, goaways, .. } = watched;
-    if answer.is_err() {
-        // The line that is printed tells of the fault even where nothing can be said here.
-        let _said = eprint!(rt; "{notes}");
-    }
-    (answer, goaways)
+    let Err(failure) = answer else {
+        return (Ok(()), goaways);
+    };
+    let Failure { fault, note } = failure;
+    // The line that is printed tells of the fault even where nothing can be said here.
+    let _said = eprintln!(rt; "{CASE}: {note}");
+    (Err(fault), goaways)
 }
 
-/// A connection to the port, whose reads and writes fail in time.
+/// Runs the case over this connection.
+fn watch<R: Wait + Clock + Copy + Drop>(
+    rt: R,
+    alloc: Global,
+    watched: &mut Watched<R>,
+) -> Result<(), Failure> {
+    let Ok(limit) = Limit::begin(&rt, Duration::from_secs(u64::from(PATIENCE))) else {
+        return Err(Failure::unconnected(alloc, "the clock can't be read"));
+    };
+    cases::run_case(alloc, CASE, Timed::new(rt, watched, limit), Windows::Held)
+}
+
+/// A connection to the port, whose reads and writes fail after a tick.
 fn connect<R: Net<Stream = TcpStream>>(rt: &R, port: u16) -> io::Result<TcpStream> {
     let stream = TcpStream::connect(rt, (LOOPBACK, port))?;
-    set_patience(&stream, PATIENCE)?;
+    set_ticks(&stream)?;
     Ok(stream)
 }
 

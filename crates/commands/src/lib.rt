@@ -2,8 +2,9 @@
 //!
 //! - `run_body` prints the messages of one call, and `run_parts` what a connection is answered with (`body`, `parts`). Their
 //!   input is hexadecimal text. The program hands them its standard input and output.
-//! - `run_case` runs test cases against a server, `run_load` several runs at a time, and `run_self` runs them against a server of
-//!   its own (`client`, `load`, `server`).
+//! - `run_case` runs test cases against a server, several at a time (`load`), or as a soak
+//!   (`soak`), and `run_self` runs them against a server of its own (`client`, `connecting`,
+//!   `server`).
 //! - `run_drain` drains a server of its own while a client has a call (`drain`).
 //! - `run_wire` lists wire cases, or runs them against a server (`wire_cases`).
 //! - `serve` serves connections to a port (`server`): `listening` is the port, `port` has the threads, `stream` a connection, `stopping`
@@ -21,6 +22,7 @@
 mod body;
 mod call;
 mod client;
+mod connecting;
 mod drain;
 mod listening;
 mod load;
@@ -32,6 +34,7 @@ mod report;
 mod reporter;
 mod served;
 mod server;
+mod soak;
 mod stopping;
 mod stream;
 mod streams;
@@ -40,10 +43,10 @@ mod text;
 mod wire_cases;
 
 pub use body::{RunFault, run_body};
-pub use client::{PATIENCE, Target, run_all_cases, run_case};
+pub use client::{PATIENCE, Target, Verdict, run_all_cases, run_case};
+pub use connecting::Place;
 pub use drain::run_drain;
 pub use listening::listen;
-pub use load::run_load;
 pub use memory::{MemoryInput, MemoryOutput};
 pub use parts::run_parts;
 pub use server::{run_self, serve};

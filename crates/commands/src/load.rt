@@ -1,11 +1,13 @@
-//! `case` with `--streams K`: K runs at a time, each over a connection of its own, and how long they took.
+//! `case` with `--streams K`: K runs at a time, each over a connection of its own, and how long
+//! they took. Their windows aren't held, so that the times are those of the server.
 
 ghost use Rattle.std.specs.Prelude.{◌≡◌, ◌≤◌};
 ghost use Rattle.commands.specs.Times.{rank_of};
 
 use crate::client::{Target, try_case};
+use crate::connecting::Place;
 use crate::tally::{Tally, print_tally};
-use cases::{Case, CaseFault, ReportFault, print_line};
+use cases::{Case, CaseFault, ReportFault, Windows};
 use device::{ConnWrite, write_all};
 use std::alloc::{AllocError, Global};
 use std::net::{Net, TcpListener, TcpStream};
@@ -13,7 +15,7 @@ use std::sync::Arc;
 use std::thread;
 use std::thread::Threads;
 use std::time::{Clock, Instant};
-use words::CaseWords;
+use words::CaseRun;
 
 /// What came of a run.
 #[derive(Clone, Copy, Debug, PartialEq, Eq)]
@@ -32,41 +34,12 @@ struct Trial {
     patience: u16,
 }
 
-/// Runs the case that the words name, or each of them, as often as they say, so many at a time. It prints a line of each and one
-/// of its times: within which half of the runs ended, and 99 of 100. It answers whether no run failed.
-pub fn run_load<R, W>(
-    rt: R,
-    words: CaseWords<'_>,
-    streams: u16,
-    output: &mut W,
-) -> Result<bool, ReportFault>
-where
-    R: Net<Stream = TcpStream, Listener = TcpListener> + Eprint + AllocGlobal,
-    R: Clock + Threads + Copy + Send + Sync + Drop + 'static,
-    W: ConnWrite,
-{
-    if words.name == "all" {
-        let mut have_passed = true;
-        for case in Case::ALL {
-            let has_passed = load_case(rt, case, words, streams, output)?;
-            have_passed = have_passed && has_passed;
-        }
-        return Ok(have_passed);
-    }
-    match Case::named(words.name) {
-        Some(case) => load_case(rt, case, words, streams, output),
-        None => {
-            print_line(rt.alloc(), words.name, Err(CaseFault::UnknownCase), output)?;
-            Ok(false)
-        }
-    }
-}
-
-/// Runs a case as often as the words say, prints its lines, and answers whether no run failed.
-fn load_case<R, W>(
+/// Runs a case as often as the words say, so many at a time. It prints a line of it and one of its
+/// times: within which half of the runs ended, and 99 of 100. It answers whether no run failed.
+pub(crate) fn load_case<R, W>(
     rt: R,
     case: Case,
-    words: CaseWords<'_>,
+    words: CaseRun<'_>,
     streams: u16,
     output: &mut W,
 ) -> Result<bool, ReportFault>
@@ -143,9 +116,9 @@ where
     R: Net<Stream = TcpStream, Listener = TcpListener> + Eprint + AllocGlobal + Clock,
 {
     let target = Target {
-        host: trial.host.as_str(),
-        port: trial.port,
+        place: Place::new(trial.host.as_str(), trial.port),
         patience: trial.patience,
+        windows: Windows::Open,
     };
     let mut runs = Vec::new(alloc);
     for _ in 0..count {
@@ -177,18 +150,24 @@ fn print_times<W: ConnWrite>(
         times.push(run.took)?;
     }
     times.sort()?;
-    let median = times.get(nearest_rank(count, 50)).copied().unwrap_or(0);
-    let most = times.get(nearest_rank(count, 99)).copied().unwrap_or(0);
+    let median = times
+        .get(nearest_rank(u32::from(count), 50))
+        .copied()
+        .unwrap_or(0);
+    let most = times
+        .get(nearest_rank(u32::from(count), 99))
+        .copied()
+        .unwrap_or(0);
     let text = format!(in alloc; "  p50 {median} us, p99 {most} us\n")?;
     write_all(output, text.as_bytes())?;
     Ok(())
 }
 
 /// The index of the least of so many times, in their order, within which so many of 100 are.
-fn nearest_rank(count: u16, percent: u16) -> usize
+pub(crate) fn nearest_rank(count: u32, percent: u16) -> usize
     requires { percent ≤ 100 }
     ensures { result ≡ rank_of count percent }
 {
-    let rank = (u32::from(count) * u32::from(percent)).div_ceil(100);
+    let rank = (u64::from(count) * u64::from(percent)).div_ceil(100);
     rank.saturating_sub(1) as usize
 }

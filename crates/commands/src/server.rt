@@ -6,12 +6,13 @@ ghost use Rattle.cases.specs.Report.{all_cases, have_passed, lines_of};
 ghost use Rattle.cases.specs.declared.report.Outcome.{Outcome};
 
 use crate::client::{PATIENCE, Target, run_all_cases};
+use crate::connecting::Place;
 use crate::listening::listen;
 use crate::log::Log;
 use crate::port::{Service, serve_apart, serve_port};
 use crate::reporter::Reporter;
 use crate::stopping::Stop;
-use cases::ReportFault;
+use cases::{ReportFault, Windows};
 use device::{ConnRead, ConnWrite, Marked};
 use handlers::Methods;
 use std::alloc::Global;
@@ -142,9 +143,9 @@ where
     };
     let _serving = serve_apart(rt, alloc, listener, service)?;
     let target = Target {
-        host: LOOPBACK,
-        port,
+        place: Place::new(LOOPBACK, port),
         patience: PATIENCE,
+        windows: Windows::Held,
     };
     run_all_cases(&rt, alloc, target, output)
 }

@@ -23,8 +23,8 @@ ghost use Rattle.words.specs.Words.{IsInRange};
 mod misbehaving;
 
 use commands::{
-    CaseWords, Reason, RunFault, ServeWords, WireFault, WireWords, Words, WordsFault, listen,
-    read_words, run_body, run_case, run_drain, run_load, run_parts, run_self, run_wire, serve,
+    CaseWords, Reason, RunFault, ServeWords, Verdict, WireFault, WireWords, Words, WordsFault,
+    listen, read_words, run_body, run_case, run_drain, run_parts, run_self, run_wire, serve,
 };
 use connection::OpenGate;
 use device::Marked;
@@ -56,34 +56,42 @@ The gRPC interop test server's program.
 
 Usage: interop [body --cut N]
        interop case NAME --port P [--host H] [--times N] [--streams K] [--timeout S]
+                    [--soak_iterations N ..]
+       interop case --list
        interop drain [--port P]
-       interop misbehave (NAME --port P [--timeout S] | --list)
+       interop misbehave (NAME --port P [--host H] [--timeout S] | --list [--verbose])
        interop parts
        interop self [--port P]
        interop serve (--port P | --any-port) [--host H] [--conns N] [--report]
                      [--log [text | json]] [--drain-on-eof]
-       interop wire (all | GROUP | GROUP/N) --port P [--host H] [--silence S] [--verbose]
-                    [--json FILE]
+       interop wire (all | GROUP | GROUP/N) --port P [--host H] [--silence S] [--timeout T]
+                    [--jobs N] [--verbose] [--json FILE]
        interop wire --list
 
   body --cut N   read the joined DATA bytes of one call as hexadecimal text, in pieces
                  of N bytes (1 to 65536), and print its messages; this with N = 3 is
                  what no words at all mean
   case NAME      run the test case of this name as a client against the server at port P of
-                 H (127.0.0.1 if no host is given), or all of them where NAME is all, and
-                 print a line of each; what differed is told on standard error. With --times
-                 each is run N times, and its line tells how many of the runs passed; with
-                 --streams K runs go at a time, each over a connection of its own, and a line
-                 tells within which times 50 and 99 of 100 ended. A read or a write that takes S
-                 seconds (10 if not given) fails. The flags of gRPC's own
-                 clients do too: --test_case=NAME --server_host=H --server_port=P --use_tls=false
+                 H (127.0.0.1 if no host is given), or the fourteen where NAME is all, and
+                 print a line of each; what differed is told on standard error. A case may take
+                 S seconds (10 if not given). With --times each is run N times, and its line
+                 tells how many of the runs passed; with --streams K runs go at a time, each over
+                 a connection of its own, whose windows aren't held back, and a line tells within
+                 which times 50 and 99 of 100 ended. The flags of gRPC's own clients do too:
+                 --test_case=NAME --server_host=H --server_port=P --use_tls=false, and of rpc_soak
+                 and channel_soak --soak_iterations, --soak_max_failures,
+                 --soak_per_iteration_max_acceptable_latency_ms, --soak_overall_timeout_seconds,
+                 --soak_min_time_ms_between_rpcs, --soak_request_size, --soak_response_size;
+                 --list prints the names
   drain          serve on port P of 127.0.0.1 (50051 if none is given), run ping_pong against this
                  server, drain the server behind the first reply, and print the GOAWAYs that
                  came (last stream and error) and a line of the case
-  misbehave NAME misbehave as a server on port P of 127.0.0.1 in the way of this name, or in all ways,
-                 each on the next port, where NAME is all, and print whether the client does right;
-                 it ends when the client has gone, or after S seconds (30 if not given); with --list
-                 print the names
+  misbehave NAME misbehave as a server on port P of H (127.0.0.1 if no host is given) in the way of
+                 this name, or in all ways, each on the next port, where NAME is all. It says first
+                 what the client is to do, then what it did, and whether that is ok, failed, with
+                 the sentence that forbids it, or not tested. It ends when the client has gone, or
+                 after S seconds (30 if not given); --list prints the names, with --verbose what
+                 each does
   parts          read the bytes of a connection as hexadecimal text, serve it, and print what
                  it is answered with, stream by stream, and how it ended
   self           serve on port P of 127.0.0.1 (50051 if none is given), run all test cases
@@ -99,19 +107,23 @@ Usage: interop [body --cut N]
   wire           send the server at port P of H what no real client would, judge what it answers
                  by RFC 9113, RFC 7541 and gRPC, and print a line of each case: of all, of a
                  group (start, conn, hpack, stream, flow, control, grpc), or of one, as grpc/4.
-                 Silence of S milliseconds (1000 if not given) ends a case. --verbose tells what
-                 was sent; --json writes the outcomes to FILE, and what a failed case sent to
-                 FILE.GROUP-N.hex, which parts takes; --list prints all cases
+                 N cases (8 if not given) go at a time, each over connections of its own. Silence of
+                 S milliseconds (1000 if not given) ends a case, and so do T seconds (10 if not
+                 given). What fails is tried twice again: unsteady is a case that passed in one of
+                 the tries, and not applicable one that the server's SETTINGS leave no room for.
+                 --verbose tells what was sent and read; --json writes the outcomes to FILE, and
+                 what a failed case sent to FILE.GROUP-N.hex, which parts takes; --list prints all
+                 cases
   -h, --help     print this text, also behind a command
   --version      print the version
 
 H is an IPv4 or IPv6 address, or a name. Options come in any order, as --port P or --port=P.
 
-The cases, in the order in which case all runs them: empty_unary, large_unary,
+The cases that case all runs, in their order: empty_unary, large_unary,
 client_streaming, server_streaming, ping_pong, empty_stream, custom_metadata,
 status_code_and_message, special_status_message, unimplemented_method,
 unimplemented_service, cancel_after_begin, cancel_after_first_response,
-timeout_on_sleeping_server.
+timeout_on_sleeping_server. By their names alone: cacheable_unary, rpc_soak, channel_soak.
 
 Exit status: 0 done, 1 a case failed (of wire one of level must) or a client, 2 bad arguments or input,
 3 input, output, memory or the port failed; why a port can't be had, and which argument is bad,
@@ -148,20 +160,17 @@ fn print_body<R: Input + Print + Eprint + AllocGlobal>(rt: &R, cut: usize) -> u8
     }
 }
 
-// Runs the cases that the words name, and answers the exit status.
+// Lists or runs the cases that the words name, and answers the exit status.
 fn try_server<R>(rt: &R, words: CaseWords<'_>) -> u8
 where
     R: Net<Stream = TcpStream, Listener = TcpListener> + Print + Eprint + AllocGlobal,
     R: Clock + Threads + Copy + Send + Sync + Drop + 'static,
 {
     let mut output = Marked::new(io::writer(rt));
-    let answer = match words.streams {
-        Some(streams) => run_load(*rt, words, streams, &mut output),
-        None => run_case(rt, words, &mut output),
-    };
-    match answer {
-        Ok(true) => 0,
-        Ok(false) => CASE_FAILED,
+    match run_case(*rt, words, &mut output) {
+        Ok(Verdict::Passed) => 0,
+        Ok(Verdict::Failed) => CASE_FAILED,
+        Ok(Verdict::UnknownCase) => BAD_WORDS,
         Err(_) => FAILED,
     }
 }
@@ -169,14 +178,20 @@ where
 // Lists or runs the wire cases that the words choose, and answers the exit status.
 fn try_wire<R>(rt: &R, words: WireWords<'_>) -> u8
 where
-    R: Net + Files + Print + Eprint + AllocGlobal + Copy + Drop + 'static,
+    R: Net<Stream = TcpStream, Listener = TcpListener> + Files + Print + Eprint + AllocGlobal,
+    R: Threads + Wait + Clock + Copy + Send + Sync + Drop + 'static,
 {
     let mut output = Marked::new(io::writer(rt));
     match run_wire(rt, words, &mut output) {
         Ok(true) => 0,
         Ok(false) => CASE_FAILED,
         Err(WireFault::UnknownCase) => complain(rt, "there is no such wire case"),
-        Err(WireFault::BadRow | WireFault::WriteFailed | WireFault::OutOfMemory) => FAILED,
+        Err(
+            WireFault::BadRow
+            | WireFault::WriteFailed
+            | WireFault::ClockFailed
+            | WireFault::OutOfMemory,
+        ) => FAILED,
     }
 }
 

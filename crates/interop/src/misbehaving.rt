@@ -2,11 +2,11 @@
 
 use crate::{CASE_FAILED, FAILED, complain};
 use device::Marked;
-use misbehave::RunFault;
+use misbehave::{Place, RunFault};
 use std::io;
 use std::net::Net;
 use std::time::Clock;
-use words::MisbehaveWords;
+use words::{LOOPBACK, MisbehaveWords};
 
 /// Lists the misbehaviours, or runs those that the words name, and answers the exit status.
 pub fn obey_misbehave<R>(rt: R, words: MisbehaveWords<'_>) -> u8
@@ -16,12 +16,22 @@ where
     let alloc = rt.alloc();
     let mut output = Marked::new(io::writer(&rt));
     let answer = match words {
-        MisbehaveWords::List => misbehave::list(alloc, &mut output).map(|()| true),
+        MisbehaveWords::List { is_verbose } => misbehave::list(alloc, is_verbose, &mut output).map(
+            |()| true,
+        ),
         MisbehaveWords::Play {
             name,
+            host,
             port,
             seconds,
-        } => misbehave::run(rt, alloc, name, port, u32::from(seconds), &mut output),
+        } => {
+            let place = Place {
+                host,
+                port,
+                seconds,
+            };
+            misbehave::run(rt, alloc, name, place, &mut output)
+        }
     };
     match answer {
         Ok(true) => 0,
@@ -32,9 +42,22 @@ where
             status
         }
         Err(RunFault::Port(port, error)) => {
-            let _ = eprintln!(rt; "interop: port {port} can't be had: {error}");
+            let host = host_of(words);
+            let _ = if host == LOOPBACK {
+                eprintln!(rt; "interop: port {port} can't be had: {error}")
+            } else {
+                eprintln!(rt; "interop: port {port} of {host} can't be had: {error}")
+            };
             FAILED
         }
         Err(RunFault::WriteFailed | RunFault::OutOfMemory) => FAILED,
+    }
+}
+
+/// The host whose ports are listened on.
+fn host_of<'a>(words: MisbehaveWords<'a>) -> &'a str {
+    match words {
+        MisbehaveWords::List { .. } => LOOPBACK,
+        MisbehaveWords::Play { host, .. } => host,
     }
 }
