@@ -36,6 +36,9 @@ class Wrong:
     def from_client(self, frame):
         """Looks at a frame of the client."""
 
+    def heads(self, joined):
+        """Looks at the frames of the client as they came, the reserved bit too."""
+
     def fields(self, frame):
         """The fields of a header block, which is one frame in all that the right server says here."""
         return self.decoder.decode(frame[3], raw=False)
@@ -275,7 +278,136 @@ class JustEnds(Wrong):
         return [None] if frame[0] == wire.GOAWAY else [frame]
 
 
-WRONG = {it.__name__: it for it in Wrong.__subclasses__()}
+class Fussy(Wrong):
+    """Whatever a client may leave is an error to it: frames but the plainest, fields but those of a call, a message in pieces."""
+
+    FIELDS = {b":method", b":scheme", b":path", b":authority", b"te", b"content-type"}
+    FLAGS = {
+        wire.DATA: (0, 1),
+        wire.HEADERS: (0, 4, 5),
+        wire.SETTINGS: (0, 1),
+        wire.PING: (0, 1),
+        wire.RST_STREAM: (0,),
+        wire.WINDOW_UPDATE: (0,),
+        wire.CONTINUATION: (4,),
+    }
+
+    def __init__(self, client):
+        super().__init__(client)
+        self.said = False
+        self.last_reset = 0
+        self.with_data = set()
+        self.ended = set()
+
+    def from_server(self, frame):
+        if frame[0] in (wire.HEADERS, wire.DATA) and frame[1] & wire.END_STREAM:
+            self.ended.add(frame[2])
+        return [] if self.said else [frame]
+
+    def heads(self, joined):
+        while joined:
+            if joined[5] & 0x80:
+                self.object()
+            joined = joined[9 + int.from_bytes(joined[:3], "big"):]
+
+    def from_client(self, frame):
+        kind, flags, stream, content = frame
+        plain = flags in self.FLAGS.get(kind, ()) and stream < 100 and len(content) < 5_000
+        if plain and kind == wire.SETTINGS and not flags:
+            self.settings += 1
+            plain = self.settings == 1 or content in (b"", bytes.fromhex("000400000000"))
+        if plain and kind == wire.HEADERS:
+            plain = self.is_plain(content)
+        if plain and kind == wire.DATA:
+            plain = not wire.messages(content)[1] and (content != b"" or flags == 1 and stream not in self.with_data)
+            plain = plain and stream not in self.ended
+            self.with_data.add(stream)
+        if plain and kind == wire.CONTINUATION:
+            plain = content == b""
+        if plain and kind == wire.RST_STREAM:
+            plain = content == bytes.fromhex("00000008") and stream != self.last_reset
+            self.last_reset = stream
+        if plain and kind == wire.WINDOW_UPDATE:
+            plain = content in (bytes.fromhex("00100000"), bytes.fromhex("00000001")) and stream not in self.ended
+        if not plain:
+            self.object()
+
+    def object(self):
+        if not self.said:
+            self.said = True
+            self.write(wire.frame(wire.GOAWAY, 0, 0, struct.pack(">II", 0, 12)))
+
+    def is_plain(self, block):
+        """Whether a block has the fields of a call, and no others: literals whose names are spelled out, or `:method` and `:scheme`."""
+        names = []
+        while block[:1] in (b"\x82", b"\x83", b"\x86", b"\x87", b"\x00", b"\x01"):
+            if block[:1] >= b"\x80":
+                names.append(b":method" if block[0] < 0x86 else b":scheme")
+                block = block[1:]
+                continue
+            name, block = (b":authority", block[1:]) if block[:1] == b"\x01" else self.string(block[1:])
+            value, block = self.string(block)
+            names.append(name if value and not value.startswith(b"application/grpc+") else b"")
+        return not block and b":authority" in names and len(set(names)) == len(names) and set(names) <= self.FIELDS
+
+    @staticmethod
+    def string(block):
+        """A string at the beginning of these bytes, and what is left; no string where no byte is there."""
+        length = block[0] if block else 0
+        return block[1:1 + length], block[1 + length:]
+
+
+class TakesOldStreams(Wrong):
+    """A call is answered on each stream, whether it may be opened or not; errors are passed over."""
+
+    HEAD = [(":status", "200"), ("content-type", "application/grpc"), ("grpc-status", "0")]
+    ends = False
+
+    def from_server(self, frame):
+        return [] if frame[0] in (wire.GOAWAY, wire.RST_STREAM, wire.PING) else [frame]
+
+    def from_client(self, frame):
+        kind, flags, stream, content = frame
+        if kind in (wire.HEADERS, wire.DATA) and flags & wire.END_STREAM:
+            self.write(wire.frame(*self.spelled((wire.HEADERS, wire.END_STREAM, stream, b""), self.HEAD)))
+        if kind == wire.PING and not flags & wire.ACK:
+            self.write(wire.frame(wire.PING, wire.ACK, 0, content))
+
+
+class ResetsBack(Wrong):
+    """RST_STREAM is answered by DATA and RST_STREAM, and no stream is served any more."""
+
+    def __init__(self, client):
+        super().__init__(client)
+        self.said = False
+
+    def from_server(self, frame):
+        return [] if self.said and frame[0] in (wire.HEADERS, wire.DATA) else [frame]
+
+    def from_client(self, frame):
+        kind, _, stream, _ = frame
+        if kind == wire.RST_STREAM and stream:
+            self.said = True
+            self.write(wire.data(stream, b"x"), wire.reset(stream, 8))
+
+
+class LeavesPings(Wrong):
+    """It answers no PING."""
+
+    def from_server(self, frame):
+        return [] if frame[0] == wire.PING else [frame]
+
+
+class SaysOk(SaysAnotherStatus):
+    """Each response is one of status 0."""
+
+    def changed(self, name, value):
+        if name == "grpc-status":
+            return name, "0"
+        return (name, "200") if name == ":status" else (name, value)
+
+
+WRONG = {it.__name__: it for it in [*Wrong.__subclasses__(), SaysOk]}
 
 
 def relay_back(server, wrong):
@@ -314,17 +446,19 @@ def relay(client, port, make):
                 came = client.recv(65_536)
                 if not came:
                     break
-                try:
-                    server.sendall(came)
-                except OSError:
-                    pass
                 rest += came
                 if not begun and rest.startswith(wire.PREFACE):
                     rest, begun = rest[len(wire.PREFACE):], True
                 if begun:
+                    joined = rest
                     frames, rest = wire.split(rest)
+                    wrong.heads(joined[:len(joined) - len(rest)])
                     for frame in frames:
                         wrong.from_client(frame)
+                try:
+                    server.sendall(came)
+                except OSError:
+                    pass
         except OSError:
             pass
         try:
