@@ -15,12 +15,16 @@ IsAccused (judgement.Untested lack) = ⊥
 abbrev pub HasToEnd : Duty → Type 0
 HasToEnd duty.Free = ⊥
 HasToEnd (duty.Completes rule) = ⊥
+HasToEnd (duty.Proceeds rule) = ⊥
+HasToEnd duty.Tries = ⊥
 HasToEnd (duty.EndsStream code rule) = ⊤
 HasToEnd (duty.EndsConnection code rule) = ⊤
 
--- it has no duty but those of each client
+-- no sentence says more of it than those that bind each client
 abbrev pub IsFree : Duty → Type 0
 IsFree duty.Free = ⊤
 IsFree (duty.Completes rule) = ⊥
+IsFree (duty.Proceeds rule) = ⊥
+IsFree duty.Tries = ⊤
 IsFree (duty.EndsStream code rule) = ⊥
 IsFree (duty.EndsConnection code rule) = ⊥

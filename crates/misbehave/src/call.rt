@@ -79,6 +79,14 @@ impl Call {
         self.reset.is_none() && !(self.is_over && (self.is_whole || self.is_reset))
     }
 
+    /// Whether its request has been whole for so many milliseconds.
+    pub fn has_been_whole(&self, now: u64, milliseconds: u64) -> bool {
+        match self.whole_at {
+            Some(at) => now.saturating_sub(at) >= milliseconds,
+            None => false,
+        }
+    }
+
     /// Takes DATA.
     pub fn take(&mut self, bytes: &[u8]) -> Result<(), AllocError>
         ensures { self.new.window ≡ self.old.window }

@@ -72,6 +72,20 @@ pub fn list<W: ConnWrite>(alloc: Global, is_verbose: bool, output: &mut W) -> Re
     Ok(())
 }
 
+/// Tells the names that there are, where there isn't this one.
+pub fn tell_names<R: Eprint>(rt: &R, alloc: Global, name: &str) {
+    // The exit status tells of it even where nothing can be said here.
+    let Ok(plays) = all(alloc) else {
+        return;
+    };
+    let _said = eprint!(rt; "interop: there is no misbehaviour {name}: all");
+    for play in plays.as_slice() {
+        let known = play.name;
+        let _said = eprint!(rt; ", {known}");
+    }
+    let _said = eprintln!(rt; "");
+}
+
 /// Runs the misbehaviour of this name or, by the name `all`, all of them one after another. Prints
 /// what the client is to do before it is waited for, then what came of it, and last, of all, how
 /// many ended in which way. Answers whether each was ok.

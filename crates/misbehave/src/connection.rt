@@ -8,6 +8,7 @@ use crate::breach::{
 };
 use crate::call::Call;
 use crate::deeds::Ending;
+use crate::fence::Fence;
 use crate::frame_text::{
     ACK, DATA, NO_FLAGS, PING, SETTINGS, WINDOW_UPDATE, push_frame, push_frame_head,
 };
@@ -65,7 +66,13 @@ pub struct Connection<L> {
     pub goaway: Option<Ending>,
     /// Whether it made a call while another was open, once SETTINGS of the server held.
     pub has_overlap: bool,
-    /// Whether it has read all that steps sent.
+    /// How far it is known that it has read what steps sent.
+    pub fence: Fence,
+    /// Whether it answered a PING that was sent after what steps do wrong.
+    pub has_read: bool,
+    /// Whether the answers of the fence's PINGs say that it goes on, whatever steps do wrong, and
+    /// whether both came.
+    pub is_decisive: bool,
     pub is_all_read: bool,
     /// The millisecond of the case, and that in which a call last went on: by the client's frames,
     /// and by credit too.
@@ -75,8 +82,10 @@ pub struct Connection<L> {
     /// How many bytes were read and written.
     pub bytes_read: u64,
     pub bytes_written: u64,
-    /// Whether the client hasn't ended the connection, and no read or write of it failed.
+    /// Whether the client hasn't ended the connection, and no read of it failed.
     pub is_open: bool,
+    /// Whether a write failed: the client takes nothing more, but what it sent before is read.
+    is_deaf: bool,
     /// Whether the server has ended its side.
     pub is_shut: bool,
 }
@@ -103,6 +112,9 @@ impl<L: Line> Connection<L> {
             calls: Vec::new(alloc),
             goaway: None,
             has_overlap: false,
+            fence: Fence::Open,
+            has_read: false,
+            is_decisive: false,
             is_all_read: false,
             now,
             stirred: now,
@@ -110,6 +122,7 @@ impl<L: Line> Connection<L> {
             bytes_read: 0,
             bytes_written: 0,
             is_open: true,
+            is_deaf: false,
             is_shut: false,
         };
         connection.set(opening)?;
@@ -153,8 +166,25 @@ impl<L: Line> Connection<L> {
         Ok(number)
     }
 
+    /// A PING was answered, which may be one of the fence. What comes after it in the same bytes is
+    /// judged by that.
+    fn pass(&mut self, number: u64) {
+        match self.fence {
+            Fence::First(ping) if ping == number => {
+                self.has_read = true;
+                self.fence = Fence::Answered(self.now);
+            }
+            Fence::Second(ping) if ping == number => {
+                self.fence = Fence::Past;
+                self.mark_read();
+            }
+            _ => {}
+        }
+    }
+
     /// The client has read all that was sent.
-    pub fn mark_read(&mut self) {
+    fn mark_read(&mut self) {
+        self.is_all_read = self.is_all_read || self.is_decisive;
         self.rules.mark_read();
         for call in self.calls.iter_mut() {
             call.is_reset_read = call.is_reset;
@@ -200,7 +230,7 @@ impl<L: Line> Connection<L> {
     fn write_out(&mut self, most: usize) {
         for _ in 0..most {
             let rest = match self.out.as_slice().get(self.written..) {
-                Some(rest) if self.is_open && !rest.is_empty() => rest,
+                Some(rest) if self.is_open && !self.is_deaf && !rest.is_empty() => rest,
                 _ => {
                     self.out.clear();
                     self.written = 0;
@@ -210,7 +240,7 @@ impl<L: Line> Connection<L> {
             match self.line.write(rest) {
                 Ok(0) => return,
                 Ok(count) => self.note_written(count),
-                Err(_) => self.leave(),
+                Err(_) => self.is_deaf = true,
             }
         }
     }
@@ -296,6 +326,7 @@ impl<L: Line> Connection<L> {
             }
             Told::Pong(number) => {
                 self.rules.pong(number);
+                self.pass(number);
                 Ok(())
             }
             Told::GoAway(code) => {
@@ -356,13 +387,14 @@ impl<L: Line> Connection<L> {
     /// The client gives a call up. The first reason counts.
     fn reset(&mut self, stream: StreamId, code: u32) -> Result<(), Halt> {
         self.stir();
-        let is_late = self.is_all_read;
+        let (is_after_reading, is_late) = (self.has_read, self.is_all_read);
         if let Some(call) = call_on(&mut self.calls, stream) {
             allow_frame(call)?;
             let ending = Ending {
                 code,
                 is_goaway: false,
                 is_early: !call.is_over,
+                is_after_reading,
                 is_late,
             };
             call.reset = call.reset.or(Some(ending));
@@ -382,6 +414,7 @@ impl<L: Line> Connection<L> {
                     .calls
                     .iter()
                     .any(|call| !call.is_over && call.reset.is_none()),
+                is_after_reading: self.has_read,
                 is_late: self.is_all_read,
             });
         }

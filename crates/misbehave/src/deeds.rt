@@ -19,7 +19,9 @@ pub struct Ending {
     pub is_goaway: bool,
     /// Whether the server had not yet said all of the call.
     pub is_early: bool,
-    /// Whether it was seen before that the client had read all, and went on.
+    /// Whether the client had answered a PING that was sent after what the server does wrong.
+    pub is_after_reading: bool,
+    /// Whether it was seen before that the client had read what was wrong, and went on.
     pub is_late: bool,
 }
 
@@ -29,9 +31,9 @@ impl Ending {
         OWN_REASONS.contains(&self.code)
     }
 
-    /// Whether it answers what the server did, rather than that the program has enough.
+    /// Whether it answers what the server did, and can't be that the program has enough.
     pub fn is_answer(&self) -> bool {
-        !self.is_late || !ENOUGH.contains(&self.code)
+        !self.is_after_reading || !ENOUGH.contains(&self.code)
     }
 }
 
@@ -59,7 +61,7 @@ pub struct Deeds {
     pub has_left: bool,
     /// Whether it answered the first PING after what the server does wrong.
     pub has_read: bool,
-    /// Whether it answered both PINGs after the last step.
+    /// Whether it answered both PINGs after what the server does wrong, or after the last step.
     pub has_gone_on: bool,
     /// How many calls it made on the connection.
     pub calls: usize,

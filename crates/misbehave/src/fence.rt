@@ -19,3 +19,6 @@ pub enum Fence {
 
 /// How many milliseconds are between the first answer and the second PING.
 pub const SETTLING: u64 = 200;
+
+/// The same, where a client has to reject what was sent before.
+pub const REJECTION: u64 = 1_000;

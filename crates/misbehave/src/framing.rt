@@ -58,7 +58,7 @@ pub static FRAMING: [Misbehaviour; 9] = [
             Step::AwaitRequest,
             Step::Head(HEAD),
             Step::TooLong,
-            Step::AwaitReading,
+            Step::AwaitRejection,
             Step::Trailers(OK),
         ],
         duty: Duty::EndsStream(6, Sentence::FrameSize),
@@ -69,7 +69,8 @@ pub static FRAMING: [Misbehaviour; 9] = [
         name: "byte_by_byte",
         does: "answers well, the reply's first 1,000 bytes in DATA frames of a byte that are \
             written byte by byte",
-        wants: "the call goes well (RFC 9113, 4.1; gRPC over HTTP/2, \"Data Frames\")",
+        wants: "the call goes well (gRPC over HTTP/2, \"Data Frames\"), or it is given up (RFC \
+            9113, 10.5)",
         steps: &[
             Step::AwaitCall,
             Step::AwaitRequest,
@@ -79,14 +80,14 @@ pub static FRAMING: [Misbehaviour; 9] = [
             Step::Reply(Part::Rest),
             Step::Trailers(OK),
         ],
-        duty: Duty::Completes(Sentence::NoAlignment),
+        duty: Duty::Tries,
         ..PLAIN
     },
     Misbehaviour {
         name: "padding_1_mib",
         does: "answers well, in DATA frames with 1 MiB of padding",
         wants: "it gives credit for the padding too, and the call goes well (RFC 9113, 6.1 and \
-            6.9.1)",
+            6.9.1), or it is given up",
         steps: &[
             Step::AwaitCall,
             Step::AwaitRequest,
@@ -95,7 +96,7 @@ pub static FRAMING: [Misbehaviour; 9] = [
             Step::AwaitReading,
             Step::Trailers(OK),
         ],
-        duty: Duty::Completes(Sentence::Padding),
+        duty: Duty::Tries,
         ..PLAIN
     },
     Misbehaviour {

@@ -4,7 +4,7 @@ use crate::breach::{
     BAD_LENGTH, BAD_PADDING, Breach, CUT_BLOCK, FRAME_TOO_LONG, SETTING_VALUE, UNREADABLE_BLOCK,
     WINDOW_TOO_LARGE, WRONG_STREAM, ZERO_INCREMENT,
 };
-use crate::lack::{LONG_FIELDS, Lack};
+use crate::lack::{LONG_FIELDS, LONG_INTEGER, Lack};
 use flow::WindowFault;
 use h2frame::FrameFault;
 use hpack_codec::HpackFault;
@@ -66,11 +66,14 @@ impl From<FragmentFault> for Halt {
     }
 }
 
+/// Each reader of integers has a limit of its own (RFC 7541, section 5.1), so one past this server's
+/// breaks no rule.
 impl From<HpackFault> for Halt {
     fn from(fault: HpackFault) -> Halt {
         match fault {
             HpackFault::OutOfMemory => Halt::OutOfMemory,
             HpackFault::TooLarge => Halt::Lacks(Lack::Seen(LONG_FIELDS)),
+            HpackFault::Integer => Halt::Lacks(Lack::Seen(LONG_INTEGER)),
             _ => Halt::Broke(UNREADABLE_BLOCK),
         }
     }

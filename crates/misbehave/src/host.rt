@@ -41,8 +41,6 @@ pub struct Host<W: World> {
     lack: Option<Lack>,
     /// Whether a connection came that isn't HTTP/2.
     has_stranger: bool,
-    /// Whether a call came on another connection while one was open on the first.
-    has_overlap: bool,
     /// The millisecond of the case in which a connection was last made.
     admitted: u64,
     /// How long the case took.
@@ -65,7 +63,6 @@ pub fn play_out<W: World>(
         breach: None,
         lack: None,
         has_stranger: false,
-        has_overlap: false,
         admitted: 0,
         milliseconds: 0,
         is_late: false,
@@ -160,10 +157,19 @@ impl<W: World> Host<W> {
             let calls = other.connection.calls.len();
             let turned = turn_of(other, world.milliseconds());
             let has_call = other.connection.calls.len() > calls;
-            self.has_overlap = self.has_overlap || is_busy && has_call;
             self.heed(turned)?;
+            if is_busy && has_call {
+                self.note_overlap();
+            }
         }
         Ok(())
+    }
+
+    /// A call came on another connection while one was open on the first.
+    fn note_overlap(&mut self) {
+        if let Some(main) = &mut self.main {
+            main.connection.has_overlap = true;
+        }
     }
 
     /// Whether a call is open on the first connection, where the SETTINGS hold with which it began.
@@ -243,11 +249,11 @@ impl<W: World> Host<W> {
             reset: main.reset(),
             goaway: connection.goaway,
             has_left: !connection.is_open,
-            has_read: main.has_read,
+            has_read: connection.has_read,
             has_gone_on: main.has_gone_on(),
             calls: connection.calls.len(),
             calls_elsewhere,
-            has_overlap: self.has_overlap || connection.has_overlap,
+            has_overlap: connection.has_overlap,
             awaited: main.awaited(),
         }
     }

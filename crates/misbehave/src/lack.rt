@@ -9,6 +9,8 @@ pub enum Lack {
     Seen(Shortfall),
     /// It gave the call up for a reason of its own.
     GaveUp(Ending),
+    /// It gave the call up by an error, as it may.
+    Declined(Ending),
     /// The server waited in vain for this.
     Awaited(&'static str),
 }
@@ -38,6 +40,12 @@ pub const NO_CALL: Shortfall = Shortfall {
 pub const LONG_FIELDS: Shortfall = Shortfall {
     seen: "a header block is over 65,536 bytes, which this server doesn't read",
     todo: "send less metadata",
+};
+
+pub const LONG_INTEGER: Shortfall = Shortfall {
+    seen: "a header block has an integer of over six bytes, or over 4,294,967,295, which this \
+        server doesn't read",
+    todo: "write it shorter (RFC 7541, 5.1)",
 };
 
 pub const SHORT_REQUEST: Shortfall = Shortfall {
@@ -73,6 +81,11 @@ pub const LEFT_EARLY: Shortfall = Shortfall {
 pub const LEFT_UNREAD: Shortfall = Shortfall {
     seen: "it ended the connection before it was seen that it had read all",
     todo: "close the channel a second after the call's end",
+};
+
+pub const LEFT_UNCLEAR: Shortfall = Shortfall {
+    seen: "it ended the connection after it had read that, maybe since it had what it wanted",
+    todo: "close the channel six seconds after the call's end",
 };
 
 pub const TIME_OVER: Shortfall = Shortfall {

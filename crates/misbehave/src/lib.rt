@@ -47,4 +47,4 @@ mod table;
 mod verdict;
 mod windows;
 
-pub use command::{Place, RunFault, list, run};
+pub use command::{Place, RunFault, list, run, tell_names};

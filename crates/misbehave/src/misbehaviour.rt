@@ -33,8 +33,12 @@ impl Calls {
 pub enum Duty {
     /// No sentence says more than those that bind each client.
     Free,
-    /// It may not give the call up by an error before its response has ended.
+    /// It may not give the call up by an error before its response has ended, nor leave it undone.
     Completes(Sentence),
+    /// It may give the call up, but where it doesn't, it may not leave it undone.
+    Proceeds(Sentence),
+    /// It may do either: then nothing is seen of it.
+    Tries,
     /// It has to end the stream, or the connection. The standard names the error of this code.
     EndsStream(u32, Sentence),
     /// It has to end the connection. The standard names the error of this code.

@@ -99,6 +99,7 @@ pub static OFFICIAL: [Misbehaviour; 8] = [
             Step::AnswerSlowly(2),
             Step::Settings(&[(3, 100)]),
             Step::AwaitAcks,
+            Step::AwaitTwoCalls,
         ],
         duty: Duty::Completes(Sentence::AllCallsGoWell),
         need: Need::CallsAtOnce,

@@ -6,7 +6,7 @@ use crate::breach::{Breach, NO_SIZE_UPDATE};
 use crate::call::Call;
 use crate::connection::Connection;
 use crate::deeds::Ending;
-use crate::fence::{Fence, SETTLING};
+use crate::fence::{Fence, REJECTION, SETTLING};
 use crate::halt::Halt;
 use crate::lack::{Lack, NO_ENTRIES, SHORT_REQUEST};
 use crate::line::Line;
@@ -17,7 +17,10 @@ use crate::step::Step;
 use std::alloc::Global;
 
 /// For how many milliseconds a request has to be whole where calls are answered slowly.
-const SLOWLY: u64 = 100;
+const SLOWLY: u64 = 300;
+
+/// For how many milliseconds a call that is whole waits for another beside it.
+const TOGETHER: u64 = 3_000;
 
 /// The most pieces that are read before the player looks at other connections.
 const MOST_PIECES: usize = 16;
@@ -41,14 +44,10 @@ pub struct Player<L> {
     since: u64,
     /// How many padded frames were sent.
     padded: u32,
-    /// Whether the client has read what was sent.
-    fence: Fence,
     /// Whether a step sent nothing, since the client had given the call up.
     is_cut: bool,
     /// Whether all that the server does wrong was sent, or the first frame of an odd reply.
     pub is_shown: bool,
-    /// Whether a PING after that was answered.
-    pub has_read: bool,
     /// The PING that was sent to a client that does nothing of a call.
     probe: Option<u64>,
     /// What was sent, in words.
@@ -66,10 +65,8 @@ impl<L: Line> Player<L> {
             current: None,
             since: now,
             padded: 0,
-            fence: Fence::Open,
             is_cut: false,
             is_shown: false,
-            has_read: false,
             probe: None,
             log: String::new(alloc),
         })
@@ -80,7 +77,8 @@ impl<L: Line> Player<L> {
         self.done >= self.steps.len()
     }
 
-    /// Whether the client answered both PINGs after the last step.
+    /// Whether the client answered both PINGs after what the server does wrong, or after the last
+    /// step.
     pub fn has_gone_on(&self) -> bool {
         self.connection.is_all_read
     }
@@ -201,7 +199,7 @@ impl<L: Line> Player<L> {
         }
         self.done = self.done.saturating_add(1);
         self.since = self.connection.now;
-        self.fence = Fence::Open;
+        self.connection.fence = Fence::Open;
         Ok(())
     }
 
@@ -209,8 +207,9 @@ impl<L: Line> Player<L> {
     fn stand_after(&mut self) -> Result<(), Halt> {
         if !self.steps.is_empty() {
             self.is_shown = self.is_shown || !self.is_cut;
-            if !self.connection.is_shut && self.is_read()? {
-                self.connection.is_all_read = true;
+            self.connection.is_decisive = true;
+            if !self.connection.is_shut {
+                self.is_read(SETTLING)?;
             }
         }
         if self.connection.rules.has_goaway || self.connection.is_shut {
@@ -219,32 +218,22 @@ impl<L: Line> Player<L> {
         self.answer(0)
     }
 
-    /// Whether the client has read all that was sent. What was sent up to the first question is the
-    /// misbehaviour.
-    fn is_read(&mut self) -> Result<bool, Halt> {
+    /// Whether the client has read all that was sent, and so many milliseconds have passed since.
+    /// What was sent up to the first question is the misbehaviour.
+    fn is_read(&mut self, settling: u64) -> Result<bool, Halt> {
         self.is_shown = self.is_shown || !self.is_cut;
-        match self.fence {
-            Fence::Open => self.fence = Fence::First(self.connection.ping()?),
-            Fence::First(number) => {
-                if !self.connection.rules.is_waiting(number) {
-                    self.has_read = true;
-                    self.fence = Fence::Answered(self.connection.now);
-                }
+        match self.connection.fence {
+            Fence::Open => {
+                self.connection.fence = Fence::First(self.connection.ping()?);
             }
             Fence::Answered(at) => {
-                if self.connection.now.saturating_sub(at) >= SETTLING {
-                    self.fence = Fence::Second(self.connection.ping()?);
+                if self.connection.now.saturating_sub(at) >= settling {
+                    self.connection.fence = Fence::Second(self.connection.ping()?);
                 }
             }
-            Fence::Second(number) => {
-                if !self.connection.rules.is_waiting(number) {
-                    self.fence = Fence::Past;
-                    self.connection.mark_read();
-                }
-            }
-            Fence::Past => {}
+            Fence::First(_) | Fence::Second(_) | Fence::Past => {}
         }
-        Ok(matches!(self.fence, Fence::Past))
+        Ok(matches!(self.connection.fence, Fence::Past))
     }
 
     /// Answers the calls that no step is about, once their requests have been whole for so many
@@ -271,10 +260,7 @@ impl<L: Line> Player<L> {
         if milliseconds == 0 {
             return call.is_whole;
         }
-        match call.whole_at {
-            Some(at) => self.connection.now.saturating_sub(at) >= milliseconds,
-            None => false,
-        }
+        call.has_been_whole(self.connection.now, milliseconds)
     }
 
     /// Does a step, or a part of it. Whether it was done.
@@ -289,13 +275,18 @@ impl<L: Line> Player<L> {
             Step::AwaitBytes(count) => self.await_bytes(*count),
             Step::AwaitAcks => Ok(self.connection.rules.is_acknowledged()),
             Step::AwaitPongs => Ok(self.connection.rules.is_answered()),
-            Step::AwaitReading => self.is_read(),
+            Step::AwaitReading => self.is_read(SETTLING),
+            Step::AwaitRejection => {
+                self.connection.is_decisive = true;
+                Ok(self.reset().is_some() || self.is_read(REJECTION)?)
+            }
             Step::Pause(length) => Ok(self.connection.now.saturating_sub(self.since) >= *length),
             Step::Unfinished => self.is_unfinished(),
             Step::AnswerSlowly(count) => {
                 self.answer(SLOWLY)?;
                 Ok(self.answered() >= *count)
             }
+            Step::AwaitTwoCalls => self.await_two_calls(),
             Step::GiveBack => {
                 self.connection.give_back()?;
                 Ok(true)
@@ -390,6 +381,25 @@ impl<L: Line> Player<L> {
             return Err(Halt::Lacks(Lack::Seen(SHORT_REQUEST)));
         }
         Ok(false)
+    }
+
+    /// Whether two calls were open at once, or the client was given long enough to make a second
+    /// one beside the first. What it had ready by then was read before its answers of PINGs.
+    fn await_two_calls(&mut self) -> Result<bool, Halt> {
+        if self.connection.has_overlap {
+            return Ok(true);
+        }
+        if !self.has_waited() {
+            return Ok(false);
+        }
+        self.is_read(SETTLING)
+    }
+
+    /// Whether a call that is whole has long waited for another beside it.
+    fn has_waited(&self) -> bool {
+        let now = self.connection.now;
+        let mut calls = self.connection.calls.iter();
+        calls.any(|call| !call.is_over && call.has_been_whole(now, TOGETHER))
     }
 
     /// How many calls were answered to their end.

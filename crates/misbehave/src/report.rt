@@ -146,7 +146,7 @@ fn push_deeds(text: &mut String, named: Option<u32>, deeds: &Deeds) -> Result<()
         push_error(text, goaway.code, named)?;
     }
     if deeds.has_gone_on {
-        text.push_str(", answers of the PINGs after the last step")?;
+        text.push_str(", answers of both PINGs after that")?;
     }
     if deeds.has_left {
         text.push_str(", the end of the connection")?;
@@ -216,6 +216,13 @@ fn push_lack(text: &mut String, lack: Lack, play: &Misbehaviour) -> Result<(), A
             text.push_str(
                 ", maybe of its own accord: let the call end by itself, with a deadline of 20 \
                     seconds at least",
+            )
+        }
+        Lack::Declined(ending) => {
+            push_ending(text, &ending)?;
+            text.push_str(
+                " before its response had ended, which no sentence forbids: let the call go on to \
+                    its end",
             )
         }
         Lack::Awaited(awaited) => {

@@ -155,7 +155,7 @@ pub static RESPONSES: [Misbehaviour; 18] = [
                 ("content-type", "application/grpc"),
                 ("X-Upper", "1"),
             ]),
-            Step::AwaitReading,
+            Step::AwaitRejection,
             Step::Reply(Part::Rest),
             Step::Trailers(OK),
         ],
@@ -250,7 +250,7 @@ pub static RESPONSES: [Misbehaviour; 18] = [
     Misbehaviour {
         name: "twenty_continuations",
         does: "answers well, with a head in HEADERS and twenty CONTINUATIONs",
-        wants: "the call goes well (RFC 9113, 4.3 and 6.10)",
+        wants: "the call goes well (RFC 9113, 4.3 and 6.10), or it is given up (10.5.1)",
         steps: &[
             Step::AwaitCall,
             Step::AwaitRequest,
@@ -259,7 +259,7 @@ pub static RESPONSES: [Misbehaviour; 18] = [
             Step::Reply(Part::Rest),
             Step::Trailers(OK),
         ],
-        duty: Duty::Completes(Sentence::Continuations),
+        duty: Duty::Tries,
         ..PLAIN
     },
     Misbehaviour {

@@ -15,12 +15,6 @@ pub enum Sentence {
     PaddedCallGoesWell,
     /// Of no_df_padding_sanity_test: small frames are received.
     SmallFramesGoWell,
-    /// DATA may be padded, and padding counts.
-    Padding,
-    /// The frames of DATA say nothing of messages.
-    NoAlignment,
-    /// Any number of CONTINUATIONs may come.
-    Continuations,
     /// Interim heads are read.
     InterimHeads,
     /// Trailers without END_STREAM are malformed.
@@ -46,9 +40,6 @@ impl Sentence {
             Sentence::AllCallsGoWell => ALL_CALLS_GO_WELL,
             Sentence::PaddedCallGoesWell => PADDED_CALL_GOES_WELL,
             Sentence::SmallFramesGoWell => SMALL_FRAMES_GO_WELL,
-            Sentence::Padding => PADDING,
-            Sentence::NoAlignment => NO_ALIGNMENT,
-            Sentence::Continuations => CONTINUATIONS,
             Sentence::InterimHeads => INTERIM_HEADS,
             Sentence::UnendedTrailers => UNENDED_TRAILERS,
             Sentence::UpperCase => UPPER_CASE,
@@ -95,30 +86,6 @@ const SMALL_FRAMES_GO_WELL: Rule = Rule {
     section: "no_df_padding_sanity_test",
     sentence: "This test verifies that the client can correctly receive a series of small data \
         frames.",
-};
-
-const PADDING: Rule = Rule {
-    standard: RFC_9113,
-    section: "6.1 and 6.9.1",
-    sentence: "DATA frames MAY also contain padding.\"; \"The entire DATA frame payload is \
-        included in flow control, including the Pad Length and Padding fields if present.\"; \"The \
-        receiver of a frame sends a WINDOW_UPDATE frame as it consumes data and frees up space in \
-        flow-control windows.",
-};
-
-const NO_ALIGNMENT: Rule = Rule {
-    standard: "gRPC over HTTP/2",
-    section: "Data Frames",
-    sentence: "DATA frame boundaries have no relation to Length-Prefixed-Message boundaries and \
-        implementations should make no assumptions about their alignment.",
-};
-
-const CONTINUATIONS: Rule = Rule {
-    standard: RFC_9113,
-    section: "6.10",
-    sentence: "Any number of CONTINUATION frames can be sent, as long as the preceding frame is \
-        on the same stream and is a HEADERS, PUSH_PROMISE, or CONTINUATION frame without the \
-        END_HEADERS flag set.",
 };
 
 const INTERIM_HEADS: Rule = Rule {

@@ -61,8 +61,12 @@ pub enum Step {
     AwaitPongs,
     /// Waits until the client has read what was sent, which is the misbehaviour.
     AwaitReading,
+    /// The same, where the client has to reject that: until it has, or went on for a second.
+    AwaitRejection,
     /// Waits until so many calls were answered, each after a pause.
     AnswerSlowly(usize),
+    /// Answers no call until two are open at once, or one was long alone.
+    AwaitTwoCalls,
     /// Waits for so many milliseconds.
     Pause(u64),
     /// The call's request has to go on still.
@@ -130,8 +134,9 @@ impl Step {
             Step::AwaitUpdatedCall => "a second call, made once the first had ended",
             Step::AwaitRequest | Step::AwaitBytes(_) => "the rest of its request",
             Step::AwaitAcks => "its acknowledgement of SETTINGS",
-            Step::AwaitPongs | Step::AwaitReading => "its answer of a PING",
+            Step::AwaitPongs | Step::AwaitReading | Step::AwaitRejection => "its answer of a PING",
             Step::AnswerSlowly(_) => "a second call",
+            Step::AwaitTwoCalls => "two calls at once",
             Step::Reply(_) => "its credit for the rest of the reply",
             _ => "its next frame",
         }

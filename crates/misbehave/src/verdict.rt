@@ -1,6 +1,6 @@
 //! Whether what a client did is right.
 
-ghost use Rattle.std.specs.Prelude.{◌≡◌, ◌<◌, ◌⊎◌, None, true, IsSome};
+ghost use Rattle.std.specs.Prelude.{◌≡◌, ◌<◌, ◌⊎◌, None, true, false, IsSome};
 ghost use Rattle.misbehave.specs.Judgements.{HasToEnd, IsAccused, IsFree};
 ghost use Rattle.misbehave.specs.declared.misbehaviour.Need.TheVariants as needs;
 ghost use Rattle.misbehave.specs.declared.verdict.Judgement.TheVariants as judgement;
@@ -8,8 +8,8 @@ ghost use Rattle.misbehave.specs.declared.verdict.Judgement.TheVariants as judge
 use crate::breach::Breach;
 use crate::deeds::{Deeds, Ending};
 use crate::lack::{
-    LEFT_EARLY, LEFT_UNREAD, Lack, NO_CALL, NO_CALL_ELSEWHERE, NO_SIGN, ONE_AT_A_TIME, Shortfall,
-    TIME_OVER,
+    LEFT_EARLY, LEFT_UNCLEAR, LEFT_UNREAD, Lack, NO_CALL, NO_CALL_ELSEWHERE, NO_SIGN,
+    ONE_AT_A_TIME, Shortfall, TIME_OVER,
 };
 use crate::misbehaviour::{Duty, Misbehaviour, Need};
 use crate::outcome::{Rule, Verdict};
@@ -66,8 +66,10 @@ pub fn judge(play: &Misbehaviour, deeds: &Deeds) -> Judgement
     // Who did right broke no rule, was shown the misbehaviour, and did what the case needs.
     ensures lawful { result ≡ judgement.Right → deeds.now.breach ≡ None }
     ensures shown { result ≡ judgement.Right → deeds.now.is_shown ≡ true }
+    // Ending the connection is a reaction where it comes in place of an answer of the PING after it.
     ensures ended { result ≡ judgement.Right → HasToEnd play.now.duty
-        → IsSome deeds.now.reset ⊎ (IsSome deeds.now.goaway ⊎ (deeds.now.has_left ≡ true)) }
+        → IsSome deeds.now.reset ⊎ (IsSome deeds.now.goaway
+        ⊎ ((deeds.now.has_left ≡ true) × (deeds.now.has_read ≡ false))) }
     ensures elsewhere { result ≡ judgement.Right → play.now.need ≡ needs.CallElsewhere
         → 0 < deeds.now.calls_elsewhere }
     ensures at_once { result ≡ judgement.Right → play.now.need ≡ needs.CallsAtOnce
@@ -125,31 +127,41 @@ fn unshown(deeds: &Deeds) -> Lack {
 /// Whether a client that was shown the misbehaviour did its duty.
 fn judge_duty(duty: Duty, deeds: &Deeds) -> Judgement
     ensures ended { result ≡ judgement.Right → HasToEnd duty
-        → IsSome deeds.now.reset ⊎ (IsSome deeds.now.goaway ⊎ (deeds.now.has_left ≡ true)) }
-    ensures free { IsFree duty → result ≡ judgement.Right }
+        → IsSome deeds.now.reset ⊎ (IsSome deeds.now.goaway
+        ⊎ ((deeds.now.has_left ≡ true) × (deeds.now.has_read ≡ false))) }
+    ensures free { IsAccused result → ¬ IsFree duty }
     ensures kept { IsAccused result → HasToEnd duty → deeds.now.has_gone_on ≡ true }
 {
     match duty {
         Duty::Free => Judgement::Right,
-        Duty::Completes(sentence) => completes(sentence, deeds),
+        Duty::Completes(sentence) => completes(Some(sentence), Some(sentence), deeds),
+        Duty::Proceeds(sentence) => completes(None, Some(sentence), deeds),
+        Duty::Tries => completes(None, None, deeds),
         Duty::EndsStream(_, sentence) => ends_stream(sentence, deeds),
         Duty::EndsConnection(_, sentence) => ends(Fault::KeptConnection(sentence), deeds),
     }
 }
 
-/// Whether a client let the call go on to its end.
-fn completes(sentence: Sentence, deeds: &Deeds) -> Judgement {
+/// Whether a client let the call go on to its end. Sentences may forbid to give it up, and to leave
+/// it undone.
+fn completes(
+    giving_up: Option<Sentence>,
+    leaving_undone: Option<Sentence>,
+    deeds: &Deeds,
+) -> Judgement
+    ensures free { IsAccused result → IsSome giving_up ⊎ IsSome leaving_undone }
+{
     if let Some(reset) = deeds.reset {
         if reset.is_early && reset.is_own_reason() {
             return Judgement::Untested(Lack::GaveUp(reset));
         }
         if reset.is_early {
-            return Judgement::Wrong(Fault::GaveUp(reset, sentence));
+            return gives_up(giving_up, reset);
         }
     }
     if let Some(goaway) = deeds.goaway {
         if goaway.is_early && !goaway.is_own_reason() {
-            return Judgement::Wrong(Fault::GaveUp(goaway, sentence));
+            return gives_up(giving_up, goaway);
         }
     }
     if deeds.is_over {
@@ -158,44 +170,66 @@ fn completes(sentence: Sentence, deeds: &Deeds) -> Judgement {
     if deeds.has_left {
         return Judgement::Untested(Lack::Seen(LEFT_EARLY));
     }
-    if deeds.is_stalled {
-        return Judgement::Wrong(Fault::Stalled(sentence));
+    match leaving_undone {
+        Some(sentence) if deeds.is_stalled => Judgement::Wrong(Fault::Stalled(sentence)),
+        _ => Judgement::Untested(Lack::Awaited(deeds.awaited)),
     }
-    Judgement::Untested(Lack::Awaited(deeds.awaited))
+}
+
+/// What is to be said of a client that gave the call up by an error.
+fn gives_up(forbidden: Option<Sentence>, ending: Ending) -> Judgement
+    ensures { IsAccused result → IsSome forbidden }
+{
+    match forbidden {
+        Some(sentence) => Judgement::Wrong(Fault::GaveUp(ending, sentence)),
+        None => Judgement::Untested(Lack::Declined(ending)),
+    }
 }
 
 /// Whether a client ended the stream, or the connection.
 fn ends_stream(sentence: Sentence, deeds: &Deeds) -> Judgement
     ensures ended { result ≡ judgement.Right
-        → IsSome deeds.now.reset ⊎ (IsSome deeds.now.goaway ⊎ (deeds.now.has_left ≡ true)) }
+        → IsSome deeds.now.reset ⊎ (IsSome deeds.now.goaway
+        ⊎ ((deeds.now.has_left ≡ true) × (deeds.now.has_read ≡ false))) }
     ensures kept { IsAccused result → deeds.now.has_gone_on ≡ true }
 {
     if let Some(reset) = deeds.reset {
         if reset.is_answer() {
             return Judgement::Right;
         }
+        if !reset.is_late {
+            return Judgement::Untested(Lack::GaveUp(reset));
+        }
     }
     ends(Fault::KeptStream(sentence), deeds)
 }
 
-/// Whether a client ended the connection. The fault is what it did wrong where it went on.
+/// Whether a client ended the connection. The fault is what it did wrong where it went on. Once it
+/// has read what was wrong, and goes on, that it ends the connection says nothing: it may have what
+/// it wanted.
 fn ends(fault: Fault, deeds: &Deeds) -> Judgement
-    ensures ended { result ≡ judgement.Right
-        → IsSome deeds.now.goaway ⊎ (deeds.now.has_left ≡ true) }
+    ensures ended { result ≡ judgement.Right → IsSome deeds.now.goaway
+        ⊎ ((deeds.now.has_left ≡ true) × (deeds.now.has_read ≡ false)) }
     ensures kept { IsAccused result → deeds.now.has_gone_on ≡ true }
 {
     if let Some(goaway) = deeds.goaway {
         if goaway.is_answer() {
             return Judgement::Right;
         }
+        if !goaway.is_late {
+            return Judgement::Untested(Lack::GaveUp(goaway));
+        }
     }
     if deeds.has_gone_on {
         return Judgement::Wrong(fault);
     }
-    if deeds.has_left {
-        return Judgement::Right;
+    if !deeds.has_left {
+        return Judgement::Untested(Lack::Seen(TIME_OVER));
     }
-    Judgement::Untested(Lack::Seen(TIME_OVER))
+    if deeds.has_read {
+        return Judgement::Untested(Lack::Seen(LEFT_UNCLEAR));
+    }
+    Judgement::Right
 }
 
 /// Whether a client did what has to be seen before it is told as right.

@@ -34,7 +34,7 @@ pub static WINDOWS: [Misbehaviour; 4] = [
         wants: WAITS,
         opening: &[(4, 1)],
         gives_back: false,
-        duty: Duty::Completes(Sentence::WindowChange),
+        duty: Duty::Proceeds(Sentence::WindowChange),
         steps: &[
             Step::AwaitCall,
             Step::AwaitAcks,
@@ -62,7 +62,7 @@ pub static WINDOWS: [Misbehaviour; 4] = [
         wants: WAITS,
         opening: &[(4, 0)],
         gives_back: false,
-        duty: Duty::Completes(Sentence::WindowChange),
+        duty: Duty::Proceeds(Sentence::WindowChange),
         steps: &[
             Step::AwaitCall,
             Step::AwaitAcks,
@@ -87,7 +87,7 @@ pub static WINDOWS: [Misbehaviour; 4] = [
         wants: "it sends nothing while its window is below zero, and the call goes well once it \
             opens (RFC 9113, 6.9.2)",
         gives_back: false,
-        duty: Duty::Completes(Sentence::WindowChange),
+        duty: Duty::Proceeds(Sentence::WindowChange),
         steps: &[
             Step::AwaitCall,
             Step::AwaitBytes(65_535),
