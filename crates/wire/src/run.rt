@@ -205,12 +205,16 @@ fn frames_of(alloc: Global, frames: &[SeenFrame]) -> Result<Vec<String>, AllocEr
     Ok(lines)
 }
 
-/// Whether the server greets a connection on which nothing else is said.
+/// Whether the server greets a connection on which nothing else is said. A slow one has the whole time of a connection for it.
 fn is_alive<V: Server>(alloc: Global, pace: Pace, server: &V) -> Result<bool, WireFault> {
     let Some(socket) = server.connect() else {
         return Ok(false);
     };
-    let mut talk = Talk::new(alloc, server, socket, pace)?;
+    let patient = Pace {
+        silence: pace.limit,
+        limit: pace.limit,
+    };
+    let mut talk = Talk::new(alloc, server, socket, patient)?;
     talk.greet()?;
     Ok(talk.seen.greeted)
 }

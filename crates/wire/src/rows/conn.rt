@@ -96,7 +96,7 @@ reserved bit of the stream on SETTINGS
   want acks 2
 
 padding on HEADERS and DATA
-  must RFC 9113, 6.1, 6.2: the format; padding has \"no application semantic value\"
+  should RFC 9113, 6.1, 6.2: the format; padding has \"no application semantic value\"
   control answered 1
   ~headers 1 04 call:EmptyCall
   !headers 1 0c 05 call:EmptyCall 00*5
@@ -105,7 +105,7 @@ padding on HEADERS and DATA
   want answered 1
 
 padding of no bytes
-  must RFC 9113, 6.1, 6.2: the format; a \"Pad Length field with a value of zero\"
+  should RFC 9113, 6.1, 6.2: the format; a \"Pad Length field with a value of zero\"
   control answered 1
   ~headers 1 04 call:EmptyCall
   !headers 1 0c 00 call:EmptyCall
@@ -114,7 +114,7 @@ padding of no bytes
   want answered 1
 
 DATA of nothing but padding
-  must RFC 9113, 6.1: the format; padding has \"no application semantic value\"
+  should RFC 9113, 6.1: the format; padding has \"no application semantic value\"
   control answered 1
   headers 1 04 call:EmptyCall
   !data 1 08 04 00*4

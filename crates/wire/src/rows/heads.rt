@@ -2,7 +2,7 @@
 
 pub const ROWS: &str = "\
 content-type application/grpc+proto
-  must gRPC, Appendix A: Content-Type \"application/grpc+proto\"
+  should gRPC, Appendix A: Content-Type \"application/grpc+proto\"
   control status 1 0
   headers 1 04 83 86 path:EmptyCall 01 str:localhost te=trailers !content-type=application/grpc+proto ~content-type=application/grpc
   data 1 01 0000000000
@@ -41,7 +41,7 @@ GET is answered by 405
   want http 1 405
 
 scheme https
-  ours it is accepted (RFC 9110, 7.4, has servers refuse it without TLS)
+  ours it is accepted, as a trusted gateway's (RFC 9110, 7.4: else it \"MUST be rejected\")
   headers 1 04 83 87 path:EmptyCall 01 str:localhost te=trailers content-type=application/grpc
   data 1 01 0000000000
   want status 1 0
@@ -75,7 +75,7 @@ a field of 4,000 bytes
   want status 1 0
 
 grpc-encoding identity
-  must gRPC, Requests: the format of Content-Coding, \"identity\"
+  should gRPC, Requests: the format of Content-Coding, \"identity\"
   control status 1 0
   headers 1 04 call:EmptyCall !grpc-encoding=identity
   data 1 01 0000000000
@@ -111,35 +111,35 @@ a compressed message under identity
   want status 1 13
 
 timeout of 99999999 hours
-  must gRPC, Requests: the format of Timeout, \"at most 8 digits\"
+  should gRPC, Requests: the format of Timeout, \"at most 8 digits\"
   control status 1 0
   headers 1 04 call:EmptyCall !grpc-timeout=99999999H
   data 1 01 0000000000
   want status 1 0
 
 timeout of 10 minutes
-  must gRPC, Requests: the format of Timeout, \"at most 8 digits\"
+  should gRPC, Requests: the format of Timeout, \"at most 8 digits\"
   control status 1 0
   headers 1 04 call:EmptyCall !grpc-timeout=10M
   data 1 01 0000000000
   want status 1 0
 
 timeout of 10 seconds
-  must gRPC, Requests: the format of Timeout, \"at most 8 digits\"
+  should gRPC, Requests: the format of Timeout, \"at most 8 digits\"
   control status 1 0
   headers 1 04 call:EmptyCall !grpc-timeout=10S
   data 1 01 0000000000
   want status 1 0
 
 timeout of 10,000 milliseconds
-  must gRPC, Requests: the format of Timeout, \"at most 8 digits\"
+  should gRPC, Requests: the format of Timeout, \"at most 8 digits\"
   control status 1 0
   headers 1 04 call:EmptyCall !grpc-timeout=10000m
   data 1 01 0000000000
   want status 1 0
 
 timeout of ten seconds in microseconds
-  must gRPC, Requests: the format of Timeout, \"at most 8 digits\"
+  should gRPC, Requests: the format of Timeout, \"at most 8 digits\"
   control status 1 0
   headers 1 04 call:EmptyCall !grpc-timeout=10000000u
   data 1 01 0000000000

@@ -113,7 +113,7 @@ an entry's name with another value
   want same 1 3
 
 a change of the table's size to 0 and back
-  must RFC 7541, 4.2, 6.3: the format; \"at most two dynamic table size updates\"
+  should RFC 7541, 4.2, 6.3: the format; \"at most two dynamic table size updates\"
   needs table at least 4096
   control same 1 3
   request 1
@@ -124,7 +124,7 @@ a change of the table's size to 0 and back
   want same 1 3
 
 a change of the table's size to what it is
-  must RFC 7541, 6.3: the format; up to \"the limit determined by the protocol\"
+  should RFC 7541, 6.3: the format; up to \"the limit determined by the protocol\"
   needs table at least 4096
   control same 1 3
   request 1
@@ -278,7 +278,7 @@ a change of size behind a field
   want connection 1 2 9
 
 the server's table at SETTINGS_HEADER_TABLE_SIZE 0
-  must RFC 9113, 4.3.1: \"MUST start the next field block with\" a change of the size
+  should RFC 7541, 4.2: \"MUST occur at the beginning\" (RFC 9113, 4.3.1: of a table with entries)
   settings 0 00 000100000000
   await acks 2
   request 1

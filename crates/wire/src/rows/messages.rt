@@ -2,7 +2,7 @@
 
 pub const ROWS: &str = "\
 a message that is cut behind its flag
-  must gRPC, Data Frames: they \"have no relation to Length-Prefixed-Message boundaries\"
+  should gRPC, Data Frames: they \"have no relation to Length-Prefixed-Message boundaries\"
   control status 1 0
   headers 1 04 call:UnaryCall
   ~data 1 01 00 00000002 1003
@@ -11,7 +11,7 @@ a message that is cut behind its flag
   want status 1 0 and replies 1 1
 
 a message that is cut inside its length, behind one byte
-  must gRPC, Data Frames: they \"have no relation to Length-Prefixed-Message boundaries\"
+  should gRPC, Data Frames: they \"have no relation to Length-Prefixed-Message boundaries\"
   control status 1 0
   headers 1 04 call:UnaryCall
   ~data 1 01 00 00000002 1003
@@ -20,7 +20,7 @@ a message that is cut inside its length, behind one byte
   want status 1 0 and replies 1 1
 
 a message that is cut inside its length, behind two bytes
-  must gRPC, Data Frames: they \"have no relation to Length-Prefixed-Message boundaries\"
+  should gRPC, Data Frames: they \"have no relation to Length-Prefixed-Message boundaries\"
   control status 1 0
   headers 1 04 call:UnaryCall
   ~data 1 01 00 00000002 1003
@@ -29,7 +29,7 @@ a message that is cut inside its length, behind two bytes
   want status 1 0 and replies 1 1
 
 a message that is cut inside its length, behind three bytes
-  must gRPC, Data Frames: they \"have no relation to Length-Prefixed-Message boundaries\"
+  should gRPC, Data Frames: they \"have no relation to Length-Prefixed-Message boundaries\"
   control status 1 0
   headers 1 04 call:UnaryCall
   ~data 1 01 00 00000002 1003
@@ -38,7 +38,7 @@ a message that is cut inside its length, behind three bytes
   want status 1 0 and replies 1 1
 
 a message that is cut behind its prefix
-  must gRPC, Data Frames: they \"have no relation to Length-Prefixed-Message boundaries\"
+  should gRPC, Data Frames: they \"have no relation to Length-Prefixed-Message boundaries\"
   control status 1 0
   headers 1 04 call:UnaryCall
   ~data 1 01 00 00000002 1003
@@ -47,7 +47,7 @@ a message that is cut behind its prefix
   want status 1 0 and replies 1 1
 
 a message that is cut inside its bytes
-  must gRPC, Data Frames: they \"have no relation to Length-Prefixed-Message boundaries\"
+  should gRPC, Data Frames: they \"have no relation to Length-Prefixed-Message boundaries\"
   control status 1 0
   headers 1 04 call:UnaryCall
   ~data 1 01 00 00000002 1003
@@ -56,7 +56,7 @@ a message that is cut inside its bytes
   want status 1 0 and replies 1 1
 
 a message in DATA of one byte each
-  must gRPC, Data Frames: \"no relation to Length-Prefixed-Message\" (RFC 9113, 10.5)
+  should gRPC, Data Frames: \"no relation to Length-Prefixed-Message\" (RFC 9113, 10.5)
   control status 1 0
   headers 1 04 call:UnaryCall
   ~data 1 01 00 00000002 1003
@@ -72,7 +72,7 @@ a message in DATA of one byte each
   want connection 11
 
 a message with empty DATA inside
-  must gRPC, Data Frames: \"no relation to Length-Prefixed-Message\" (RFC 9113, 10.5)
+  should gRPC, Data Frames: \"no relation to Length-Prefixed-Message\" (RFC 9113, 10.5)
   control status 1 0
   headers 1 04 call:UnaryCall
   ~data 1 01 00 00000002 1003
@@ -86,7 +86,7 @@ a message with empty DATA inside
   want connection 11
 
 a message with padding inside
-  must RFC 9113, 6.1: the format; padding has \"no application semantic value\"
+  should RFC 9113, 6.1: the format; padding has \"no application semantic value\"
   control status 1 0
   headers 1 04 call:UnaryCall
   ~data 1 01 00 00000002 1003
@@ -95,13 +95,13 @@ a message with padding inside
   want status 1 0 and replies 1 1
 
 two messages in a DATA frame
-  must gRPC, Data Frames: they \"have no relation to Length-Prefixed-Message boundaries\"
+  should gRPC, Data Frames: they \"have no relation to Length-Prefixed-Message boundaries\"
   headers 1 04 call:FullDuplexCall
   data 1 01 00 00000004 12020801 00 00000004 12020802
   want status 1 0 and replies 1 2
 
 two messages, the second of which begins in the first one's frame
-  must gRPC, Data Frames: they \"have no relation to Length-Prefixed-Message boundaries\"
+  should gRPC, Data Frames: they \"have no relation to Length-Prefixed-Message boundaries\"
   control status 1 0
   headers 1 04 call:FullDuplexCall
   ~data 1 01 00 00000004 12020801 00 00000004 12020802

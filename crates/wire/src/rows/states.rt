@@ -324,7 +324,7 @@ nothing comes on a stream behind the server's own RST_STREAM
   want orderly
 
 DATA behind the server's own end
-  must RFC 9113, 5.1 (half-closed, local): \"can receive any type of frame\"
+  should RFC 9113, 5.1 (half-closed, local): \"can receive any type of frame\"
   control ignored
   headers 1 04 call:Nothing
   await answered 1
