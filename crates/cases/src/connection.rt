@@ -330,9 +330,8 @@ impl<S: Line> Connection<S> {
         Err(self.silence(Silence::Stalled, Progress::NONE))
     }
 
-    /// Reads on for a short while, until two PINGs at most were answered: nothing more may come on the streams that
-    /// have ended, and the client's SETTINGS have to be acknowledged by then. The server may end the connection
-    /// meanwhile.
+    /// Reads on until a PING was answered: nothing more may come on the streams that have ended; and until the client's
+    /// SETTINGS were acknowledged, for which the server has the whole time of the case. It may end the connection meanwhile.
     pub fn finish(&mut self) -> Result<(), Fault> {
         match self.settle() {
             Err(Fault::Silence(silence)) if silence.is_end() => match self.cause_of(silence) {
@@ -345,14 +344,16 @@ impl<S: Line> Connection<S> {
 
     fn settle(&mut self) -> Result<(), Fault> {
         self.ping()?;
-        if !self.is_acknowledged {
-            self.ping()?;
+        for _ in 0..u64::MAX {
+            if self.is_acknowledged {
+                return Ok(());
+            }
+            match self.read_frame() {
+                Err(Fault::Silence(silence)) if silence.is_late() => break,
+                answer => answer?,
+            }
         }
-        if self.is_acknowledged {
-            Ok(())
-        } else {
-            Err(Fault::Violation(Violation::SettingsUnacknowledged))
-        }
+        Err(Fault::Violation(Violation::SettingsUnacknowledged))
     }
 
     /// Reads for so many milliseconds at most, until the server has ended its half of a stream, and

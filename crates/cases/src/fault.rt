@@ -93,18 +93,27 @@ pub enum OwnBound {
     Block(StreamId),
     /// The decoded fields of this stream are.
     Fields(StreamId),
+    /// The header block of this stream has an integer of over six bytes, or over 4,294,967,295. Each
+    /// reader has a limit of its own (RFC 7541, section 5.1).
+    Integer(StreamId),
 }
 
 impl fmt::Display for OwnBound {
     fn fmt<W: fmt::Write>(&self, f: &mut fmt::Formatter<W>) -> fmt::Result {
-        let (what, stream) = match *self {
-            OwnBound::Block(stream) => ("the header block", stream),
-            OwnBound::Fields(stream) => ("what is decoded", stream),
-        };
-        write!(
-            f,
-            "not judged: {what} of stream {stream} has over 65,536 bytes, this client's bound"
-        )
+        match *self {
+            OwnBound::Block(stream) => write!(
+                f,
+                "not judged: the header block of stream {stream} has over 65,536 bytes, this client's bound"
+            ),
+            OwnBound::Fields(stream) => write!(
+                f,
+                "not judged: what is decoded of stream {stream} has over 65,536 bytes, this client's bound"
+            ),
+            OwnBound::Integer(stream) => write!(
+                f,
+                "not judged: an integer in the header block of stream {stream} has over six bytes, or is over 4,294,967,295, this client's bound"
+            ),
+        }
     }
 }
 

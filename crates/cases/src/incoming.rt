@@ -178,6 +178,7 @@ impl<S: Line> Connection<S> {
             Ok(fields) => Ok(fields),
             Err(HpackFault::OutOfMemory) => Err(Fault::OutOfMemory),
             Err(HpackFault::TooLarge) => Err(Fault::OwnBound(OwnBound::Fields(stream))),
+            Err(HpackFault::Integer) => Err(Fault::OwnBound(OwnBound::Integer(stream))),
             Err(fault) => Err(Fault::from(BlockViolation::Hpack {
                 stream,
                 length: block.len(),

@@ -63,6 +63,14 @@ impl SilenceFault {
         matches!(self.how, Silence::Unwritten | Silence::Untaken)
     }
 
+    /// Whether the case's time was over.
+    pub fn is_late(&self) -> bool {
+        matches!(
+            self.how,
+            Silence::Stalled | Silence::Endless | Silence::Untaken
+        )
+    }
+
     /// Whether the connection is over, and between two frames. A server may end it so once all is said (RFC 9113,
     /// section 9.1).
     pub fn is_end(&self) -> bool {

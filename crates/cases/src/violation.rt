@@ -27,7 +27,7 @@ pub enum Violation {
         head: FrameHead,
         is_ack: bool,
     },
-    /// The client's SETTINGS weren't acknowledged, though two PINGs behind them were.
+    /// The client's SETTINGS weren't acknowledged in the whole time of the case, though a PING after them was.
     SettingsUnacknowledged,
     PushPromise(StreamId),
     /// GOAWAY with an error, and the text that it carries.
@@ -79,7 +79,7 @@ impl fmt::Display for Violation {
             Violation::SettingsUnacknowledged => {
                 write!(
                     f,
-                    "SETTINGS were not acknowledged, and two PINGs behind them were (RFC 9113, 6.5.3)"
+                    "SETTINGS were not acknowledged in the whole time, and a PING after them was (RFC 9113, 6.5.3)"
                 )
             }
             Violation::PushPromise(stream) => {
@@ -137,11 +137,11 @@ impl fmt::Display for BlockViolation {
 /// Where the standard has the rule.
 fn section_of(fault: HpackFault) -> &'static str {
     match fault {
-        HpackFault::Integer => "RFC 7541, 5.1",
         HpackFault::Index => "RFC 7541, 2.3.3",
         HpackFault::Huffman => "RFC 7541, 5.2",
         HpackFault::SizeUpdate => "RFC 7541, 4.2 and 6.3",
         HpackFault::Truncated => "RFC 7541, 6",
-        HpackFault::TooLarge | HpackFault::OutOfMemory | HpackFault::Dead => "RFC 9113, 4.3",
+        HpackFault::Integer | HpackFault::TooLarge | HpackFault::OutOfMemory | HpackFault::Dead =>
+            "RFC 9113, 4.3",
     }
 }
