@@ -49,6 +49,9 @@ const BAD_WORDS: u8 = 2;
 
 const FAILED: u8 = 3;
 
+const NO_WIRE_CASE: &str = "there is no such wire case: all, a group (start, conn, hpack, stream, \
+    flow, control, grpc), or one of wire --list, as grpc/4";
+
 const VERSION: &str = "interop 0.1.0";
 
 const HELP: &str = "\
@@ -185,7 +188,7 @@ where
     match run_wire(rt, words, &mut output) {
         Ok(true) => 0,
         Ok(false) => CASE_FAILED,
-        Err(WireFault::UnknownCase) => complain(rt, "there is no such wire case"),
+        Err(WireFault::UnknownCase) => complain(rt, NO_WIRE_CASE),
         Err(
             WireFault::BadRow
             | WireFault::WriteFailed

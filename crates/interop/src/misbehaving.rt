@@ -38,7 +38,7 @@ where
         Ok(false) => CASE_FAILED,
         Err(RunFault::UnknownName) => {
             let status = complain(&rt, "bad arguments");
-            complain(&rt, "misbehave knows no such name: --list prints all");
+            misbehave::tell_names(&rt, alloc, name_of(words));
             status
         }
         Err(RunFault::Port(port, error)) => {
@@ -51,6 +51,14 @@ where
             FAILED
         }
         Err(RunFault::WriteFailed | RunFault::OutOfMemory) => FAILED,
+    }
+}
+
+/// The name of what is to be run.
+fn name_of<'a>(words: MisbehaveWords<'a>) -> &'a str {
+    match words {
+        MisbehaveWords::List { .. } => "",
+        MisbehaveWords::Play { name, .. } => name,
     }
 }
 
