@@ -53,6 +53,7 @@ static std::string call(grpc::GenericStub& stub) {
 
 int main(int argc, char** argv) {
   int count = argc > 2 ? std::atoi(argv[2]) : 1;
+  int seconds = argc > 3 ? std::atoi(argv[3]) : 1;
   grpc::ChannelArguments arguments;
   arguments.SetInt("grpc.enable_http_proxy", 0);
   arguments.SetInt("grpc.use_local_subchannel_pool", 1);
@@ -65,4 +66,5 @@ int main(int argc, char** argv) {
   for (auto& answer : answers) threads.emplace_back([&stub, &answer] { answer = call(stub); });
   for (auto& thread : threads) thread.join();
   for (const auto& answer : answers) std::cout << answer << std::endl;
+  std::this_thread::sleep_for(std::chrono::seconds(seconds));
 }

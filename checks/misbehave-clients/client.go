@@ -1,6 +1,7 @@
-// Command client PORT [COUNT]: calls on grpc-go against the server on this port of 127.0.0.1, whatever comes of them.
+// Command client PORT [COUNT [SECONDS]]: calls on grpc-go against the server on this port of 127.0.0.1, whatever comes of them.
 //
-// A call of UnaryCall as in large_unary, then as many more at once (one, if nothing is said). Prints the status of each.
+// A call of UnaryCall as in large_unary, then as many more at once (one, if nothing is said). Prints the status of each, and closes
+// the channel so many seconds (one) after the last.
 package main
 
 import (
@@ -59,9 +60,12 @@ func call(channel *grpc.ClientConn) string {
 }
 
 func main() {
-	count := 1
+	count, seconds := 1, 1
 	if len(os.Args) > 2 {
 		count, _ = strconv.Atoi(os.Args[2])
+	}
+	if len(os.Args) > 3 {
+		seconds, _ = strconv.Atoi(os.Args[3])
 	}
 	channel, err := grpc.Dial("127.0.0.1:"+os.Args[1], grpc.WithInsecure(),
 		grpc.WithDefaultCallOptions(grpc.ForceCodec(codec{})))
@@ -79,4 +83,5 @@ func main() {
 	for i := 0; i < count; i++ {
 		fmt.Println(<-answers)
 	}
+	time.Sleep(time.Duration(seconds) * time.Second)
 }

@@ -1,7 +1,8 @@
 #!/usr/bin/python3
-"""client PORT [COUNT]: calls on grpcio against the server on this port of 127.0.0.1, whatever comes of them.
+"""client PORT [COUNT [SECONDS]]: calls on grpcio against the server on this port of 127.0.0.1, whatever comes of them.
 
-A call of UnaryCall as in large_unary, then as many more at once (one, if nothing is said). Prints the status of each.
+A call of UnaryCall as in large_unary, then as many more at once (one, if nothing is said). Prints the status of each, and closes the
+channel so many seconds (one) after the last.
 """
 import os
 import sys
@@ -22,6 +23,7 @@ REPLY = wire.response(314159)
 
 def main():
     port, count = sys.argv[1], int(sys.argv[2]) if len(sys.argv) > 2 else 1
+    seconds = int(sys.argv[3]) if len(sys.argv) > 3 else 1
     options = [("grpc.enable_http_proxy", 0), ("grpc.use_local_subchannel_pool", 1)]
 
     def say(call):
@@ -36,6 +38,7 @@ def main():
         time.sleep(0.1)
         for call in [method.future(REQUEST, timeout=LIMIT) for _ in range(count)]:
             say(call)
+        time.sleep(seconds)
 
 
 main()

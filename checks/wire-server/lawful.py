@@ -29,17 +29,28 @@ def cases_of(text):
                 yield f"{group}/{number}"
 
 
-def table():
-    """The rows of lawful.txt: a case, a play, and where it stands, None for the place of an error."""
+def lines_of_table():
     with open(os.path.join(HERE, "lawful.txt"), encoding="utf-8") as file:
-        lines = [line.strip() for line in file if line.strip() and line[0] != "#"]
-    for line in lines:
-        head, plays = line.split(": ")
+        return [line.strip() for line in file if line.strip() and line[0] != "#"]
+
+
+def table():
+    """The plays of lawful.txt: a case, a play, and where it stands, None for the place of an error."""
+    for line in lines_of_table():
+        head, _, plays = line.partition(": ")
         word, cases, *place = head.split(" ")
-        assert word in (("on", "later") if place else ("error",)), line
+        assert word in (("on", "later") if place else ("error",) if plays else ("right", "open")), line
         for case in cases_of(cases):
-            for play in plays.split(", "):
+            for play in plays.split(", ") if plays else []:
                 yield case, play, Place(word == "later", *place) if place else None
+
+
+def named(*words):
+    """The cases of the rows with these words, or of all rows."""
+    for line in lines_of_table():
+        word, cases = line.partition(": ")[0].split(" ")[:2]
+        if word in words or not words:
+            yield from cases_of(cases)
 
 
 class Place:

@@ -398,6 +398,48 @@ class LeavesPings(Wrong):
         return [] if frame[0] == wire.PING else [frame]
 
 
+class LosesEntries(Wrong):
+    """It reads no block of a malformed request or on a stream that was reset. So a later block that names an entry of it is an error,
+    and it takes that for one of the stream."""
+
+    def __init__(self, client):
+        super().__init__(client)
+        self.reset = set()
+        self.has_lost = False
+        self.over = set()
+
+    def from_server(self, frame):
+        return [] if frame[2] in self.over else [frame]
+
+    def from_client(self, frame):
+        kind, _, stream, content = frame
+        if kind == wire.RST_STREAM:
+            self.reset.add(stream)
+        if kind == wire.HEADERS and self.has_lost and content.endswith(b"\xbe"):
+            self.over.add(stream)
+            self.write(wire.reset(stream, 9))
+        self.has_lost |= kind == wire.HEADERS and (stream in self.reset or b"\x01X" in content)
+
+
+class Misnames(Wrong):
+    """What it may take for an error, though few servers do, it tells by an error that isn't one of those that may stand for it: padding
+    that isn't zero, and a content-length that isn't that of the DATA."""
+
+    def __init__(self, client):
+        super().__init__(client)
+        self.said = False
+
+    def from_server(self, frame):
+        return [] if self.said else [frame]
+
+    def from_client(self, frame):
+        kind, flags, _, content = frame
+        padding = content[-content[0]:] if kind == wire.DATA and flags & wire.PADDED and content and content[0] else b""
+        if any(padding) or kind == wire.HEADERS and b"content-length\x017" in content:
+            self.said = True
+            self.write(wire.frame(wire.GOAWAY, 0, 0, struct.pack(">II", 0, 12)))
+
+
 class SaysOk(SaysAnotherStatus):
     """Each response is one of status 0."""
 
