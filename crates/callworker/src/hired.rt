@@ -1,16 +1,12 @@
 //! A worker in a thread of its own, and what it promises.
 
-ghost use Rattle.std.specs.Prelude.{◌≡◌, IfSome};
-ghost use Rattle.handlers.specs.Listed.{listed};
-ghost use Rattle.callworker.specs.Works.{HasWorked, IsKnown, IsUnused};
+ghost use Rattle.std.specs.Prelude.{◌≡◌};
+ghost use Rattle.lane.specs.Ring.{in_name, out_name};
 
-use crate::answering::Answering;
-use crate::ends::Ends;
 use crate::gate::Gate;
+use crate::ways::Ways;
 use crate::worker::Worker;
-use callslot::Seen;
 use handlers::Methods;
-use std::marker::PhantomData;
 use std::snapshot::Snapshot;
 use std::sync::ledger::Ledger;
 use std::sync::{Arc, Wait};
@@ -21,46 +17,42 @@ use std::time::Clock;
 /// usual size, 8 MiB, take address space, and longer to make.
 pub const STACK: usize = 262_144;
 
-/// What a worker was given. It promises that the ends that it hands back are of the same lanes and ring, and that each job that it took
-/// has its row, as these ends say, and as is known of what methods answer.
+/// What a worker was given. It promises that the ends that it hands back are of the same rings.
 #[derive(Drop)]
-pub struct Hired<M: Answering> {
-    pub ends: Snapshot<Ends>,
-    known: PhantomData<M>,
+pub struct Hired {
+    pub ways: Snapshot<Ways>,
 }
 
-impl<M: Answering> Promise<Seen> for Hired<M> {
-    ghost kept_by = { λ hired seen. HasWorked M.known hired.ends.value seen };
+impl Promise<Ways> for Hired {
+    ghost kept_by = { λ hired ways. (out_name ways.tasks ≡ out_name hired.ways.value.tasks)
+        × (in_name ways.done ≡ in_name hired.ways.value.done) };
 }
 
-/// Starts a worker with these ends. None where no thread can be had: then the ends are dropped.
-pub fn hire<A, B, C, G, M, R>(
+/// The thread of a worker.
+pub type Hand = PromisedHandle<Ways, Hired>;
+
+/// Starts a worker. None where no thread can be had: then the ends are dropped.
+pub fn hire<A, B, C, G, R>(
     rt: R,
     worker: Worker<A, B, C, G>,
     methods: Arc<Methods>,
-    ends: Ends,
-) -> Option<PromisedHandle<Seen, Hired<M>>>
+    ways: Ways,
+) -> Option<Hand>
 where
     A: Ledger + Send + Sync + 'static,
     B: Ledger + Send + Sync + 'static,
     C: Ledger + Send + Sync + 'static,
     G: Gate + Send + Sync + Drop + 'static,
-    M: Answering + Send + Sync + 'static,
     R: Threads + Wait + Clock + Copy + Send + Sync + Drop + 'static,
-    requires known { IsKnown M.known (λ m. answers (m.vtable, m.value)) (listed methods.value) }
-    requires unused { IsUnused ends }
-    ensures ends { IfSome result (λ handle. handle.promise.ends.value ≡ ends) }
 {
-    let hired: Hired<M> = Hired {
-        ends: Snapshot::of(&ends),
-        known: PhantomData,
+    let hired = Hired {
+        ways: Snapshot::of(&ways),
     };
-    let job = move || -> Seen
-        requires known { IsKnown M.known (λ m. answers (m.vtable, m.value)) (listed methods.value) }
-        requires unused { IsUnused ends }
-        ensures { HasWorked M.known ends result }
-    { worker.work::<M, R>(&rt, &methods, ends) };
-    match Builder::new().stack_size(STACK).spawn_with(&rt, hired, job) {
+    let work = move || -> Ways { worker.work::<R>(&rt, &methods, ways) };
+    match Builder::new()
+        .stack_size(STACK)
+        .spawn_with(&rt, hired, work)
+    {
         Ok(handle) => Some(handle),
         Err(_refused) => None,
     }

@@ -38,11 +38,10 @@ where
         bytes: Vec::new(alloc),
     });
     let Served {
-        ending,
+        report: served,
         output: written,
-        ..
     } = serve_undrained(rt, alloc, &mut input, written, methods, gate);
-    let report = report(alloc, written.into_inner().bytes.as_slice(), ending)?;
+    let report = report(alloc, written.into_inner().bytes.as_slice(), served.ending)?;
     write_all(output, report.as_bytes())?;
     Ok(())
 }

@@ -7,7 +7,7 @@
 use crate::log::{Logs, ended_of};
 use crate::reporter::Reporter;
 use crate::stopping::Stop;
-use crate::stream::{Ended, serve_stream};
+use crate::stream::{Ended, Reporting, serve_stream};
 use connection::STACK;
 use handlers::Methods;
 use std::alloc::{AllocError, Global};
@@ -29,7 +29,7 @@ const PAUSE: u64 = 10;
 pub struct Service<L> {
     pub methods: Arc<Methods>,
     /// Where each that has ended is reported on, if that is wanted.
-    pub reporter: Option<Reporter>,
+    pub reporter: Option<Arc<Reporter>>,
     /// Where it is told what happens on them, if that is wanted.
     pub log: Option<Arc<L>>,
     /// How it stops, if it does before the program is interrupted.
@@ -232,6 +232,24 @@ impl<L> Service<L> {
         }
     }
 
+    /// Where a connection of this peer is reported on, if that is wanted.
+    fn reporting(
+        &self,
+        alloc: Global,
+        peer: SocketAddr,
+    ) -> Result<Option<Arc<Reporting>>, AllocError> {
+        let Some(reporter) = &self.reporter else {
+            return Ok(None);
+        };
+        let reporting = Reporting {
+            reporter: Arc::try_clone(reporter)?,
+            methods: Arc::try_clone(&self.methods)?,
+            peer,
+            alloc,
+        };
+        Ok(Some(Arc::new(alloc, reporting)?))
+    }
+
     /// The server stops, if it can.
     fn stop_all(&self, rt: &impl Wait) {
         if let Some(stop) = &self.stop {
@@ -256,13 +274,16 @@ where
         Some(log) => L::begin(log, &rt, alloc, peer),
         None => None,
     };
-    let ended = serve_stream(rt, alloc, stream, &service.methods, &logged, &service.stop);
+    let reporting = service.reporting(alloc, peer)?;
+    let ended = serve_stream(
+        rt, alloc, stream, &service.methods, &logged, &service.stop, &reporting,
+    );
     if let Some(logged) = &logged {
         logged.end(&rt, how_of(&ended));
     }
     let ended = ended?;
-    if let Some(reporter) = &service.reporter {
-        reporter.tell(&rt, alloc, &service.methods, peer, ended);
+    if let Some(reporting) = &reporting {
+        reporting.tell_end(&rt, &ended);
     }
     Ok(())
 }

@@ -1,43 +1,40 @@
-//! The reports that wait to be printed, which nobody may read.
+//! The lines of reports that wait to be printed, which nobody may read.
 
-ghost use Rattle.std.specs.Prelude.{◌≡◌, ◌<◌, ◌≤◌, ◌+◌, ◌^◌, ◌++◌, ◌⊎◌, [], false, true, not, is_ok, IfOk, IfSome, IfNone, OnOk, OnErr, string_bytes};
 
-use crate::served::report_of;
 use crate::stopping::LOOK;
-use crate::stream::Ended;
-use handlers::Methods;
 use lane::Bell;
 use std::alloc::{AllocError, Global};
 use std::mem;
-use std::net::SocketAddr;
 use std::sync::{Arc, Mutex, Wait};
 use std::time::Duration;
 
-/// How many lines wait at most. The longest report has 4,097.
+/// How many lines wait at most.
 const MOST_LINES: usize = 16_384;
 
-/// Prints reports. One thread prints at a time, all that waits; so where nobody reads, that one alone is kept.
+/// Prints the lines of reports, by a thread of its own: so whoever reports waits for nobody.
 #[derive(Drop)]
 pub struct Reporter {
     waiting: Mutex<Waiting>,
     /// Held by whoever prints, so that no line stands inside one of a log.
     turn: Arc<Mutex<()>>,
-    /// Rung where a thread prints no more.
+    /// Rung where a line came, or no more are kept.
+    came: Bell,
+    /// Rung where no more are printed.
     printed: Bell,
 }
 
 /// What is to be printed.
 #[derive(Drop)]
 struct Waiting {
-    /// Whole reports, and how many lines they have.
+    /// Whole lines, and how many.
     text: String,
     lines: usize,
-    /// How many lines were dropped behind them.
+    /// How many were dropped behind them.
     dropped: usize,
-    /// Whether a thread prints, and will look here again.
-    is_printing: bool,
-    /// Whether no more reports are kept.
+    /// Whether no more are kept.
     is_closed: bool,
+    /// Whether no more are printed.
+    is_over: bool,
 }
 
 impl Reporter {
@@ -47,41 +44,28 @@ impl Reporter {
                 text: String::new(alloc),
                 lines: 0,
                 dropped: 0,
-                is_printing: false,
                 is_closed: false,
+                is_over: false,
             }),
             turn,
+            came: Bell::new(),
             printed: Bell::new(),
         }
     }
 
-    /// Reports on a connection of this peer: by this thread, or by one that prints already. Where too many lines wait, and where
-    /// there is no memory for these, they are counted in place of being printed.
-    // (kept out of its caller, whose frame is on the stack of each connection that lives)
-    #[inline(never)]
-    pub fn tell<R: Print + Wait>(
-        &self,
-        rt: &R,
-        alloc: Global,
-        methods: &Methods,
-        peer: SocketAddr,
-        ended: Ended,
-    ) {
-        let Ended { ending, calls } = ended;
-        let lines = calls.len().saturating_add(1);
-        let report = report_of(alloc, peer, methods, ending, &calls);
-        let is_to_print = self.waiting.lock(rt).keep(report, lines);
-        if is_to_print {
-            self.print_all(rt, alloc);
-        }
+    /// Keeps a line to be printed. Where too many wait, and where there is no memory for it, it is counted in place of being printed.
+    pub fn tell(&self, rt: &impl Wait, line: Result<String, AllocError>) {
+        self.waiting.lock(rt).keep(line);
+        self.came.ring();
     }
 
-    /// Keeps no more reports, and waits until those that were kept are printed: so no line is cut where the program ends then.
+    /// Keeps no more lines, and waits until those that were kept are printed: so none is cut where the program ends then.
     pub fn finish(&self, rt: &impl Wait) {
         self.waiting.lock(rt).is_closed = true;
+        self.came.ring();
         for _ in rt.forever() {
             let mark = self.printed.mark();
-            if !self.waiting.lock(rt).is_printing {
+            if self.waiting.lock(rt).is_over {
                 return;
             }
             self.printed.wait_past(rt, mark, Duration::from_secs(LOOK));
@@ -89,115 +73,73 @@ impl Reporter {
         unreachable!()
     }
 
-    /// Prints all that waits. What can't be printed is lost.
-    fn print_all<R: Print + Wait>(&self, rt: &R, alloc: Global) {
+    /// Prints all lines that come, until no more are kept. What can't be printed is lost.
+    pub fn print_all<R: Print + Wait>(&self, rt: &R, alloc: Global) {
         for _ in rt.forever() {
-            let taken = self.waiting.lock(rt).take(alloc);
-            let Some((text, dropped)) = taken else {
+            let mark = self.came.mark();
+            if self.print_some(rt, alloc) {
+                continue;
+            }
+            if self.waiting.lock(rt).ends() {
                 self.printed.ring();
                 return;
-            };
-            let _turn = self.turn.lock(rt);
-            let _printed = print!(rt; "{text}");
-            if dropped > 0 {
-                let _printed = println!(rt; "dropped {dropped}");
             }
+            self.came.wait_past(rt, mark, Duration::from_secs(LOOK));
         }
         unreachable!()
+    }
+
+    /// Prints the lines that wait. Whether there were some.
+    fn print_some<R: Print + Wait>(&self, rt: &R, alloc: Global) -> bool {
+        let taken = self.waiting.lock(rt).take(alloc);
+        let Some((text, dropped)) = taken else {
+            return false;
+        };
+        let _turn = self.turn.lock(rt);
+        let _printed = print!(rt; "{text}");
+        if dropped > 0 {
+            let _printed = println!(rt; "dropped {dropped}");
+        }
+        true
     }
 }
 
 impl Waiting {
-    /// Keeps a report of so many lines, or counts them; once this is closed it does neither. Whether the caller is to print what
-    /// waits: not where a thread does already.
-    fn keep(&mut self, report: Result<String, AllocError>, lines: usize) -> bool
-        ensures printer { self.old.is_closed ≡ false → result ≡ not self.old.is_printing }
-        ensures printing { self.old.is_closed ≡ false → self.new.is_printing ≡ true }
-        ensures counted { self.old.is_closed ≡ false
-            → self.old.lines + self.old.dropped + lines < 2 ^ 64
-            → self.new.lines + self.new.dropped ≡ self.old.lines + self.old.dropped + lines }
-        ensures few { self.old.lines ≤ 16384 → self.new.lines ≤ 16384 }
-
-        // The report is among the lines that wait, or none of it is.
-        ensures whole { self.old.is_closed ≡ false → ((is_ok report ≡ true)
-            × (IfOk report (λ it. string_bytes self.new.text
-            ≡ string_bytes self.old.text ++ string_bytes it))
-            × (self.new.lines ≡ self.old.lines + lines))
-            ⊎ ((string_bytes self.new.text ≡ string_bytes self.old.text)
-            × (self.new.lines ≡ self.old.lines)) }
-        ensures closed { self.old.is_closed ≡ true → (result ≡ false) × (self.new ≡ self.old) }
-        ensures same { self.new.is_closed ≡ self.old.is_closed }
-    {
+    /// Keeps a line, or counts it as dropped; once this is closed it does neither.
+    fn keep(&mut self, line: Result<String, AllocError>) {
         if self.is_closed {
-            return false;
+            return;
         }
-        self.put(report, lines);
-        !mem::replace(&mut self.is_printing, true)
-    }
-
-    /// Adds a report of so many lines, or counts them as dropped.
-    fn put(&mut self, report: Result<String, AllocError>, lines: usize)
-        ensures counted { self.old.lines + self.old.dropped + lines < 2 ^ 64
-            → self.new.lines + self.new.dropped ≡ self.old.lines + self.old.dropped + lines }
-
-        // The report is among the lines that wait, or none of it is.
-        ensures whole { ((is_ok report ≡ true)
-            × (IfOk report (λ it. string_bytes self.new.text
-            ≡ string_bytes self.old.text ++ string_bytes it))
-            × (self.new.lines ≡ self.old.lines + lines))
-            ⊎ ((string_bytes self.new.text ≡ string_bytes self.old.text)
-            × (self.new.lines ≡ self.old.lines)) }
-        ensures few { self.old.lines ≤ 16384 → self.new.lines ≤ 16384 }
-        ensures same { (self.new.is_printing ≡ self.old.is_printing)
-            × (self.new.is_closed ≡ self.old.is_closed) }
-    {
-        if self.add(report, lines).is_err() {
-            self.dropped = self.dropped.saturating_add(lines);
+        if self.add(line).is_err() {
+            self.dropped = self.dropped.saturating_add(1);
         }
     }
 
-    /// Adds a report of so many lines, if there is room for it. Behind lines that were dropped there is none.
-    fn add(&mut self, report: Result<String, AllocError>, lines: usize) -> Result<(), AllocError>
-        ensures added { OnOk result ((self.new.lines ≡ self.old.lines + lines)
-            × (self.new.dropped ≡ self.old.dropped)) }
-        ensures text { OnOk result
-            (IfOk report (λ it. string_bytes self.new.text
-            ≡ string_bytes self.old.text ++ string_bytes it)) }
-        ensures few { OnOk result (self.new.lines ≤ 16384) }
-        ensures made { OnOk result (is_ok report ≡ true) }
-        ensures order { OnOk result (self.old.dropped ≡ 0) }
-        ensures unchanged { OnErr result ((string_bytes self.new.text ≡ string_bytes self.old.text)
-            × (self.new.lines ≡ self.old.lines) × (self.new.dropped ≡ self.old.dropped)) }
-        ensures same { (self.new.is_printing ≡ self.old.is_printing)
-            × (self.new.is_closed ≡ self.old.is_closed) }
-    {
-        let report = report?;
-        let lines = self.lines.saturating_add(lines);
-        if self.dropped > 0 || lines > MOST_LINES {
+    /// Adds a line, if there is room for it. Behind lines that were dropped there is none.
+    fn add(&mut self, line: Result<String, AllocError>) -> Result<(), AllocError> {
+        let line = line?;
+        if self.dropped > 0 || self.lines >= MOST_LINES {
             return Err(AllocError);
         }
-        self.text.push_str(report.as_str())?;
-        self.lines = lines;
+        self.text.push_str(line.as_str())?;
+        self.lines += 1;
         Ok(())
     }
 
-    /// Takes all of it, and how many lines were dropped behind it. Where that is nothing, the thread that asks prints no more.
-    fn take(&mut self, alloc: Global) -> Option<(String, usize)>
-        ensures taken { IfSome result (λ it. (it.0 ≡ self.old.text) × (it.1 ≡ self.old.dropped)) }
-        ensures printing { IfSome result (λ _. self.new.is_printing ≡ self.old.is_printing) }
-        ensures none { IfNone result ((self.old.lines ≡ 0) × (self.old.dropped ≡ 0)) }
-        ensures printed { IfNone result (self.new.is_printing ≡ false) }
-        ensures empty { (self.new.lines ≡ 0) × (self.new.dropped ≡ 0) }
-        ensures no_text { IfSome result (λ _. string_bytes self.new.text ≡ []) }
-        ensures same { self.new.is_closed ≡ self.old.is_closed }
-    {
+    /// Takes all of it, and how many lines were dropped behind it. None where that is nothing.
+    fn take(&mut self, alloc: Global) -> Option<(String, usize)> {
         if self.lines == 0 && self.dropped == 0 {
-            self.is_printing = false;
             return None;
         }
         let text = mem::replace(&mut self.text, String::new(alloc));
         let dropped = mem::replace(&mut self.dropped, 0);
         self.lines = 0;
         Some((text, dropped))
+    }
+
+    /// Whether no more lines come. Then it is over.
+    fn ends(&mut self) -> bool {
+        self.is_over = self.is_closed && self.lines == 0 && self.dropped == 0;
+        self.is_over
     }
 }

@@ -41,7 +41,8 @@ where
     let stop = stop_of(rt, alloc, words)?;
     let turn = Arc::new(alloc, Mutex::new(()))?;
     let reporter = if words.has_report {
-        Some(Reporter::new(alloc, Arc::try_clone(&turn)?))
+        let reporter = Reporter::new(alloc, Arc::try_clone(&turn)?);
+        Some(start_reporter(rt, alloc, reporter)?)
     } else {
         None
     };
@@ -62,6 +63,17 @@ where
         stop,
     };
     serve_logged(rt, alloc, listener, service, log)
+}
+
+/// A reporter whose lines a thread of its own prints.
+fn start_reporter<R>(rt: R, alloc: Global, reporter: Reporter) -> io::Result<Arc<Reporter>>
+where
+    R: Print + Threads + Wait + Copy + Send + Sync + Drop + 'static,
+{
+    let reporter = Arc::new(alloc, reporter)?;
+    let shared = Arc::try_clone(&reporter)?;
+    let _printing = thread::spawn(&rt, move || shared.print_all(&rt, alloc))?;
+    Ok(reporter)
 }
 
 /// How a server of these words stops, if it does.

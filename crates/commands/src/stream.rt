@@ -3,8 +3,10 @@
 ghost use Rattle.std.specs.Prelude.{◌≡◌, ◌<◌};
 
 use crate::log::Logged;
+use crate::reporter::Reporter;
+use crate::served::{call_line, connection_line};
 use crate::stopping::{Stop, stand_by};
-use connection::{CallReport, Drainer, Ending, Gate, Served, serve_connection, serve_undrained};
+use connection::{CallAccount, ConnReport, Drainer, Ending, Gate, Served, serve_connection, serve_undrained};
 use device::Marked;
 use h2frame::StreamId;
 use handlers::Methods;
@@ -12,19 +14,54 @@ use std::alloc::{AllocError, Global};
 use std::io;
 use std::io::{Read, Write};
 use std::marker::Brand;
-use std::net::{Shutdown, TcpStream};
+use std::net::{Shutdown, SocketAddr, TcpStream};
 use std::sync::ledger::{Blank, Ledger};
 use std::sync::{Arc, Wait};
 use std::thread::Threads;
 use std::time::Clock;
 
-/// A connection to a port, and its gate: each call goes on at once. Who reads and who writes share its one descriptor.
+/// Where calls and connections are reported on, and of whom.
 #[derive(Drop)]
-struct Link {
-    stream: TcpStream,
+pub struct Reporting {
+    pub reporter: Arc<Reporter>,
+    pub methods: Arc<Methods>,
+    pub peer: SocketAddr,
+    pub alloc: Global,
 }
 
-impl Gate for Link {
+impl Reporting {
+    /// Reports on a call that was settled.
+    // (kept out of its caller, whose frame is on the stack of each connection that lives)
+    #[inline(never)]
+    fn tell_call(&self, rt: &impl Wait, call: &CallAccount) {
+        let line = call_line(self.alloc, self.peer, &self.methods, call);
+        self.reporter.tell(rt, line);
+    }
+
+    /// Reports on the connection, which has ended.
+    #[inline(never)]
+    pub fn tell_end(&self, rt: &impl Wait, ended: &Ended) {
+        let line = connection_line(self.alloc, self.peer, ended.ending, ended.calls);
+        self.reporter.tell(rt, line);
+    }
+}
+
+/// A connection to a port, and its gate: each call goes on at once, and is reported on where that is wanted. Who reads and who writes
+/// share its one descriptor.
+#[derive(Drop)]
+struct Link<R> {
+    rt: R,
+    stream: TcpStream,
+    reporting: Option<Arc<Reporting>>,
+}
+
+impl<R: Wait> Gate for Link<R> {
+    fn settled(&self, account: &CallAccount) {
+        if let Some(reporting) = &self.reporting {
+            reporting.tell_call(&self.rt, account);
+        }
+    }
+
     fn may_go(&self, _id: StreamId) -> bool {
         true
     }
@@ -41,7 +78,7 @@ impl Gate for Link {
 #[derive(Drop)]
 struct LinkInput<R> {
     rt: R,
-    link: Arc<Link>,
+    link: Arc<Link<R>>,
     logged: Option<Logged>,
 }
 
@@ -60,7 +97,7 @@ impl<R: Wait> Read for LinkInput<R> {
 #[derive(Drop)]
 struct LinkOutput<R> {
     rt: R,
-    link: Arc<Link>,
+    link: Arc<Link<R>>,
     logged: Option<Logged>,
 }
 
@@ -83,8 +120,8 @@ impl<R: Wait> Write for LinkOutput<R> {
 #[derive(Drop)]
 pub struct Ended {
     pub ending: Ending,
-    /// A row for each call that was admitted.
-    pub calls: Vec<CallReport>,
+    /// How many calls were admitted.
+    pub calls: usize,
 }
 
 /// What a connection is served over.
@@ -92,7 +129,7 @@ pub struct Ended {
 struct Ends<R> {
     input: Marked<LinkInput<R>>,
     output: Marked<LinkOutput<R>>,
-    gate: Arc<Link>,
+    gate: Arc<Link<R>>,
 }
 
 /// Serves a connection to its end, shows it to its log where it has one, has it drained where the server stops, and gives its
@@ -104,6 +141,7 @@ pub fn serve_stream<R>(
     methods: &Arc<Methods>,
     logged: &Option<Logged>,
     stop: &Option<Arc<Stop>>,
+    reporting: &Option<Arc<Reporting>>,
 ) -> io::Result<Ended>
 where
     R: Threads + Wait + Clock + Copy + Send + Sync + Drop + 'static,
@@ -111,7 +149,7 @@ where
     // So that a small frame leaves at once.
     stream.set_nodelay(true)?;
     let methods = Arc::try_clone(methods)?;
-    let ends = ends_of(rt, alloc, stream, logged)?;
+    let ends = ends_of(rt, alloc, stream, logged, reporting)?;
     if let Some(stop) = stop {
         let blanks = (Blank::new(1), Blank::new(1), Blank::new(1));
         return serve_until::<Brand, Brand, Brand, R>(rt, alloc, blanks, ends, methods, stop);
@@ -121,10 +159,8 @@ where
         output,
         gate,
     } = ends;
-    let Served { ending, calls, .. } = serve_undrained(
-        rt, alloc, &mut input, output, methods, gate,
-    );
-    Ok(Ended { ending, calls })
+    let Served { report, .. } = serve_undrained(rt, alloc, &mut input, output, methods, gate);
+    Ok(ended(&report))
 }
 
 /// The same, over these ledgers, until the server stops.
@@ -152,11 +188,19 @@ where
         output,
         gate,
     } = ends;
-    let Served { ending, calls, .. } = serve_connection(
+    let Served { report, .. } = serve_connection(
         rt, alloc, &mut input, output, methods, gate, seat,
     );
     standby.end(&rt);
-    Ok(Ended { ending, calls })
+    Ok(ended(&report))
+}
+
+/// What became of a connection.
+fn ended(report: &ConnReport) -> Ended {
+    Ended {
+        ending: report.ending,
+        calls: report.calls.len(),
+    }
 }
 
 /// Who reads a connection, who writes it, and its gate.
@@ -165,11 +209,23 @@ fn ends_of<R>(
     alloc: Global,
     stream: TcpStream,
     logged: &Option<Logged>,
+    reporting: &Option<Arc<Reporting>>,
 ) -> Result<Ends<R>, AllocError>
 where
     R: Copy + Drop,
 {
-    let link = Arc::new(alloc, Link { stream })?;
+    let reporting = match reporting {
+        Some(reporting) => Some(Arc::try_clone(reporting)?),
+        None => None,
+    };
+    let link = Arc::new(
+        alloc,
+        Link {
+            rt,
+            stream,
+            reporting,
+        },
+    )?;
     let output = Marked::new(LinkOutput {
         rt,
         link: Arc::try_clone(&link)?,

@@ -39,3 +39,17 @@ impl<L: Lane<Item = OutItem>> OutCore<L> {
         }
     }
 }
+
+impl<L: Lane<Item = OutItem>> OutCore<L> {
+    /// How many senders are kept.
+    pub fn calls(&self) -> usize {
+        self.sending.senders.len()
+    }
+
+    /// The stream of the call whose sender stands at this place, where that gave last that the call was left: so all else that was given
+    /// of it was taken. It takes no memory.
+    pub fn left_at(&mut self, place: usize) -> Option<StreamId> {
+        let call = self.sending.senders.get_mut(place)?;
+        if call.1.was_left() { Some(call.0) } else { None }
+    }
+}

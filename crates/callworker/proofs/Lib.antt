@@ -1,2 +1,0 @@
-pub mod SlotRows
-pub mod Turns
