@@ -1,5 +1,6 @@
 //! Which rule the fields of a request break (RFC 9113, sections 8.1 to 8.3), and the text of each.
 
+use crate::text::escaped;
 use callhead::{count_named, is_empty_path, is_other_te, is_pseudo_header, is_unknown};
 use figures::{BrokenRule, FieldRule, field_rule, shown};
 use lists::Field;
@@ -83,7 +84,7 @@ fn fault(alloc: Global, rule: RequestRule, field: &Field) -> Result<FieldFault, 
     Ok(FieldFault {
         rule,
         name: shown(alloc, field.name.as_slice())?,
-        value: shown(alloc, field.value.as_slice())?,
+        value: escaped(alloc, field.value.as_slice())?,
     })
 }
 
@@ -112,7 +113,10 @@ impl fmt::Display for FieldFault {
                 let broken = BrokenRule(rule, name);
                 write!(f, "{broken}")
             }
-            RequestRule::Te => write!(f, "te is {value:?}, wanted \"trailers\" (RFC 9113, 8.2.2)"),
+            RequestRule::Te => write!(
+                f,
+                "te is \"{value}\", wanted \"trailers\" (RFC 9113, 8.2.2)"
+            ),
             RequestRule::Unknown => write!(
                 f,
                 "the pseudo-header {name:?}, which no request has (RFC 9113, 8.3)"
