@@ -1,21 +1,25 @@
 //! `interop wire`: wire cases against a server, several side by side.
 
 use crate::stopping::LOOK;
+use crate::trial::{TrialFault, Verdict, choice_of, refuse_choice};
 use device::ConnWrite;
 use lane::Bell;
+use results::{ChoiceFault, Entry, Suite, chosen};
+use sinks::{Run, Sinks};
 use std::alloc::Global;
 use std::net::{Net, TcpListener, TcpStream};
 use std::rt::Files;
 use std::sync::atomic::{AtomicBool, AtomicU64, Ordering};
 use std::sync::{Arc, Mutex, Wait};
+use std::thread;
 use std::thread::Threads;
 use std::time::{Clock, Duration, Instant};
-use std::{fs, thread};
-use wire::{
-    Case, Choice, Options, Outcome, Pace, Server, Verdict, WireFault, chosen, hex_name, hex_of,
-    list, must_failures, push_json, run_case, tell, tell_counts,
-};
+use wire::{Case, Ended, Pace, Server, WireFault, every_case, list, run_case, text_of};
 use words::{WireRun, WireWords};
+
+/// The words that choose cases.
+const KNOWN: &str = "all, a group (start, conn, hpack, stream, flow, control, grpc), or some of \
+    wire --list, as grpc/4, grpc/4-6 or 'grpc/1*'";
 
 /// Milliseconds in a second.
 const SECOND: u64 = 1_000;
@@ -64,48 +68,138 @@ struct Board<R> {
 /// What came of cases that run side by side.
 #[derive(Drop)]
 struct Found {
-    /// By the places of the cases, until it is told of.
-    outcomes: Vec<Option<Result<Outcome, WireFault>>>,
-    /// How many of the cases nothing came of yet.
-    left: usize,
+    /// By the places of the cases, until it is taken.
+    answers: Vec<Option<Result<Ended, WireFault>>>,
 }
 
-/// Lists the wire cases, or runs those that the words choose and prints a line of each. It answers whether none of level must
-/// failed. What the words name as the file for outcomes is written where a case failed or none did.
+/// The cases of a run that have ended, by their places, until they are told of in their order.
+#[derive(Drop)]
+struct Desk {
+    alloc: Global,
+    waiting: Vec<Option<Ended>>,
+    /// The place of the case that is told of next.
+    next: usize,
+    is_verbose: bool,
+    /// Whether no more are run: the server answers no more, or one failed and that is enough.
+    is_over: bool,
+}
+
+/// Lists the wire cases, or runs those that the words choose, and tells what came of each. Where `is_shown`, standard error is a
+/// terminal, and shows how far it is.
 ///
 /// # Errors
 ///
-/// `UnknownCase` where the words choose no case: no connection is made. `WriteFailed` where a line or a file can't be written;
-/// of a file standard error says why.
-pub fn run_wire<R, W>(rt: &R, words: WireWords<'_>, output: &mut W) -> Result<bool, WireFault>
+/// `BadKnown` where the file of known failures is none; `Failed` where a line or a file can't be written or read. Standard error
+/// says why.
+pub fn run_wire<R, W>(
+    rt: R,
+    words: WireWords<'_>,
+    is_shown: bool,
+    output: &mut W,
+) -> Result<Verdict, TrialFault>
 where
     R: Net<Stream = TcpStream, Listener = TcpListener> + Files + Eprint + AllocGlobal,
     R: Clock + Threads + Wait + Copy + Send + Sync + Drop + 'static,
     W: ConnWrite,
 {
+    let alloc = rt.alloc();
     let words = match words {
         WireWords::List => {
-            list(rt.alloc(), output)?;
-            return Ok(true);
+            list(alloc, output)?;
+            return Ok(Verdict::Passed);
         }
         WireWords::Run(words) => words,
     };
-    let outcomes = outcomes_of(*rt, words, output)?;
-    if let Some(file) = words.json {
-        write_outcomes(rt, file, outcomes.as_slice())?;
+    let cases = every_case(alloc)?;
+    let names = names_of(alloc, cases.as_slice())?;
+    let entries = entries_of(alloc, cases.as_slice(), names.as_slice())?;
+    let choice = choice_of(words.names.as_slice(), &words.reporting);
+    let places = match chosen(alloc, entries.as_slice(), choice) {
+        Ok(places) => places,
+        Err(ChoiceFault::NoCase(name)) => return Ok(refuse_name(&rt, name)),
+        Err(fault) => return refuse_choice(&rt, fault),
+    };
+    let mut texts = Vec::new(alloc);
+    for name in names.as_slice() {
+        texts.push(name.as_str())?;
     }
-    Ok(must_failures(outcomes.as_slice()) == 0)
+    let run = Run {
+        suite: Suite::Wire,
+        reporting: &words.reporting,
+        names: texts.as_slice(),
+        chosen: places.len(),
+        is_shown,
+    };
+    let mut sinks = Sinks::open(rt, alloc, run)?;
+    for _ in 0..words.reporting.repeat {
+        let chosen = picked(alloc, cases.as_slice(), places.as_slice())?;
+        if !run_round(rt, alloc, chosen, &words, &mut sinks, output)? {
+            break;
+        }
+    }
+    Ok(Verdict::from(sinks.close(output)?))
 }
 
-/// Runs the cases that the words choose, and prints a line of each, in their order.
-fn outcomes_of<R, W>(rt: R, words: WireRun<'_>, output: &mut W) -> Result<Vec<Outcome>, WireFault>
+/// Says that there is no case of this name, and which there are.
+fn refuse_name(rt: &impl Eprint, name: &str) -> Verdict {
+    // The exit status tells of it even where nothing can be said here.
+    let _said = eprintln!(rt; "interop: there is no wire case {name}: {KNOWN}");
+    Verdict::UnknownCase
+}
+
+/// The names of cases.
+fn names_of(alloc: Global, cases: &[Case]) -> Result<Vec<String>, TrialFault> {
+    let mut names = Vec::new(alloc);
+    for case in cases {
+        names.push(case.name(alloc)?)?;
+    }
+    Ok(names)
+}
+
+/// What can be chosen: cases of these names.
+fn entries_of<'a>(
+    alloc: Global,
+    cases: &[Case],
+    names: &'a [String],
+) -> Result<Vec<Entry<'a>>, TrialFault> {
+    let mut entries = Vec::new(alloc);
+    for (case, name) in cases.iter().zip(names) {
+        entries.push(Entry {
+            name: name.as_str(),
+            level: Some(case.level),
+            is_in_all: true,
+        })?;
+    }
+    Ok(entries)
+}
+
+/// The cases at these places.
+fn picked(alloc: Global, cases: &[Case], places: &[usize]) -> Result<Vec<Case>, TrialFault> {
+    let mut picked = Vec::new(alloc);
+    for place in places {
+        if let Some(case) = cases.get(*place) {
+            picked.push(*case)?;
+        }
+    }
+    Ok(picked)
+}
+
+/// Runs cases, each once, and tells what came of each. It answers whether more are to be run.
+fn run_round<R, W>(
+    rt: R,
+    alloc: Global,
+    cases: Vec<Case>,
+    words: &WireRun<'_>,
+    sinks: &mut Sinks<'_, R>,
+    output: &mut W,
+) -> Result<bool, TrialFault>
 where
-    R: Net<Stream = TcpStream, Listener = TcpListener> + AllocGlobal,
+    R: Net<Stream = TcpStream, Listener = TcpListener> + Files + Eprint + AllocGlobal,
     R: Clock + Threads + Wait + Copy + Send + Sync + Drop + 'static,
     W: ConnWrite,
 {
-    let alloc = rt.alloc();
-    let board = Arc::new(alloc, board_of(rt, alloc, words)?)?;
+    let mut desk = Desk::new(alloc, cases.as_slice(), words.is_verbose)?;
+    let board = Arc::new(alloc, board_of(rt, alloc, cases, words)?)?;
     let mut threads = Vec::new(alloc);
     for _ in board.cases.as_slice().iter().take(usize::from(words.jobs)) {
         let shared = Arc::try_clone(&board)?;
@@ -115,34 +209,30 @@ where
         threads.push(thread)?;
     }
     if threads.is_empty() {
-        return Err(WireFault::OutOfMemory);
+        return Err(TrialFault::OutOfMemory);
     }
-    let options = Options {
-        verbose: words.is_verbose,
-    };
-    let outcomes = board.tell_all(&rt, alloc, options, output);
+    let told = board.tell_all(&rt, &mut desk, sinks, output);
     board.is_over.store(true, Ordering::SeqCst);
     for thread in threads {
         thread.join(&rt);
     }
-    outcomes
+    told?;
+    Ok(!desk.is_over)
 }
 
-/// The cases that the words choose, none of them run.
+/// These cases, none of them run.
 fn board_of<R: Net<Stream = TcpStream> + Clock + Drop>(
     rt: R,
     alloc: Global,
-    words: WireRun<'_>,
-) -> Result<Board<R>, WireFault> {
-    let choice = Choice::read(words.cases).ok_or(WireFault::UnknownCase)?;
-    let cases = chosen(alloc, choice)?;
-    let mut outcomes = Vec::new(alloc);
-    for _ in cases.as_slice() {
-        outcomes.push(None)?;
-    }
-    let left = cases.iter().filter(|case| !case.opens_many()).count();
+    cases: Vec<Case>,
+    words: &WireRun<'_>,
+) -> Result<Board<R>, TrialFault> {
     let silence = u64::from(words.silence);
-    let begun = Instant::now(&rt).map_err(|_| WireFault::ClockFailed)?;
+    let begun = Instant::now(&rt).map_err(|_| TrialFault::Failed)?;
+    let mut answers = Vec::new(alloc);
+    for _ in cases.as_slice() {
+        answers.push(None)?;
+    }
     Ok(Board {
         cases,
         target: Target {
@@ -158,7 +248,7 @@ fn board_of<R: Net<Stream = TcpStream> + Clock + Drop>(
         },
         next: AtomicU64::new(0),
         is_over: AtomicBool::new(false),
-        found: Mutex::new(Found { outcomes, left }),
+        found: Mutex::new(Found { answers }),
         bell: Bell::new(),
     })
 }
@@ -175,65 +265,54 @@ impl<R: Net<Stream = TcpStream> + Clock + Drop> Board<R> {
                 return;
             }
             if !case.opens_many() {
-                let outcome = run_case(alloc, *case, self.pace, &self.target);
-                self.put(rt, place, outcome);
+                let answer = run_case(alloc, *case, self.pace, &self.target);
+                self.found.lock(rt).put(place, answer);
+                self.bell.ring();
             }
         }
     }
 
-    /// Prints a line of each case, in their order, and the counts at the end. Where the server answers no more after a case, nothing
-    /// more is told of.
-    fn tell_all<W: ConnWrite>(
+    /// Takes what came of each case as it ends, and of those that no other runs beside, which are run last.
+    fn tell_all<S, W>(
         &self,
-        rt: &impl Wait,
-        alloc: Global,
-        options: Options,
+        rt: &S,
+        desk: &mut Desk,
+        sinks: &mut Sinks<'_, R>,
         output: &mut W,
-    ) -> Result<Vec<Outcome>, WireFault> {
-        let mut outcomes = Vec::new(alloc);
-        for (place, case) in self.cases.as_slice().iter().enumerate() {
-            let outcome = if case.opens_many() {
-                self.wait_for_others(rt);
-                run_case(alloc, *case, self.pace, &self.target)?
-            } else {
-                self.wait_for(rt, place)?
-            };
-            tell(alloc, &outcome, options, output)?;
-            let is_alive = outcome.is_alive;
-            outcomes.push(outcome)?;
-            if !is_alive {
+    ) -> Result<(), TrialFault>
+    where
+        S: Wait,
+        R: Files + Eprint + AllocGlobal,
+        W: ConnWrite,
+    {
+        for case in self.cases.as_slice() {
+            if desk.is_over {
                 break;
             }
-        }
-        tell_counts(alloc, outcomes.as_slice(), output)?;
-        Ok(outcomes)
-    }
-
-    /// Puts down what came of the case at a place.
-    fn put(&self, rt: &impl Wait, place: usize, outcome: Result<Outcome, WireFault>) {
-        self.found.lock(rt).put(place, outcome);
-        self.bell.ring();
-    }
-
-    /// Waits until no thread runs a case.
-    fn wait_for_others(&self, rt: &impl Wait) {
-        for _ in rt.forever() {
-            let mark = self.bell.mark();
-            if self.found.lock(rt).left == 0 {
-                return;
+            if !case.opens_many() {
+                let (place, answer) = self.wait_for_next(rt);
+                desk.take(place, answer?, sinks, output)?;
             }
-            self.bell.wait_past(rt, mark, Duration::from_secs(LOOK));
         }
-        unreachable!()
+        for (place, case) in self.cases.as_slice().iter().enumerate() {
+            if desk.is_over {
+                break;
+            }
+            if case.opens_many() {
+                let ended = run_case(desk.alloc, *case, self.pace, &self.target)?;
+                desk.take(place, ended, sinks, output)?;
+            }
+        }
+        desk.tell_rest(sinks, output)
     }
 
-    /// What came of the case at a place, once it has.
-    fn wait_for(&self, rt: &impl Wait, place: usize) -> Result<Outcome, WireFault> {
+    /// What came of the next case that ends, and its place.
+    fn wait_for_next(&self, rt: &impl Wait) -> (usize, Result<Ended, WireFault>) {
         for _ in rt.forever() {
             let mark = self.bell.mark();
-            let taken = self.found.lock(rt).take(place);
-            if let Some(outcome) = taken {
-                return outcome;
+            let taken = self.found.lock(rt).take();
+            if let Some(found) = taken {
+                return found;
             }
             self.bell.wait_past(rt, mark, Duration::from_secs(LOOK));
         }
@@ -243,47 +322,102 @@ impl<R: Net<Stream = TcpStream> + Clock + Drop> Board<R> {
 
 impl Found {
     /// Puts down what came of the case at a place.
-    fn put(&mut self, place: usize, outcome: Result<Outcome, WireFault>) {
-        if let Some(slot) = self.outcomes.as_mut_slice().get_mut(place) {
-            *slot = Some(outcome);
+    fn put(&mut self, place: usize, answer: Result<Ended, WireFault>) {
+        if let Some(slot) = self.answers.as_mut_slice().get_mut(place) {
+            *slot = Some(answer);
         }
-        self.left = self.left.saturating_sub(1);
     }
 
-    /// What came of the case at a place, if something did.
-    fn take(&mut self, place: usize) -> Option<Result<Outcome, WireFault>> {
-        self.outcomes.as_mut_slice().get_mut(place)?.take()
+    /// The first place of which something came, and what.
+    fn take(&mut self) -> Option<(usize, Result<Ended, WireFault>)> {
+        let place = self.answers.iter().position(|slot| slot.is_some())?;
+        let answer = self.answers.as_mut_slice().get_mut(place)?.take()?;
+        Some((place, answer))
     }
 }
 
-/// Writes the outcomes as JSON into a file, and beside it, for each case that failed, a file of what was sent.
-fn write_outcomes<R: Files + Eprint + AllocGlobal>(
-    rt: &R,
-    file: &str,
-    outcomes: &[Outcome],
-) -> Result<(), WireFault> {
-    let alloc = rt.alloc();
-    let mut text = String::new(alloc);
-    push_json(alloc, &mut text, outcomes)?;
-    write_file(rt, file, text.as_str())?;
-    for outcome in outcomes {
-        if matches!(outcome.finding.verdict, Verdict::Failed | Verdict::Unsteady) {
-            let name = hex_name(alloc, file, &outcome.case)?;
-            let sent = hex_of(alloc, outcome.finding.sent.as_slice())?;
-            write_file(rt, name.as_str(), sent.as_str())?;
+impl Desk {
+    /// One for these cases, none of which has ended.
+    fn new(alloc: Global, cases: &[Case], is_verbose: bool) -> Result<Desk, TrialFault> {
+        let mut waiting = Vec::new(alloc);
+        for _ in cases {
+            waiting.push(None)?;
         }
+        Ok(Desk {
+            alloc,
+            waiting,
+            next: 0,
+            is_verbose,
+            is_over: false,
+        })
     }
-    Ok(())
-}
 
-/// Writes a file. Where it can't be written, a line on standard error says why.
-fn write_file<R: Files + Eprint>(rt: &R, name: &str, text: &str) -> Result<(), WireFault> {
-    match fs::write(rt, name, text) {
-        Ok(()) => Ok(()),
-        Err(error) => {
-            // The exit status tells of it even where nothing can be said here.
-            let _said = eprintln!(rt; "interop: {name} can't be written: {error}");
-            Err(WireFault::WriteFailed)
+    /// Takes what came of the case at a place, and tells of those whose turn it is.
+    fn take<R, W>(
+        &mut self,
+        place: usize,
+        mut ended: Ended,
+        sinks: &mut Sinks<'_, R>,
+        output: &mut W,
+    ) -> Result<(), TrialFault>
+    where
+        R: Files + Clock + Eprint + AllocGlobal + Drop,
+        W: ConnWrite,
+    {
+        sinks.ended(&mut ended.outcome, output)?;
+        self.is_over = sinks.is_over() || !ended.is_alive;
+        if let Some(slot) = self.waiting.as_mut_slice().get_mut(place) {
+            *slot = Some(ended);
         }
+        for _ in self.next..self.waiting.len() {
+            let Some(ended) = self.next_ended() else {
+                break;
+            };
+            self.tell(ended, sinks, output)?;
+        }
+        Ok(())
+    }
+
+    /// The case whose turn it is, if it has ended.
+    fn next_ended(&mut self) -> Option<Ended> {
+        let ended = self.waiting.as_mut_slice().get_mut(self.next)?.take()?;
+        self.next = self.next.saturating_add(1);
+        Some(ended)
+    }
+
+    /// Tells of the cases that have ended, though others before them have not.
+    fn tell_rest<R, W>(
+        &mut self,
+        sinks: &mut Sinks<'_, R>,
+        output: &mut W,
+    ) -> Result<(), TrialFault>
+    where
+        R: Files + Clock + Eprint + AllocGlobal + Drop,
+        W: ConnWrite,
+    {
+        for _ in self.next..self.waiting.len() {
+            match self.next_ended() {
+                Some(ended) => self.tell(ended, sinks, output)?,
+                None => self.next = self.next.saturating_add(1),
+            }
+        }
+        Ok(())
+    }
+
+    /// Tells what came of a case.
+    fn tell<R, W>(
+        &self,
+        ended: Ended,
+        sinks: &mut Sinks<'_, R>,
+        output: &mut W,
+    ) -> Result<(), TrialFault>
+    where
+        R: Files + Clock + Eprint + AllocGlobal + Drop,
+        W: ConnWrite,
+    {
+        let text = text_of(self.alloc, &ended, self.is_verbose)?;
+        let Ended { outcome, .. } = ended;
+        sinks.tell(outcome, text.as_bytes(), output)?;
+        Ok(())
     }
 }

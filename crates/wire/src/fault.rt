@@ -9,8 +9,6 @@ use std::alloc::{AllocError, AllocFailed};
 /// Why cases were not run to their end.
 #[derive(Clone, Copy, Debug, PartialEq, Eq)]
 pub enum WireFault {
-    /// No case has such a name.
-    UnknownCase,
     /// A row of the tables can't be read: a fault of this program.
     BadRow,
     /// A line could not be written.

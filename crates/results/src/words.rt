@@ -1,0 +1,96 @@
+//! The words for what came of a case.
+
+ghost use Rattle.std.specs.Prelude.{◌≡◌, IfNone, IfSome};
+ghost use Rattle.results.specs.Words.{IsNoLevel, level_word, suite_word, verdict_word};
+
+/// The command that runs a case.
+#[derive(Clone, Copy, Debug, PartialEq, Eq)]
+pub enum Suite {
+    Case,
+    Wire,
+    Misbehave,
+    /// The command `self`.
+    SelfTest,
+    Drain,
+}
+
+/// What became of a case.
+#[derive(Clone, Copy, Debug, PartialEq, Eq)]
+pub enum Verdict {
+    Ok,
+    Failed,
+    /// Some tries passed, and others didn't. It accuses nobody.
+    Unsteady,
+    /// The peer didn't do what the case needs, so nothing was seen that could be right or wrong.
+    NotTested,
+    /// The peer isn't one that the case is for.
+    NotApplicable,
+}
+
+/// How binding the rule is that a case rests on.
+#[derive(Clone, Copy, Debug, PartialEq, Eq)]
+pub enum Level {
+    /// A standard says MUST.
+    Must,
+    /// A standard says SHOULD.
+    Should,
+    /// This project's own choice among what the standards allow.
+    Ours,
+}
+
+impl Suite {
+    /// Its word, which is the command's.
+    pub fn name(self) -> &'static str
+        ensures { result.now ≡ suite_word self }
+    {
+        match self {
+            Suite::Case => "case",
+            Suite::Wire => "wire",
+            Suite::Misbehave => "misbehave",
+            Suite::SelfTest => "self",
+            Suite::Drain => "drain",
+        }
+    }
+}
+
+impl Verdict {
+    /// Its word.
+    pub fn name(self) -> &'static str
+        ensures { result.now ≡ verdict_word self }
+    {
+        match self {
+            Verdict::Ok => "ok",
+            Verdict::Failed => "failed",
+            Verdict::Unsteady => "unsteady",
+            Verdict::NotTested => "not tested",
+            Verdict::NotApplicable => "not applicable",
+        }
+    }
+}
+
+impl Level {
+    /// All levels, the most binding first.
+    pub const ALL: [Level; 3] = [Level::Must, Level::Should, Level::Ours];
+
+    /// Its word.
+    pub fn name(self) -> &'static str
+        ensures { result.now ≡ level_word self }
+    {
+        match self {
+            Level::Must => "must",
+            Level::Should => "should",
+            Level::Ours => "ours",
+        }
+    }
+
+    /// The level of a word.
+    pub fn named(word: &str) -> Option<Level>
+        ensures some { IfSome result (λ level. level_word level ≡ word.now) }
+        ensures none { IfNone result (IsNoLevel word.now) }
+    {
+        Level::ALL
+            .iter()
+            .find(|level| level.name() == word)
+            .copied()
+    }
+}
