@@ -12,7 +12,7 @@ ghost use Rattle.commands.specs.declared.drain.Goaway.{Goaway as Seen};
 use crate::client::PATIENCE;
 use crate::connecting::set_ticks;
 use crate::log::Log;
-use crate::port::{Service, serve_apart};
+use crate::port::{Reports, Service, serve_apart};
 use crate::stopping::Stop;
 use cases::{CaseFault, Failure, Limit, ReportFault, Timed, Windows, print_line};
 use device::{ConnWrite, write_all};
@@ -29,6 +29,9 @@ use words::LOOPBACK;
 
 /// What the client runs: one call, of four messages, each with its reply.
 const CASE: &str = "ping_pong";
+
+/// How many seconds the server waits for the connection that it drains.
+const SECONDS: u16 = 10;
 
 /// The stream of its call.
 const CALL: StreamId = 1;
@@ -69,13 +72,13 @@ where
         × (passed ≡ is_ok answer)) }
 {
     let alloc = rt.alloc();
-    let stop = Arc::new(alloc, Stop::new(alloc, Some(1)))?;
+    let stop = Arc::new(alloc, Stop::new(alloc, Some(1), SECONDS))?;
     let Ok(stream) = connect(&rt, port) else {
         return Err(ReportFault::OutOfMemory);
     };
     let service: Service<Log> = Service {
         methods,
-        reporter: None,
+        reports: Reports::Nowhere,
         log: None,
         stop: Some(Arc::try_clone(&stop)?),
     };

@@ -8,7 +8,7 @@
 //! - `run_drain` drains a server of its own while a client has a call (`drain`).
 //! - `run_wire` lists wire cases, or runs them against a server (`wire_cases`).
 //! - `serve` serves connections to a port (`server`): `listening` is the port, `port` has the threads, `stream` a connection, `stopping`
-//!   how it stops, `served` and `reporter` the report, `log` the log.
+//!   how it stops, `room` how many are served at a time, `served` and `reporter` the report, `log` and `times` the log.
 //! - `read_words`, of the crate `words`, reads which of them a command line means.
 //!
 //! Below them:
@@ -32,6 +32,7 @@ mod parts;
 mod port;
 mod report;
 mod reporter;
+mod room;
 mod served;
 mod server;
 mod soak;
@@ -40,6 +41,7 @@ mod stream;
 mod streams;
 mod tally;
 mod text;
+mod times;
 mod wire_cases;
 
 pub use body::{RunFault, run_body};

@@ -3,17 +3,22 @@
 //! Whoever reads or writes a connection shows the bytes to its `Watch`, and leaves the lines that come of it here; one thread of the
 //! log's own prints them. So printing holds nobody up: where too many lines wait, they are counted in place of being kept.
 
-ghost use Rattle.std.specs.Prelude.{◌≡◌, ◌<◌, ◌≤◌, ◌+◌, ◌^◌, IfSome, IfNone, OnOk, OnErr, vec_len};
+ghost use Rattle.std.specs.Prelude.{◌≡◌, ◌<◌, ◌≤◌, ◌+◌, ◌^◌, IfSome, IfNone, OnOk, OnErr};
 
+use crate::served::{objects_of, report_of};
+use crate::stopping::Connection;
+use crate::stream;
+use crate::times::{Moment, Times};
 use connection::Ending;
-use connlog::{Ended, Line, Observer};
+use connlog::{Ended, Line, Observer, json};
+use handlers::Methods;
 use lane::Bell;
 use std::alloc::{AllocError, Global};
-use std::net::SocketAddr;
-use std::sync::atomic::{AtomicBool, AtomicU64, Ordering};
+use std::io::ErrorKind;
+use std::sync::atomic::{AtomicBool, Ordering};
 use std::sync::{Arc, Mutex, Wait};
 use std::time::{Clock, Duration, Instant};
-use std::{mem, thread};
+use std::{io, mem, thread};
 use words::LogForm;
 
 /// How many lines wait at most.
@@ -28,14 +33,10 @@ const PAUSE: u64 = 10;
 /// The log of a server.
 #[derive(Drop)]
 pub struct Log {
-    form: LogForm,
-    /// How many connections have begun.
-    begun: AtomicU64,
-    /// Those that go on.
+    times: Times,
+    /// The connections that go on.
     watches: Mutex<Vec<Arc<Watch>>>,
     waiting: Mutex<Waiting>,
-    /// Held by whoever prints, so that no line stands inside one of a report.
-    turn: Arc<Mutex<()>>,
     /// Rung where lines were left, and where no more will come.
     bell: Bell,
     is_closed: AtomicBool,
@@ -44,13 +45,61 @@ pub struct Log {
 /// A log that connections are shown to. Who serves them takes it as a type parameter: that threads may share it is then shown once,
 /// and not again together with all else that they share.
 pub trait Logs {
-    /// A connection of this peer begins. Where there is no memory for that, it isn't followed.
-    fn begin<R: Wait>(log: &Arc<Self>, rt: &R, alloc: Global, peer: SocketAddr) -> Option<Logged>;
+    /// A connection begins. Where there is no memory for that, it isn't followed.
+    fn begin<R: Wait + Clock>(
+        log: &Arc<Self>,
+        rt: &R,
+        alloc: Global,
+        connection: Connection,
+    ) -> Option<Logged>;
+
+    /// Leaves the report on a connection to be printed, behind its lines.
+    fn report<R: Wait + Clock>(
+        &self,
+        rt: &R,
+        alloc: Global,
+        methods: &Methods,
+        connection: Connection,
+        ended: &stream::Ended,
+    );
 }
 
 impl Logs for Log {
-    fn begin<R: Wait>(log: &Arc<Log>, rt: &R, alloc: Global, peer: SocketAddr) -> Option<Logged> {
-        Logged::begin(rt, alloc, log, peer).ok()
+    fn begin<R: Wait + Clock>(
+        log: &Arc<Log>,
+        rt: &R,
+        alloc: Global,
+        connection: Connection,
+    ) -> Option<Logged> {
+        Logged::begin(rt, alloc, log, connection).ok()
+    }
+
+    fn report<R: Wait + Clock>(
+        &self,
+        rt: &R,
+        alloc: Global,
+        methods: &Methods,
+        connection: Connection,
+        ended: &stream::Ended,
+    ) {
+        let lines = ended.calls.len().saturating_add(1);
+        let moment = self.times.now(rt);
+        let report = match self.times.form {
+            LogForm::Text => report_of(alloc, connection.peer, methods, ended),
+            LogForm::Json => self.objects(alloc, methods, connection, ended, moment),
+        };
+        match report {
+            Ok(text) => self.leave(
+                rt,
+                Batch {
+                    connection: connection.number,
+                    moment,
+                    lines,
+                    told: Told::Report(text),
+                },
+            ),
+            Err(AllocError) => self.lose(rt, lines),
+        }
     }
 }
 
@@ -68,11 +117,21 @@ pub struct Logged {
     watch: Arc<Watch>,
 }
 
-/// Lines of a connection.
+/// So many lines of a connection, and when they came.
 #[derive(Drop)]
 struct Batch {
     connection: u64,
-    lines: Vec<Line>,
+    moment: Moment,
+    lines: usize,
+    told: Told,
+}
+
+/// What they are.
+#[derive(Drop)]
+enum Told {
+    Lines(Vec<Line>),
+    /// The report on it, as it is printed.
+    Report(String),
 }
 
 /// What is to be printed.
@@ -86,35 +145,34 @@ struct Waiting {
 }
 
 impl Log {
-    pub fn new(alloc: Global, form: LogForm, turn: Arc<Mutex<()>>) -> Log {
+    pub fn new(alloc: Global, times: Times) -> Log {
         Log {
-            form,
-            begun: AtomicU64::new(0),
+            times,
             watches: Mutex::new(Vec::new(alloc)),
             waiting: Mutex::new(Waiting {
                 batches: Vec::new(alloc),
                 lines: 0,
                 dropped: 0,
             }),
-            turn,
             bell: Bell::new(),
             is_closed: AtomicBool::new(false),
         }
     }
 
-    /// Prints lines as they come, until the log is closed.
-    pub fn print_all<R: Print + Wait + Clock>(&self, rt: &R, alloc: Global) {
+    /// Prints lines as they come, until the log is closed. It fails where one can't be written; that nobody reads them any more is no
+    /// failure.
+    pub fn print_all<R: Print + Wait + Clock>(&self, rt: &R, alloc: Global) -> io::Result<()> {
         let mut ticked = Instant::now(rt).ok();
         for _ in rt.forever() {
             let mark = self.bell.mark();
             let is_closed = self.is_closed.load(Ordering::SeqCst);
-            let has_printed = self.print_waiting(rt, alloc);
+            let has_printed = self.print_waiting(rt, alloc)?;
             if is_closed {
-                return;
+                return Ok(());
             }
             if has_ticked(rt, ticked) {
                 ticked = Instant::now(rt).ok();
-                self.tick(rt, alloc);
+                self.tick(rt);
             } else if has_printed {
                 let _ = thread::sleep(rt, Duration::from_millis(PAUSE));
             } else {
@@ -131,23 +189,24 @@ impl Log {
     }
 
     /// Prints what waits, and answers whether that was anything.
-    fn print_waiting<R: Print + Wait>(&self, rt: &R, alloc: Global) -> bool {
+    fn print_waiting<R: Print + Wait + Clock>(&self, rt: &R, alloc: Global) -> io::Result<bool> {
         let Some((batches, dropped)) = self.next(rt, alloc) else {
-            return false;
+            return Ok(false);
         };
         let mut lost = dropped;
         let (mut text, mut lines) = (String::new(alloc), String::new(alloc));
         for batch in &batches {
             if self.add_text(alloc, &mut text, &mut lines, batch).is_err() {
-                lost = lost.saturating_add(batch.lines.len());
+                lost = lost.saturating_add(batch.lines);
             }
         }
-        let _turn = self.turn.lock(rt);
-        let _printed = rt.write_all(text.as_bytes());
         if lost > 0 {
-            self.print_dropped(rt, lost);
+            self.add_dropped(alloc, &mut text, lost, self.times.now(rt))?;
         }
-        true
+        match rt.write_all(text.as_bytes()) {
+            Err(error) if error.kind() != ErrorKind::BrokenPipe => Err(error),
+            _ => Ok(true),
+        }
     }
 
     /// Adds the whole lines of a batch to a text, or nothing. They are written to `lines` first, whose memory is used again.
@@ -159,15 +218,63 @@ impl Log {
         batch: &Batch,
     ) -> Result<(), AllocError> {
         lines.clear();
-        batch.write(alloc, lines, self.form)?;
+        match &batch.told {
+            Told::Report(report) => return text.push_str(report.as_str()),
+            Told::Lines(told) => {
+                let time = self.times.text(alloc, batch.moment)?;
+                let time = time.as_ref().map(|time| time.as_str());
+                for line in told {
+                    match self.times.form {
+                        LogForm::Text => line.write_text(lines, batch.connection, time)?,
+                        LogForm::Json => {
+                            line.write_json(alloc, lines, batch.connection, time.unwrap_or("null"))?
+                        }
+                    }
+                }
+            }
+        }
         text.push_str(lines.as_str())
     }
 
-    fn print_dropped(&self, rt: &impl Print, count: usize) {
-        let _printed = match self.form {
-            LogForm::Text => println!(rt; "dropped {count}"),
-            LogForm::Json => println!(rt; "{{\"dropped\":{count}}}"),
-        };
+    /// Adds the line that says how many were dropped.
+    fn add_dropped(
+        &self,
+        alloc: Global,
+        text: &mut String,
+        count: usize,
+        moment: Moment,
+    ) -> Result<(), AllocError> {
+        match self.times.form {
+            LogForm::Text => writeln!(text, "dropped {count}"),
+            LogForm::Json => {
+                let time = self.times.text(alloc, moment)?;
+                let time = time.as_ref().map_or("null", |time| time.as_str());
+                json::begin(text, time)?;
+                json::string(alloc, text, "event", "dropped")?;
+                json::number(text, "lines", count as u64)?;
+                json::end(text)
+            }
+        }
+    }
+
+    /// The report on a connection, in objects.
+    fn objects(
+        &self,
+        alloc: Global,
+        methods: &Methods,
+        connection: Connection,
+        ended: &stream::Ended,
+        moment: Moment,
+    ) -> Result<String, AllocError> {
+        let time = self.times.text(alloc, moment)?;
+        let time = time.as_ref().map_or("null", |time| time.as_str());
+        objects_of(alloc, time, connection, methods, ended)
+    }
+
+    /// So many lines are lost.
+    fn lose(&self, rt: &impl Wait, lines: usize) {
+        self.waiting.lock(rt).lose(lines);
+        self.bell.ring();
     }
 
     /// Takes what waits, and how many lines were dropped behind it, unless that is nothing.
@@ -186,7 +293,8 @@ impl Log {
     }
 
     /// A second has gone by.
-    fn tick(&self, rt: &impl Wait, alloc: Global) {
+    fn tick(&self, rt: &(impl Wait + Clock)) {
+        let moment = self.times.now(rt);
         let watches = self.watches.lock(rt);
         for watch in watches.iter() {
             let lines = {
@@ -195,8 +303,7 @@ impl Log {
                 lines_of(&mut observer)
             };
             if let Some(lines) = lines {
-                let connection = watch.connection;
-                self.leave(rt, Batch { connection, lines });
+                self.leave(rt, Batch::of_lines(watch.connection, moment, lines));
             }
         }
     }
@@ -236,22 +343,22 @@ fn lines_of(observer: &mut Observer) -> Option<Vec<Line>> {
 }
 
 impl Logged {
-    /// A connection of this peer begins.
+    /// A connection begins.
     // (kept out of its caller, whose frame is on the stack of each connection that lives)
     #[inline(never)]
     pub fn begin(
-        rt: &impl Wait,
+        rt: &(impl Wait + Clock),
         alloc: Global,
         log: &Arc<Log>,
-        peer: SocketAddr,
+        connection: Connection,
     ) -> Result<Logged, AllocError> {
-        let connection = log.begun.fetch_add(1, Ordering::SeqCst).wrapping_add(1);
+        let Connection { number, peer } = connection;
         let mut observer = Observer::new(alloc);
         observer.begun(format!(in alloc; "{peer}")?);
         let watch = Arc::new(
             alloc,
             Watch {
-                connection,
+                connection: number,
                 observer: Mutex::new(observer),
             },
         )?;
@@ -276,7 +383,7 @@ impl Logged {
     }
 
     /// These bytes were read of the connection.
-    pub fn read(&self, rt: &impl Wait, bytes: &[u8]) {
+    pub fn read(&self, rt: &(impl Wait + Clock), bytes: &[u8]) {
         let lines = {
             let mut observer = self.watch.observer.lock(rt);
             observer.read(bytes);
@@ -286,7 +393,7 @@ impl Logged {
     }
 
     /// These bytes were written to the connection.
-    pub fn wrote(&self, rt: &impl Wait, bytes: &[u8]) {
+    pub fn wrote(&self, rt: &(impl Wait + Clock), bytes: &[u8]) {
         let lines = {
             let mut observer = self.watch.observer.lock(rt);
             observer.wrote(bytes);
@@ -298,7 +405,7 @@ impl Logged {
     /// The connection has ended.
     // (kept out of its caller, as `begin` is)
     #[inline(never)]
-    pub fn end(&self, rt: &impl Wait, how: Ended) {
+    pub fn end(&self, rt: &(impl Wait + Clock), how: Ended) {
         self.log.forget(rt, self.watch.connection);
         let lines = {
             let mut observer = self.watch.observer.lock(rt);
@@ -308,10 +415,11 @@ impl Logged {
         self.leave(rt, lines);
     }
 
-    fn leave(&self, rt: &impl Wait, lines: Option<Vec<Line>>) {
+    fn leave(&self, rt: &(impl Wait + Clock), lines: Option<Vec<Line>>) {
         if let Some(lines) = lines {
-            let connection = self.watch.connection;
-            self.log.leave(rt, Batch { connection, lines });
+            let moment = self.log.times.now(rt);
+            let batch = Batch::of_lines(self.watch.connection, moment, lines);
+            self.log.leave(rt, batch);
         }
     }
 }
@@ -330,42 +438,50 @@ pub fn ended_of(ending: Ending) -> Ended {
 }
 
 impl Batch {
-    fn write(&self, alloc: Global, text: &mut String, form: LogForm) -> Result<(), AllocError> {
-        for line in &self.lines {
-            match form {
-                LogForm::Text => line.write_text(text, self.connection)?,
-                LogForm::Json => line.write_json(alloc, text, self.connection)?,
-            }
+    fn of_lines(connection: u64, moment: Moment, lines: Vec<Line>) -> Batch {
+        Batch {
+            connection,
+            moment,
+            lines: lines.len(),
+            told: Told::Lines(lines),
         }
-        Ok(())
     }
 }
 
 impl Waiting {
     /// Adds lines, or counts them as dropped.
     fn put(&mut self, batch: Batch)
-        ensures counted { self.old.lines + self.old.dropped + vec_len batch.lines < 2 ^ 64
+        ensures counted { self.old.lines + self.old.dropped + batch.lines < 2 ^ 64
             → self.new.lines + self.new.dropped
-            ≡ self.old.lines + self.old.dropped + vec_len batch.lines }
+            ≡ self.old.lines + self.old.dropped + batch.lines }
         ensures few { self.old.lines ≤ 16384 → self.new.lines ≤ 16384 }
     {
-        let count = batch.lines.len();
+        let count = batch.lines;
         if self.add(batch).is_err() {
-            self.dropped = self.dropped.saturating_add(count);
+            self.lose(count);
         }
+    }
+
+    /// Counts lines as dropped.
+    fn lose(&mut self, count: usize)
+        ensures counted { self.old.dropped + count < 2 ^ 64
+            → self.new.dropped ≡ self.old.dropped + count }
+        ensures same { self.new.lines ≡ self.old.lines }
+    {
+        self.dropped = self.dropped.saturating_add(count);
     }
 
     /// Adds lines, if there is room for them. Behind lines that were dropped there is none.
     fn add(&mut self, batch: Batch) -> Result<(), AllocError>
         ensures added { OnOk result
-            ((self.new.lines ≡ self.old.lines + vec_len batch.lines)
+            ((self.new.lines ≡ self.old.lines + batch.lines)
             × (self.new.dropped ≡ self.old.dropped)) }
         ensures few { OnOk result (self.new.lines ≤ 16384) }
         ensures order { OnOk result (self.old.dropped ≡ 0) }
         ensures unchanged { OnErr result ((self.new.lines ≡ self.old.lines)
             × (self.new.dropped ≡ self.old.dropped)) }
     {
-        let lines = self.lines.saturating_add(batch.lines.len());
+        let lines = self.lines.saturating_add(batch.lines);
         if self.dropped > 0 || lines > MOST_LINES {
             return Err(AllocError);
         }

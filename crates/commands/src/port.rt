@@ -2,24 +2,23 @@
 //!
 //! One thread takes connections, and starts a thread for each that it takes. Where all that come are served, the first of these
 //! take further connections too once theirs have ended, beside that one: so a client that makes a connection a call seldom waits
-//! for a thread to start. Where only so many are served, each has a thread of its own.
+//! for a thread to start. Where only so many are served, each has a thread of its own. Where the system has too few threads, or too
+//! little memory, the crate's `room` says how many connections are served at a time.
 
 use crate::log::{Logs, ended_of};
 use crate::reporter::Reporter;
-use crate::stopping::Stop;
-use crate::stream::{Ended, serve_stream};
-use connection::STACK;
+use crate::room::Room;
+use crate::stopping::{Connection, Stop};
+use crate::stream::{Ended, Link, serve_stream};
+use connection::{Ending, STACK};
 use handlers::Methods;
 use std::alloc::{AllocError, Global};
-use std::net::{SocketAddr, TcpListener, TcpStream};
+use std::net::{TcpListener, TcpStream};
+use std::sync::atomic::{AtomicU64, Ordering};
 use std::sync::{Arc, Wait};
 use std::thread::{Builder, JoinHandle, Threads};
 use std::time::{Clock, Duration};
 use std::{io, thread};
-
-/// How many threads take further connections once theirs have ended: the first that were started. Blocks that a thread holds since
-/// its start keep the heap from being given back up to where they lie, and a thread of a crowd has them above all of the crowd's.
-const STAYING: usize = 16;
 
 /// How long no connection is taken after one could not be, in milliseconds.
 const PAUSE: u64 = 10;
@@ -28,12 +27,22 @@ const PAUSE: u64 = 10;
 #[derive(Drop)]
 pub struct Service<L> {
     pub methods: Arc<Methods>,
-    /// Where each that has ended is reported on, if that is wanted.
-    pub reporter: Option<Reporter>,
+    /// Where each that has ended is reported on.
+    pub reports: Reports,
     /// Where it is told what happens on them, if that is wanted.
     pub log: Option<Arc<L>>,
     /// How it stops, if it does before the program is interrupted.
     pub stop: Option<Arc<Stop>>,
+}
+
+/// Where connections that have ended are reported on.
+#[derive(Drop)]
+pub enum Reports {
+    Nowhere,
+    /// On standard output.
+    Printed(Reporter),
+    /// In the log, behind the lines of the connection.
+    Logged,
 }
 
 /// A port, and how connections to it are served.
@@ -41,13 +50,16 @@ pub struct Service<L> {
 struct Port<L> {
     listener: TcpListener,
     service: Service<L>,
+    /// How many connections were taken.
+    taken: AtomicU64,
+    room: Room,
 }
 
 /// What a thread does once the connection that it was started for has ended.
 #[derive(Clone, Copy)]
 enum Afterwards {
-    /// It takes more connections.
-    TakesMore,
+    /// It takes more connections, where it is among the first.
+    MayTakeMore,
     /// It ends.
     Ends,
     /// It has the server stop, since that connection was the last, and ends.
@@ -55,13 +67,14 @@ enum Afterwards {
 }
 
 /// Serves connections that come, until the server has stopped, if it does, and has printed its reports. A thread of its own takes
-/// them where it does. What comes while it stops may go unreported.
+/// them where it does. What comes while it stops may go unreported. It answers which connections are left, for which it had no more
+/// patience.
 pub fn serve_port<R, L>(
     rt: R,
     alloc: Global,
     listener: TcpListener,
     service: Service<L>,
-) -> io::Result<()>
+) -> io::Result<Vec<Connection>>
 where
     R: Print + Threads + Wait + Clock + Copy + Send + Sync + Drop + 'static,
     L: Logs + Send + Sync + Drop + 'static,
@@ -70,22 +83,32 @@ where
         Some(stop) => Some(Arc::try_clone(stop)?),
         None => None,
     };
-    let port = Arc::new(alloc, Port { listener, service })?;
+    let port = Port {
+        listener,
+        service,
+        taken: AtomicU64::new(0),
+        room: Room::new(),
+    };
+    let port = Arc::new(alloc, port)?;
     let Some(stop) = stop else {
         take_all(rt, alloc, &port);
-        return Ok(());
+        return Ok(Vec::new(alloc));
     };
     let connections = stop.connections;
     let taken = Arc::try_clone(&port)?;
-    let _taking = thread::spawn(&rt, move || match connections {
-        Some(count) => take_some(rt, alloc, &taken, count),
-        None => take_all(rt, alloc, &taken),
+    let _taking = thread::spawn(&rt, move || {
+        // (kept first, as in `serve_next`)
+        let port = taken;
+        match connections {
+            Some(count) => take_some(rt, alloc, &port, count),
+            None => take_all(rt, alloc, &port),
+        }
     })?;
-    stop.wait(&rt);
-    if let Some(reporter) = &port.service.reporter {
+    let left = stop.wait(&rt, alloc);
+    if let Reports::Printed(reporter) = &port.service.reports {
         reporter.finish(&rt);
     }
-    Ok(())
+    Ok(left)
 }
 
 /// The same, in a thread of its own. That none can be made counts as want of memory.
@@ -100,6 +123,8 @@ where
     L: Logs + Send + Sync + Drop + 'static,
 {
     let serving = thread::spawn(&rt, move || {
+        // (kept first, as in `serve_next`)
+        let service = service;
         let _served = serve_port(rt, alloc, listener, service);
     });
     match serving {
@@ -114,15 +139,10 @@ where
     R: Print + Threads + Wait + Clock + Copy + Send + Sync + Drop + 'static,
     L: Logs + Send + Sync + Drop + 'static,
 {
-    let mut to_stay = STAYING;
     for _ in rt.forever() {
-        let afterwards = match to_stay {
-            0 => Afterwards::Ends,
-            _ => Afterwards::TakesMore,
-        };
-        if serve_next(rt, alloc, port, afterwards).is_ok() {
-            to_stay = to_stay.saturating_sub(1);
-        } else {
+        if !port.room.has_place(&rt)
+            || serve_next(rt, alloc, port, Afterwards::MayTakeMore).is_err()
+        {
             pause(&rt);
         }
     }
@@ -149,7 +169,7 @@ where
             1 => Afterwards::StopsServer,
             _ => Afterwards::Ends,
         };
-        if serve_next(rt, alloc, port, afterwards).is_ok() {
+        if port.room.has_place(&rt) && serve_next(rt, alloc, port, afterwards).is_ok() {
             left -= 1;
         } else {
             pause(&rt);
@@ -169,26 +189,47 @@ where
     L: Logs + Send + Sync + Drop + 'static,
 {
     let shared = Arc::try_clone(port)?;
-    let (stream, peer) = port.listener.accept()?;
-    let is_awaited = port.service.note_taken(&rt);
+    let (stream, connection) = port.accept()?;
+    let is_awaited = port.note_taken(&rt, connection)?;
     let serving = Builder::new().stack_size(STACK).spawn(&rt, move || {
-        let _served = serve_one(rt, alloc, &shared.service, stream, peer);
-        if let Afterwards::StopsServer = afterwards {
-            shared.service.stop_all(&rt);
-        }
-        shared.service.note_ended(&rt, is_awaited);
-        if let Afterwards::TakesMore = afterwards {
-            take_more(rt, alloc, &shared);
-        }
+        // (it is kept first: what shows that a thread may have it gives up where this comes last)
+        let port = shared;
+        serve_first(rt, alloc, &port, stream, connection, is_awaited, afterwards);
     });
     if serving.is_err() {
-        port.service.note_ended(&rt, is_awaited);
+        port.note_ended(&rt, connection, is_awaited, true);
         return Err(io::Error::from(io::ErrorKind::OutOfMemory));
     }
     Ok(())
 }
 
-/// Takes one connection after another, and serves each to its end.
+/// Serves the connection that a thread was started for to its end, and then does what comes afterwards.
+fn serve_first<R, L>(
+    rt: R,
+    alloc: Global,
+    port: &Port<L>,
+    stream: TcpStream,
+    connection: Connection,
+    is_awaited: bool,
+    afterwards: Afterwards,
+)
+where
+    R: Print + Threads + Wait + Clock + Copy + Send + Sync + Drop + 'static,
+    L: Logs + Send + Sync + Drop + 'static,
+{
+    let lacks = serve_one(rt, alloc, &port.service, stream, connection);
+    if let Afterwards::StopsServer = afterwards {
+        port.service.stop_all(&rt);
+    }
+    port.note_ended(&rt, connection, is_awaited, lacks);
+    if let Afterwards::MayTakeMore = afterwards {
+        if port.room.stay(&rt) {
+            take_more(rt, alloc, port);
+        }
+    }
+}
+
+/// Takes one connection after another, and serves each to its end, until there are too few threads for that.
 fn take_more<R, L>(rt: R, alloc: Global, port: &Port<L>)
 where
     R: Print + Threads + Wait + Clock + Copy + Send + Sync + Drop + 'static,
@@ -198,40 +239,61 @@ where
         if serve_taken(rt, alloc, port).is_err() {
             pause(&rt);
         }
+        if port.room.gives_up(&rt) {
+            return;
+        }
     }
     unreachable!()
 }
 
-/// Takes the next connection and serves it. It fails where none could be taken, and where nothing was read of it.
+/// Takes the next connection and serves it. It fails where none could be taken.
 fn serve_taken<R, L>(rt: R, alloc: Global, port: &Port<L>) -> io::Result<()>
 where
     R: Print + Threads + Wait + Clock + Copy + Send + Sync + Drop + 'static,
     L: Logs + Send + Sync + Drop + 'static,
 {
-    let (stream, peer) = port.listener.accept()?;
-    let is_awaited = port.service.note_taken(&rt);
-    let served = serve_one(rt, alloc, &port.service, stream, peer);
-    port.service.note_ended(&rt, is_awaited);
-    served
+    let (stream, connection) = port.accept()?;
+    let is_awaited = port.note_taken(&rt, connection)?;
+    let lacks = serve_one(rt, alloc, &port.service, stream, connection);
+    port.note_ended(&rt, connection, is_awaited, lacks);
+    Ok(())
 }
 
-impl<L> Service<L> {
-    /// A connection was taken. Whether a server that stops waits for it.
-    fn note_taken(&self, rt: &impl Wait) -> bool {
-        match &self.stop {
-            Some(stop) => stop.take(rt),
-            None => false,
-        }
+impl<L> Port<L> {
+    /// Takes the next connection.
+    fn accept(&self) -> io::Result<(TcpStream, Connection)> {
+        let (stream, peer) = self.listener.accept()?;
+        let number = self.taken.fetch_add(1, Ordering::SeqCst).wrapping_add(1);
+        Ok((stream, Connection { number, peer }))
     }
 
-    /// A connection has ended, and was reported on.
-    fn note_ended(&self, rt: &impl Wait, is_awaited: bool) {
-        match &self.stop {
-            Some(stop) if is_awaited => stop.let_go(rt),
+    /// A connection was taken. Whether a server that stops waits for it.
+    fn note_taken(&self, rt: &impl Wait, connection: Connection) -> Result<bool, AllocError> {
+        let is_awaited = match &self.service.stop {
+            Some(stop) => stop.take(rt, connection)?,
+            None => false,
+        };
+        self.room.enter(rt);
+        Ok(is_awaited)
+    }
+
+    /// A connection has ended, and was reported on, or couldn't be served for want of threads or memory.
+    fn note_ended(
+        &self,
+        rt: &(impl Wait + Clock),
+        connection: Connection,
+        is_awaited: bool,
+        lacks: bool,
+    ) {
+        self.room.leave(rt, lacks);
+        match &self.service.stop {
+            Some(stop) if is_awaited => stop.let_go(rt, connection.number),
             _ => {}
         }
     }
+}
 
+impl<L> Service<L> {
     /// The server stops, if it can.
     fn stop_all(&self, rt: &impl Wait) {
         if let Some(stop) = &self.stop {
@@ -240,37 +302,65 @@ impl<L> Service<L> {
     }
 }
 
-/// Serves a connection to its end, and then has it reported on where that is wanted. It fails where nothing was read of it.
+impl<L: Logs> Service<L> {
+    /// Has a connection that has ended reported on, where that is wanted.
+    fn report<R>(&self, rt: &R, alloc: Global, connection: Connection, ended: Ended)
+    where
+        R: Print + Threads + Wait + Clock + Copy + Send + Sync + Drop + 'static,
+    {
+        match (&self.reports, &self.log) {
+            (Reports::Nowhere, _) => {}
+            (Reports::Printed(reporter), _) => {
+                reporter.tell(rt, alloc, &self.methods, connection.peer, ended);
+            }
+            (Reports::Logged, Some(log)) => {
+                log.report(rt, alloc, &self.methods, connection, &ended);
+            }
+            (Reports::Logged, None) => {}
+        }
+    }
+}
+
+/// Serves a connection to its end, and has it reported on where that is wanted. One that was drained has had all by then, and is read on
+/// after that for a moment. Whether threads or memory were wanting.
 fn serve_one<R, L>(
     rt: R,
     alloc: Global,
     service: &Service<L>,
     stream: TcpStream,
-    peer: SocketAddr,
-) -> io::Result<()>
+    connection: Connection,
+) -> bool
 where
     R: Print + Threads + Wait + Clock + Copy + Send + Sync + Drop + 'static,
     L: Logs + Send + Sync + Drop + 'static,
 {
     let logged = match &service.log {
-        Some(log) => L::begin(log, &rt, alloc, peer),
+        Some(log) => L::begin(log, &rt, alloc, connection),
         None => None,
     };
-    let ended = serve_stream(rt, alloc, stream, &service.methods, &logged, &service.stop);
+    let served = serve_stream(rt, alloc, stream, &service.methods, &logged, &service.stop);
     if let Some(logged) = &logged {
-        logged.end(&rt, how_of(&ended));
+        logged.end(&rt, how_of(&served));
     }
-    let ended = ended?;
-    if let Some(reporter) = &service.reporter {
-        reporter.tell(&rt, alloc, &service.methods, peer, ended);
+    let (ended, drained) = match served {
+        Ok(served) => served,
+        Err(error) => return error.kind() == io::ErrorKind::OutOfMemory,
+    };
+    let lacks = ended.ending == Ending::OutOfMemory;
+    if let Some(link) = &drained {
+        link.finish();
     }
-    Ok(())
+    service.report(&rt, alloc, connection, ended);
+    if let Some(link) = &drained {
+        link.part(&rt);
+    }
+    lacks
 }
 
 /// How a connection ended, as its log says it.
-fn how_of(ended: &io::Result<Ended>) -> connlog::Ended {
-    match ended {
-        Ok(ended) => ended_of(ended.ending),
+fn how_of(served: &io::Result<(Ended, Option<Arc<Link>>)>) -> connlog::Ended {
+    match served {
+        Ok((ended, _)) => ended_of(ended.ending),
         Err(_) => connlog::Ended::ReadFailed,
     }
 }

@@ -10,7 +10,7 @@ use lane::Bell;
 use std::alloc::{AllocError, Global};
 use std::mem;
 use std::net::SocketAddr;
-use std::sync::{Arc, Mutex, Wait};
+use std::sync::{Mutex, Wait};
 use std::time::Duration;
 
 /// How many lines wait at most. The longest report has 4,097.
@@ -20,8 +20,6 @@ const MOST_LINES: usize = 16_384;
 #[derive(Drop)]
 pub struct Reporter {
     waiting: Mutex<Waiting>,
-    /// Held by whoever prints, so that no line stands inside one of a log.
-    turn: Arc<Mutex<()>>,
     /// Rung where a thread prints no more.
     printed: Bell,
 }
@@ -41,7 +39,7 @@ struct Waiting {
 }
 
 impl Reporter {
-    pub fn new(alloc: Global, turn: Arc<Mutex<()>>) -> Reporter {
+    pub fn new(alloc: Global) -> Reporter {
         Reporter {
             waiting: Mutex::new(Waiting {
                 text: String::new(alloc),
@@ -50,7 +48,6 @@ impl Reporter {
                 is_printing: false,
                 is_closed: false,
             }),
-            turn,
             printed: Bell::new(),
         }
     }
@@ -67,9 +64,8 @@ impl Reporter {
         peer: SocketAddr,
         ended: Ended,
     ) {
-        let Ended { ending, calls } = ended;
-        let lines = calls.len().saturating_add(1);
-        let report = report_of(alloc, peer, methods, ending, &calls);
+        let lines = ended.calls.len().saturating_add(1);
+        let report = report_of(alloc, peer, methods, &ended);
         let is_to_print = self.waiting.lock(rt).keep(report, lines);
         if is_to_print {
             self.print_all(rt, alloc);
@@ -97,7 +93,6 @@ impl Reporter {
                 self.printed.ring();
                 return;
             };
-            let _turn = self.turn.lock(rt);
             let _printed = print!(rt; "{text}");
             if dropped > 0 {
                 let _printed = println!(rt; "dropped {dropped}");

@@ -1,24 +1,27 @@
 //! What `interop serve --report` tells of a connection: one line of it, and one of each call that was answered on it.
 
+use crate::log::ended_of;
+use crate::stopping::Connection;
+use crate::stream::Ended;
 use account::{Shut, Told};
-use connection::{CallReport, Ending};
+use connection::CallReport;
+use connlog::json;
 use handlers::Methods;
 use std::alloc::{AllocError, Global};
 use std::net::SocketAddr;
 
-/// The lines on a connection of this peer that ended so, with these calls.
+/// The lines on a connection of this peer that ended so.
 pub fn report_of(
     alloc: Global,
     peer: SocketAddr,
     methods: &Methods,
-    ending: Ending,
-    calls: &[CallReport],
+    ended: &Ended,
 ) -> Result<String, AllocError> {
     let mut text = String::new(alloc);
-    let how = text_of(ending);
-    let count = calls.len();
+    let how = ended_of(ended.ending).text();
+    let count = ended.calls.len();
     writeln!(text, "connection {peer} {how} calls {count}")?;
-    for call in calls {
+    for call in &ended.calls {
         tell(&mut text, methods, call)?;
     }
     Ok(text)
@@ -67,26 +70,86 @@ fn tell_half(text: &mut String, call: &CallReport) -> Result<(), AllocError> {
 /// Tells how many items the call was answered with, how many of them were sent, and how far its trailers came.
 fn tell_sent(text: &mut String, call: &CallReport) -> Result<(), AllocError> {
     let CallReport { given, sent, .. } = call;
-    let trailers = match (call.trailers_given, call.trailers_sent) {
-        (_, true) => "sent",
-        (true, false) => "given",
-        (false, false) => "none",
-    };
+    let trailers = trailers_of(call);
     write!(
         text,
         "given {given:>8} sent {sent:>8} trailers {trailers:<5} "
     )
 }
 
-/// How a connection ended, in a word.
-fn text_of(ending: Ending) -> &'static str {
-    match ending {
-        Ending::InputEnded => "input-ended",
-        Ending::PeerGoaway => "goaway",
-        Ending::ProtocolError(_) => "protocol-error",
-        Ending::ReadFailed => "read-failed",
-        Ending::WriteFailed => "write-failed",
-        Ending::OutOfMemory => "out-of-memory",
-        Ending::Drained => "drained",
+/// The same in objects of JSON, a line each. Their time is a JSON value.
+pub fn objects_of(
+    alloc: Global,
+    time: &str,
+    connection: Connection,
+    methods: &Methods,
+    ended: &Ended,
+) -> Result<String, AllocError> {
+    let Connection { number, peer } = connection;
+    let mut text = String::new(alloc);
+    json::begin(&mut text, time)?;
+    json::number(&mut text, "conn", number)?;
+    json::string(alloc, &mut text, "event", "connection")?;
+    let peer = format!(in alloc; "{peer}")?;
+    json::string(alloc, &mut text, "peer", peer.as_str())?;
+    json::string(alloc, &mut text, "how", ended_of(ended.ending).text())?;
+    json::number(&mut text, "calls", ended.calls.len() as u64)?;
+    json::end(&mut text)?;
+    for call in &ended.calls {
+        json::begin(&mut text, time)?;
+        json::number(&mut text, "conn", number)?;
+        write_call(alloc, &mut text, methods, call)?;
+        json::end(&mut text)?;
+    }
+    Ok(text)
+}
+
+/// The members that tell a call.
+fn write_call(
+    alloc: Global,
+    text: &mut String,
+    methods: &Methods,
+    call: &CallReport,
+) -> Result<(), AllocError> {
+    json::number(text, "stream", u64::from(call.id))?;
+    json::string(alloc, text, "event", "report")?;
+    let path = match methods.get(call.method) {
+        Some(method) => method.path(),
+        None => "-",
+    };
+    let name = match path.rsplit_once('/') {
+        Some((_, name)) => name,
+        None => path,
+    };
+    json::string(alloc, text, "method", name)?;
+    json::number(text, "fed", call.fed)?;
+    match call.shut {
+        Some(Shut::End) => json::string(alloc, text, "half", "end")?,
+        Some(Shut::Reset(code)) => {
+            json::string(alloc, text, "half", "reset")?;
+            json::number(text, "half_code", u64::from(code))?;
+        }
+        None => json::string(alloc, text, "half", "open")?,
+    }
+    json::number(text, "in", call.messages)?;
+    json::number(text, "in_bytes", call.bytes)?;
+    json::number(text, "out", call.replies)?;
+    json::number(text, "out_bytes", call.reply_bytes)?;
+    json::number(text, "given", call.given)?;
+    json::number(text, "sent", call.sent)?;
+    json::string(alloc, text, "trailers", trailers_of(call))?;
+    match (call.told, call.status) {
+        (Some(Told::Reset(code)), _) => json::number(text, "code", u64::from(code)),
+        (_, Some(status)) => json::number(text, "status", u64::from(status)),
+        (_, None) => json::flag(text, "left", true),
+    }
+}
+
+/// How far the trailers of a call came.
+fn trailers_of(call: &CallReport) -> &'static str {
+    match (call.trailers_given, call.trailers_sent) {
+        (_, true) => "sent",
+        (true, false) => "given",
+        (false, false) => "none",
     }
 }

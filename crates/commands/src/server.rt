@@ -9,26 +9,32 @@ use crate::client::{PATIENCE, Target, run_all_cases};
 use crate::connecting::Place;
 use crate::listening::listen;
 use crate::log::Log;
-use crate::port::{Service, serve_apart, serve_port};
+use crate::port::{Reports, Service, serve_apart, serve_port};
 use crate::reporter::Reporter;
-use crate::stopping::Stop;
+use crate::stopping::{Connection, Stop};
+use crate::times::Times;
 use cases::{ReportFault, Windows};
+use connlog::json;
 use device::{ConnRead, ConnWrite, Marked};
 use handlers::Methods;
 use std::alloc::Global;
 use std::io::StdinLock;
-use std::net::{Net, TcpListener, TcpStream};
-use std::sync::{Arc, Mutex, Wait};
+use std::net::{Net, SocketAddr, TcpListener, TcpStream};
+use std::sync::{Arc, Wait};
 use std::thread::Threads;
-use std::time::Clock;
+use std::time::{Clock, Duration};
 use std::{io, thread};
-use words::{LOOPBACK, ServeWords};
+use words::{LOOPBACK, LogForm, ServeWords};
+
+/// How long standard input isn't read once it has said something, in milliseconds.
+const PAUSE: u64 = 100;
 
 /// Listens where the words say, says where that is, and serves `grpc.testing.TestService`: on all connections that come, by
 /// threads that take one after another, or on as many as the words say, each in a thread of its own. It fails where the port
-/// can't be had. It returns where the server has stopped: behind so many connections, or once standard input has ended, where
-/// the words say so.
-pub fn serve<R>(rt: R, methods: Arc<Methods>, words: ServeWords<'_>) -> io::Result<()>
+/// can't be had, and where the log can't be written, of which a line on standard error tells. It returns where the server has stopped:
+/// behind so many connections, or once standard input has ended, where the words say so. It answers whether no connection was left then;
+/// a line on standard error names each.
+pub fn serve<R>(rt: R, methods: Arc<Methods>, words: ServeWords<'_>) -> io::Result<bool>
 where
     R: Net<Stream = TcpStream, Listener = TcpListener> + Input<Reader = StdinLock<'static>>,
     R: Print + Eprint + AllocGlobal,
@@ -37,42 +43,90 @@ where
     let alloc = rt.alloc();
     let listener = listen(&rt, words.host, words.port)?;
     let address = listener.local_addr()?;
-    println!(rt; "listening {address}")?;
+    let times = words.log.map(|form| Times::begin(&rt, form, words.time));
+    say_listening(&rt, alloc, address, times)?;
     let stop = stop_of(rt, alloc, words)?;
-    let turn = Arc::new(alloc, Mutex::new(()))?;
-    let reporter = if words.has_report {
-        Some(Reporter::new(alloc, Arc::try_clone(&turn)?))
-    } else {
-        None
-    };
-    let Some(form) = words.log else {
+    let Some(times) = times else {
+        let reports = if words.has_report {
+            Reports::Printed(Reporter::new(alloc))
+        } else {
+            Reports::Nowhere
+        };
         let service: Service<Log> = Service {
             methods,
-            reporter,
+            reports,
             log: None,
             stop,
         };
-        return serve_port(rt, alloc, listener, service);
+        let left = serve_port(rt, alloc, listener, service)?;
+        return Ok(name_left(&rt, words.patience, left.as_slice()));
     };
-    let log = Arc::new(alloc, Log::new(alloc, form, turn))?;
+    let log = Arc::new(alloc, Log::new(alloc, times))?;
     let service = Service {
         methods,
-        reporter,
+        reports: if words.has_report {
+            Reports::Logged
+        } else {
+            Reports::Nowhere
+        },
         log: Some(Arc::try_clone(&log)?),
         stop,
     };
-    serve_logged(rt, alloc, listener, service, log)
+    let left = serve_logged(rt, alloc, listener, service, log)?;
+    Ok(name_left(&rt, words.patience, left.as_slice()))
+}
+
+/// Says where the server listens.
+fn say_listening(
+    rt: &(impl Print + Clock),
+    alloc: Global,
+    address: SocketAddr,
+    times: Option<Times>,
+) -> io::Result<()> {
+    match times {
+        Some(times) if times.form == LogForm::Json => {
+            let time = times.text(alloc, times.now(rt))?;
+            let time = time.as_ref().map_or("null", |time| time.as_str());
+            let mut text = String::new(alloc);
+            json::begin(&mut text, time)?;
+            json::string(alloc, &mut text, "event", "listening")?;
+            let address = format!(in alloc; "{address}")?;
+            json::string(alloc, &mut text, "address", address.as_str())?;
+            json::end(&mut text)?;
+            print!(rt; "{text}")
+        }
+        _ => println!(rt; "listening {address}"),
+    }
+}
+
+/// Names the connections that are left once a server has waited so many seconds. Whether there is none.
+fn name_left(rt: &impl Eprint, seconds: u16, left: &[Connection]) -> bool {
+    for connection in left {
+        let Connection { number, peer } = *connection;
+        let _ = eprintln!(rt;
+            "interop: connection {number} from {peer} had not ended {seconds} s after the drain began"
+        );
+    }
+    left.is_empty()
 }
 
 /// How a server of these words stops, if it does.
 fn stop_of<R>(rt: R, alloc: Global, words: ServeWords<'_>) -> io::Result<Option<Arc<Stop>>>
 where
-    R: Input<Reader = StdinLock<'static>> + Threads + Wait + Copy + Send + Sync + Drop + 'static,
+    R: Input<Reader = StdinLock<'static>>
+        + Threads
+        + Wait
+        + Clock
+        + Copy
+        + Send
+        + Sync
+        + Drop
+        + 'static,
 {
     if words.connections.is_none() && !words.drains_on_eof {
         return Ok(None);
     }
-    let stop = Arc::new(alloc, Stop::new(alloc, words.connections))?;
+    let stop = Arc::new(alloc, Stop::new(alloc, words.connections, words.patience))?;
     if words.drains_on_eof {
         let shared = Arc::try_clone(&stop)?;
         let _reading = thread::spawn(&rt, move || {
@@ -83,37 +137,51 @@ where
     Ok(Some(stop))
 }
 
-/// Reads standard input to its end. One that can't be read has ended.
-fn read_out<R: Input<Reader = StdinLock<'static>>>(rt: &R) {
+/// Reads standard input to its end. One that can't be read has ended. One that says something is read slowly, since nothing is made
+/// of it.
+fn read_out<R: Input<Reader = StdinLock<'static>> + Clock>(rt: &R) {
     let mut input = Marked::new(rt.reader());
-    let mut piece = [0u8; 512];
+    let mut piece = [0u8; 65_536];
     for _ in 0..u64::MAX {
         match input.read(&mut piece) {
             Ok(0) | Err(_) => return,
-            Ok(_) => {}
+            Ok(_) => {
+                let _ = thread::sleep(rt, Duration::from_millis(PAUSE));
+            }
         }
     }
 }
 
-/// Serves connections that come, while a thread of its own prints the lines of their log.
+/// Serves connections that come, while a thread of its own prints the lines of their log. Where one can't be written, the server stops.
 fn serve_logged<R>(
     rt: R,
     alloc: Global,
     listener: TcpListener,
     service: Service<Log>,
     log: Arc<Log>,
-) -> io::Result<()>
+) -> io::Result<Vec<Connection>>
 where
-    R: Print + Threads + Wait + Clock + Copy + Send + Sync + Drop + 'static,
+    R: Print + Eprint + Threads + Wait + Clock + Copy + Send + Sync + Drop + 'static,
 {
     let shared = Arc::try_clone(&log)?;
-    let printing = thread::spawn(&rt, move || {
-        shared.print_all(&rt, alloc);
+    let stop = match &service.stop {
+        Some(stop) => Some(Arc::try_clone(stop)?),
+        None => None,
+    };
+    let printing = thread::spawn(&rt, move || -> io::Result<()> {
+        let printed = shared.print_all(&rt, alloc);
+        if let Err(error) = &printed {
+            let _ = eprintln!(rt; "interop: the log can't be written: {error}");
+            if let Some(stop) = stop {
+                stop.begin(&rt);
+            }
+        }
+        printed
     })?;
-    let served = serve_port(rt, alloc, listener, service);
+    let left = serve_port(rt, alloc, listener, service)?;
     log.close();
-    let _printed = printing.join(&rt);
-    served
+    printing.join(&rt)?;
+    Ok(left)
 }
 
 /// Serves the port that is listened on in a thread of its own, runs the fourteen cases against it, prints a line of each,
@@ -137,7 +205,7 @@ where
     let alloc = rt.alloc();
     let service: Service<Log> = Service {
         methods,
-        reporter: None,
+        reports: Reports::Nowhere,
         log: None,
         stop: None,
     };

@@ -1,28 +1,48 @@
 //! How a server stops while its connections live: each is drained (RFC 9113, section 6.8).
 //!
 //! A connection has a thread of its own that waits for that, since a `Drainer` has the type of its connection: so no list can hold
-//! them, and the threads' signals stand in one.
+//! them, and the threads' signals stand in one. Where a client falls silent once its calls have ended, that thread ends what is read.
 
-ghost use Rattle.std.specs.Prelude.{◌≡◌, ◌+◌, ◌-◌, ◌<◌, ◌^◌, false, true, not, IfOk, OnOk, vec_len};
+ghost use Rattle.std.specs.Prelude.{◌≡◌, ◌+◌, ◌≤◌, false, true, not, IfOk, OnOk, vec_len};
 
+use crate::stream::Link;
 use connection::Drainer;
 use lane::Bell;
 use std::alloc::{AllocError, Global};
+use std::net::SocketAddr;
 use std::sync::atomic::{AtomicBool, Ordering};
 use std::sync::ledger::Ledger;
 use std::sync::{Arc, Mutex, Wait};
-use std::thread;
 use std::thread::{JoinHandle, Threads};
-use std::time::Duration;
+use std::time::{Clock, Duration, Instant};
+use std::{mem, thread};
 
 /// How long a thread sleeps at most before it looks again at what it waits for, in seconds.
 pub const LOOK: u64 = 3600;
+
+/// How long it is between two looks whether a connection that is drained has calls, in milliseconds.
+const STEP: u64 = 50;
+
+/// At how many looks nothing was written before it ends: so long has a client to acknowledge the warning, by which it is told its last
+/// call (RFC 9113, section 6.8).
+const GRACE: u32 = 10;
+
+/// A connection that was taken.
+#[derive(Clone, Copy, Debug, PartialEq, Eq)]
+pub struct Connection {
+    /// From 1 on, in the order in which they are taken.
+    pub number: u64,
+    /// Its client.
+    pub peer: SocketAddr,
+}
 
 /// A server that can stop.
 #[derive(Drop)]
 pub struct Stop {
     /// How many connections it takes before it stops by itself, if it does.
     pub connections: Option<u16>,
+    /// How long connections that are drained are waited for.
+    patience: Duration,
     state: Mutex<State>,
     /// Rung where the server stops, where a connection was drained, and where one has ended.
     changed: Bell,
@@ -31,8 +51,8 @@ pub struct Stop {
 #[derive(Drop)]
 struct State {
     is_stopping: bool,
-    /// How many connections live that were taken before it stops.
-    live: u64,
+    /// The connections that live, of those that were taken before it stops.
+    live: Vec<Connection>,
     /// Of those that weren't drained.
     signals: Vec<Arc<Signal>>,
 }
@@ -41,6 +61,8 @@ struct State {
 #[derive(Drop)]
 struct Signal {
     is_given: AtomicBool,
+    /// Whether the connection has ended.
+    is_over: AtomicBool,
     bell: Bell,
 }
 
@@ -53,12 +75,14 @@ pub struct Standby {
 
 impl Stop {
     /// A server that stops where it is told to, or once the last of so many connections has ended.
-    pub fn new(alloc: Global, connections: Option<u16>) -> Stop {
+    /// It waits so many seconds for connections that it drains.
+    pub fn new(alloc: Global, connections: Option<u16>, patience: u16) -> Stop {
         Stop {
             connections,
+            patience: Duration::from_secs(u64::from(patience)),
             state: Mutex::new(State {
                 is_stopping: false,
-                live: 0,
+                live: Vec::new(alloc),
                 signals: Vec::new(alloc),
             }),
             changed: Bell::new(),
@@ -67,13 +91,13 @@ impl Stop {
 
     /// A connection was taken. Whether the server waits for it: not where it stops already, else a client that connects again and
     /// again would hold it.
-    pub fn take(&self, rt: &impl Wait) -> bool {
-        self.state.lock(rt).take()
+    pub fn take(&self, rt: &impl Wait, connection: Connection) -> Result<bool, AllocError> {
+        self.state.lock(rt).take(connection)
     }
 
     /// A connection for which the server waits has ended, and was reported on.
-    pub fn let_go(&self, rt: &impl Wait) {
-        self.state.lock(rt).let_go();
+    pub fn let_go(&self, rt: &impl Wait, number: u64) {
+        self.state.lock(rt).let_go(number);
         self.changed.ring();
     }
 
@@ -91,14 +115,35 @@ impl Stop {
         }
     }
 
-    /// Waits until the server has stopped: no connection lives for which it waits.
-    pub fn wait(&self, rt: &impl Wait) {
+    /// Waits until the server has stopped: no connection lives for which it waits, or it has no more patience. Those that are left.
+    pub fn wait(&self, rt: &(impl Wait + Clock), alloc: Global) -> Vec<Connection> {
+        let mut began = None;
         for _ in rt.forever() {
             let mark = self.changed.mark();
-            if self.state.lock(rt).is_over() {
-                return;
+            let (is_stopping, is_over) = self.state.lock(rt).look();
+            if is_over {
+                return Vec::new(alloc);
             }
-            self.changed.wait_past(rt, mark, Duration::from_secs(LOOK));
+            if is_stopping && began.is_none() {
+                began = Instant::now(rt).ok();
+            }
+            let left = self.left(rt, began);
+            if left == Duration::ZERO {
+                return mem::replace(&mut self.state.lock(rt).live, Vec::new(alloc));
+            }
+            self.changed.wait_past(rt, mark, left);
+        }
+        unreachable!()
+    }
+
+    /// How long it still waits, where it has stopped then.
+    fn left(&self, rt: &impl Clock, began: Option<Instant>) -> Duration {
+        let Some(began) = began else {
+            return Duration::from_secs(LOOK);
+        };
+        match began.elapsed(rt) {
+            Ok(elapsed) => self.patience.saturating_sub(elapsed),
+            Err(_) => Duration::from_secs(LOOK),
         }
     }
 
@@ -120,6 +165,7 @@ pub fn stand_by<A, B, C, R>(
     alloc: Global,
     stop: &Arc<Stop>,
     drainer: Drainer<A, B, C>,
+    link: Arc<Link>,
 ) -> Result<Standby, AllocError>
 where
     A: Ledger + Send + Sync + 'static,
@@ -137,11 +183,12 @@ where
         theirs.wait(&rt);
         drainer.drain(&rt);
         stop.forget(&rt);
+        end_idle(&rt, &theirs, &drainer, &link);
     });
     match standing {
         Ok(thread) => Ok(Standby { signal, thread }),
         Err(refused) => {
-            signal.give();
+            signal.end();
             let drain_here = refused.value;
             drain_here();
             Err(AllocError)
@@ -149,11 +196,38 @@ where
     }
 }
 
+/// Behind a drain: has the connection end once no call is live, and nothing was written for a while, so that its client has had time to
+/// read it, and to acknowledge the warning. What comes of a client that says something ends it before.
+fn end_idle<A, B, C>(rt: &impl Wait, signal: &Signal, drainer: &Drainer<A, B, C>, link: &Link)
+where
+    A: Ledger,
+    B: Ledger,
+    C: Ledger,
+{
+    let mut quiet = 0u32;
+    let mut before = None;
+    for _ in rt.forever() {
+        let mark = signal.bell.mark();
+        if signal.is_over() {
+            return;
+        }
+        let writes = link.writes();
+        let is_quiet = writes.is_some() && writes == before && drainer.is_idle(rt);
+        quiet = if is_quiet { quiet.saturating_add(1) } else { 0 };
+        if quiet >= GRACE {
+            link.shut_reading();
+            return;
+        }
+        before = writes;
+        signal.bell.wait_past(rt, mark, Duration::from_millis(STEP));
+    }
+}
+
 impl Standby {
     /// The connection has ended: the thread drains it, which changes nothing now, and ends.
     pub fn end(self, rt: &impl Threads) {
         let Standby { signal, thread } = self;
-        signal.give();
+        signal.end();
         thread.join(rt);
     }
 }
@@ -162,6 +236,7 @@ impl Signal {
     fn new() -> Signal {
         Signal {
             is_given: AtomicBool::new(false),
+            is_over: AtomicBool::new(false),
             bell: Bell::new(),
         }
     }
@@ -169,6 +244,16 @@ impl Signal {
     fn give(&self) {
         self.is_given.store(true, Ordering::SeqCst);
         self.bell.ring();
+    }
+
+    /// The connection has ended.
+    fn end(&self) {
+        self.is_over.store(true, Ordering::SeqCst);
+        self.give();
+    }
+
+    fn is_over(&self) -> bool {
+        self.is_over.load(Ordering::SeqCst)
     }
 
     fn is_given(&self) -> bool {
@@ -188,25 +273,31 @@ impl Signal {
 }
 
 impl State {
-    fn take(&mut self) -> bool
-        ensures awaited { result ≡ not self.old.is_stopping }
-        ensures counted { result ≡ true → self.old.live < 2 ^ 64 - 1
-            → self.new.live ≡ self.old.live + 1 }
-        ensures uncounted { result ≡ false → self.new.live ≡ self.old.live }
+    fn take(&mut self, connection: Connection) -> Result<bool, AllocError>
+        ensures awaited { IfOk result (λ is_awaited. is_awaited ≡ not self.old.is_stopping) }
+        ensures counted { IfOk result (λ is_awaited. is_awaited ≡ true
+            → vec_len self.new.live ≡ vec_len self.old.live + 1) }
+        ensures uncounted { IfOk result (λ is_awaited. is_awaited ≡ false
+            → self.new.live ≡ self.old.live) }
         ensures same { self.new.is_stopping ≡ self.old.is_stopping }
     {
         if self.is_stopping {
-            return false;
+            return Ok(false);
         }
-        self.live = self.live.saturating_add(1);
-        true
+        self.live.push(connection)?;
+        Ok(true)
     }
 
-    fn let_go(&mut self)
-        ensures counted { 0 < self.old.live → self.new.live + 1 ≡ self.old.live }
+    fn let_go(&mut self, number: u64)
+        ensures fewer { vec_len self.new.live ≤ vec_len self.old.live }
         ensures same { self.new.is_stopping ≡ self.old.is_stopping }
     {
-        self.live = self.live.saturating_sub(1);
+        let place = self.live.iter().position(|it| it.number == number);
+        if let Some(place) = place {
+            if place < self.live.len() {
+                let _connection = self.live.swap_remove(place);
+            }
+        }
     }
 
     fn begin(&mut self)
@@ -219,12 +310,13 @@ impl State {
         }
     }
 
-    /// Whether the server has stopped, and no connection lives for which it waits.
-    fn is_over(&self) -> bool
-        ensures stopping { result ≡ true → self.now.is_stopping ≡ true }
-        ensures none { result ≡ true → self.now.live ≡ 0 }
+    /// Whether the server stops, and whether no connection lives any more for which it waits.
+    fn look(&self) -> (bool, bool)
+        ensures stopping { result.0 ≡ self.now.is_stopping }
+        ensures none { result.1 ≡ true → (self.now.is_stopping ≡ true)
+            × (vec_len self.now.live ≡ 0) }
     {
-        self.is_stopping && self.live == 0
+        (self.is_stopping, self.is_stopping && self.live.is_empty())
     }
 
     fn add(&mut self, signal: Arc<Signal>) -> Result<bool, AllocError>

@@ -9,19 +9,112 @@ use device::Marked;
 use h2frame::StreamId;
 use handlers::Methods;
 use std::alloc::{AllocError, Global};
-use std::io;
-use std::io::{Read, Write};
+use std::io::{ErrorKind, Read, Write};
 use std::marker::Brand;
 use std::net::{Shutdown, TcpStream};
+use std::sync::atomic::{AtomicBool, AtomicU64, Ordering};
 use std::sync::ledger::{Blank, Ledger};
 use std::sync::{Arc, Wait};
 use std::thread::Threads;
-use std::time::Clock;
+use std::time::{Clock, Duration, Instant};
+use std::{io, thread};
+
+/// How long a connection that was drained is read on at most, so that its client reads what was written, in milliseconds.
+const PARTING: u64 = 1_000;
+
+/// The same where it can't be seen whether its client has ended it.
+const PARTING_BLIND: u64 = 200;
+
+/// How long it is between two reads then.
+const STEP: u64 = 20;
 
 /// A connection to a port, and its gate: each call goes on at once. Who reads and who writes share its one descriptor.
 #[derive(Drop)]
-struct Link {
+pub struct Link {
     stream: TcpStream,
+    /// Whether its reading side was shut here.
+    is_shut: AtomicBool,
+    /// Whether a write goes on, and how many there were.
+    is_writing: AtomicBool,
+    writes: AtomicU64,
+}
+
+impl Link {
+    fn new(stream: TcpStream) -> Link {
+        Link {
+            stream,
+            is_shut: AtomicBool::new(false),
+            is_writing: AtomicBool::new(false),
+            writes: AtomicU64::new(0),
+        }
+    }
+
+    /// How many writes there were, where none goes on.
+    pub fn writes(&self) -> Option<u64> {
+        if self.is_writing.load(Ordering::SeqCst) {
+            None
+        } else {
+            Some(self.writes.load(Ordering::SeqCst))
+        }
+    }
+
+    /// Whoever reads it sees the end of the input. What is written goes on.
+    pub fn shut_reading(&self) {
+        self.is_shut.store(true, Ordering::SeqCst);
+        let _ = self.stream.shutdown(Shutdown::Read);
+    }
+
+    /// All was written to a connection that was drained: its client sees that.
+    pub fn finish(&self) {
+        // (once both sides were shut, what comes is answered by a reset)
+        if !self.is_shut.load(Ordering::SeqCst) {
+            let _ = self.stream.shutdown(Shutdown::Write);
+        }
+    }
+
+    /// A connection that was drained is read on for a moment: a client that still sends would else have a TCP reset, which takes from it
+    /// what it hasn't read.
+    // (kept out of its caller, whose frame is on the stack of each connection that lives)
+    #[inline(never)]
+    pub fn part(&self, rt: &impl Clock) {
+        let is_shut = self.is_shut.load(Ordering::SeqCst);
+        let most = if is_shut { PARTING_BLIND } else { PARTING };
+        let step = Duration::from_millis(STEP);
+        if self.stream.set_read_timeout(Some(step)).is_err() {
+            return;
+        }
+        let Ok(start) = Instant::now(rt) else {
+            return;
+        };
+        let mut piece = [0u8; 2_048];
+        for _ in 0..u64::MAX {
+            let is_over = match start.elapsed(rt) {
+                Ok(elapsed) => elapsed >= Duration::from_millis(most),
+                Err(_) => true,
+            };
+            if is_over {
+                return;
+            }
+            let mut stream = &self.stream;
+            match stream.read(&mut piece) {
+                Ok(0) if is_shut => {
+                    let _ = thread::sleep(rt, step);
+                }
+                Ok(0) => return,
+                Ok(_) => {}
+                Err(error) if is_silence(&error) => {}
+                Err(_) => return,
+            }
+        }
+    }
+}
+
+/// Whether nothing came in time.
+fn is_silence(error: &io::Error) -> bool {
+    matches!(
+        error.kind(),
+        ErrorKind::WouldBlock | ErrorKind::TimedOut | ErrorKind::Interrupted
+    )
 }
 
 impl Gate for Link {
@@ -45,7 +138,7 @@ struct LinkInput<R> {
     logged: Option<Logged>,
 }
 
-impl<R: Wait> Read for LinkInput<R> {
+impl<R: Wait + Clock> Read for LinkInput<R> {
     fn read(&mut self, buf: &mut [u8]) -> io::Result<usize> {
         let mut stream = &self.link.stream;
         let count = stream.read(buf)?;
@@ -64,10 +157,14 @@ struct LinkOutput<R> {
     logged: Option<Logged>,
 }
 
-impl<R: Wait> Write for LinkOutput<R> {
+impl<R: Wait + Clock> Write for LinkOutput<R> {
     fn write(&mut self, buf: &[u8]) -> io::Result<usize> {
         let mut stream = &self.link.stream;
-        let count = stream.write(buf)?;
+        self.link.is_writing.store(true, Ordering::SeqCst);
+        let written = stream.write(buf);
+        self.link.writes.fetch_add(1, Ordering::SeqCst);
+        self.link.is_writing.store(false, Ordering::SeqCst);
+        let count = written?;
         if let Some(logged) = &self.logged {
             logged.wrote(&self.rt, buf.get(..count).unwrap_or(b"".as_slice()));
         }
@@ -95,8 +192,8 @@ struct Ends<R> {
     gate: Arc<Link>,
 }
 
-/// Serves a connection to its end, shows it to its log where it has one, has it drained where the server stops, and gives its
-/// descriptor back. It fails where nothing was read of it.
+/// Serves a connection to its end, shows it to its log where it has one, and has it drained where the server stops. It answers its link
+/// too where it was drained, which is to finish and to part. It fails where nothing was read of it.
 pub fn serve_stream<R>(
     rt: R,
     alloc: Global,
@@ -104,7 +201,7 @@ pub fn serve_stream<R>(
     methods: &Arc<Methods>,
     logged: &Option<Logged>,
     stop: &Option<Arc<Stop>>,
-) -> io::Result<Ended>
+) -> io::Result<(Ended, Option<Arc<Link>>)>
 where
     R: Threads + Wait + Clock + Copy + Send + Sync + Drop + 'static,
 {
@@ -124,7 +221,7 @@ where
     let Served { ending, calls, .. } = serve_undrained(
         rt, alloc, &mut input, output, methods, gate,
     );
-    Ok(Ended { ending, calls })
+    Ok((Ended { ending, calls }, None))
 }
 
 /// The same, over these ledgers, until the server stops.
@@ -135,7 +232,7 @@ fn serve_until<A, B, C, R>(
     ends: Ends<R>,
     methods: Arc<Methods>,
     stop: &Arc<Stop>,
-) -> io::Result<Ended>
+) -> io::Result<(Ended, Option<Arc<Link>>)>
 where
     A: Ledger + Send + Sync + 'static,
     B: Ledger + Send + Sync + 'static,
@@ -146,7 +243,8 @@ where
     requires announced { (blanks.2.name ≡ C.name) × (blanks.2.parts ≡ C.parts) × (0 < C.parts) }
 {
     let (drainer, seat) = Drainer::<A, B, C>::new(alloc, blanks)?;
-    let standby = stand_by(rt, alloc, stop, drainer)?;
+    let link = Arc::try_clone(&ends.gate)?;
+    let standby = stand_by(rt, alloc, stop, drainer, Arc::try_clone(&link)?)?;
     let Ends {
         mut input,
         output,
@@ -156,7 +254,12 @@ where
         rt, alloc, &mut input, output, methods, gate, seat,
     );
     standby.end(&rt);
-    Ok(Ended { ending, calls })
+    let drained = if ending == Ending::Drained {
+        Some(link)
+    } else {
+        None
+    };
+    Ok((Ended { ending, calls }, drained))
 }
 
 /// Who reads a connection, who writes it, and its gate.
@@ -169,7 +272,7 @@ fn ends_of<R>(
 where
     R: Copy + Drop,
 {
-    let link = Arc::new(alloc, Link { stream })?;
+    let link = Arc::new(alloc, Link::new(stream))?;
     let output = Marked::new(LinkOutput {
         rt,
         link: Arc::try_clone(&link)?,

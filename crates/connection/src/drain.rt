@@ -62,4 +62,9 @@ impl<A: Ledger, B: Ledger, C: Ledger> Drainer<A, B, C> {
         self.shared.book.lock(rt).close();
         self.shared.writer.ring();
     }
+
+    /// Whether no call is live.
+    pub fn is_idle(&self, rt: &impl Wait) -> bool {
+        self.shared.book.lock(rt).live_id(0).is_none()
+    }
 }

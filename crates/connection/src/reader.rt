@@ -683,7 +683,7 @@ where
         let rt = self.rt;
         let padding = flow.saturating_sub(u32::try_from(bytes.len()).unwrap_or(u32::MAX));
         let receipt = intake.receive(&rt, id, flow, padding);
-        self.note_credit(receipt == Receipt::Discard);
+        self.note_credit(padding > 0 || receipt == Receipt::Discard);
         let decided = self.reading.data(id, bytes, receipt);
         self.act(decided)
     }

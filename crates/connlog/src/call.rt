@@ -4,14 +4,21 @@ ghost use Rattle.std.specs.Prelude.{◌≡◌, take, drop, codes, IfSome};
 ghost use Rattle.connlog.specs.Methods.{name_of};
 
 use crate::cause::{CallCause, Cause, HeadCause};
+use crate::malformed::{Malformed, fault_of_request};
 use crate::messages::Messages;
+use crate::text::escaped;
 use callhead::{first_value, read_timeout};
-use figures::shown;
 use lists::Field;
 use std::alloc::{AllocError, Global};
 
 /// What the paths of the methods begin with.
 const SERVICE: &[u8] = b"/grpc.testing.TestService/";
+
+/// How much memory for requests is kept between two of them, in bytes.
+const MOST_SPARE: usize = 4_096;
+
+/// The nanoseconds of a second.
+const SECOND: u128 = 1_000_000_000;
 
 /// A method of the test service.
 #[derive(Clone, Copy, Debug, PartialEq, Eq)]
@@ -96,6 +103,14 @@ pub struct Call {
     pub heard: u64,
     encoding: Option<String>,
     timeout: Option<String>,
+    /// How many seconds after its begin the call ends, if it does, rounded up; until a line says that they have passed.
+    pub deadline: Option<u64>,
+    /// At which tick it began.
+    begun: u64,
+    /// What came of a request that isn't whole.
+    kept: Vec<u8>,
+    /// What is wrong with the first request that is malformed.
+    malformed: Option<Malformed>,
 }
 
 impl Call {
@@ -104,7 +119,7 @@ impl Call {
         let path = first_value(fields, b":path").unwrap_or(b"".as_slice());
         let method = MethodName::of(path);
         let refusal = match head_fault(alloc, fields)? {
-            None if method.is_none() => Some(HeadCause::Path(shown(alloc, path)?)),
+            None if method.is_none() => Some(HeadCause::Path(escaped(alloc, path)?)),
             fault => fault,
         };
         let method = if refusal.is_some() { None } else { method };
@@ -112,13 +127,14 @@ impl Call {
             refusal,
             encoding: value_of(alloc, fields, b"grpc-encoding")?,
             timeout: value_of(alloc, fields, b"grpc-timeout")?,
-            ..Call::new(method, now)
+            deadline: deadline_of(fields),
+            ..Call::new(alloc, method, now)
         })
     }
 
     /// What the head of a call begins that says no more than its method.
-    pub fn plain(method: MethodName, now: u64) -> Call {
-        Call::new(Some(method), now)
+    pub fn plain(alloc: Global, method: MethodName, now: u64) -> Call {
+        Call::new(alloc, Some(method), now)
     }
 
     /// The method, where the head said no more.
@@ -129,7 +145,7 @@ impl Call {
         self.method
     }
 
-    fn new(method: Option<MethodName>, now: u64) -> Call {
+    fn new(alloc: Global, method: Option<MethodName>, now: u64) -> Call {
         Call {
             method,
             refusal: None,
@@ -142,7 +158,57 @@ impl Call {
             heard: now,
             encoding: None,
             timeout: None,
+            deadline: None,
+            begun: now,
+            kept: Vec::new(alloc),
+            malformed: None,
         }
+    }
+
+    /// The client sends these bytes of DATA. Each request is looked at once it is whole.
+    pub fn request(&mut self, alloc: Global, bytes: &[u8]) -> Result<(), AllocError> {
+        let mut rest = bytes;
+        for _ in 0..bytes.len() {
+            let count = self.requests.count;
+            let (content, behind) = self.requests.step(rest);
+            if self.malformed.is_none() {
+                self.kept.extend_from_slice(content)?;
+            }
+            if self.requests.count > count {
+                self.look(alloc)?;
+            }
+            if behind.is_empty() {
+                return Ok(());
+            }
+            rest = behind;
+        }
+        Ok(())
+    }
+
+    /// Looks at a request that is whole, unless one before it was malformed.
+    fn look(&mut self, alloc: Global) -> Result<(), AllocError> {
+        if let (Some(method), None) = (self.method, self.malformed) {
+            let count = self.requests.count;
+            self.malformed = fault_of_request(alloc, method, count, self.kept.as_slice())?;
+        }
+        if self.kept.capacity() > MOST_SPARE {
+            self.kept = Vec::new(alloc);
+        } else {
+            self.kept.clear();
+        }
+        Ok(())
+    }
+
+    /// Whether its deadline has passed by this tick, of which a line is due. It is told once.
+    pub fn has_passed(&mut self, now: u64) -> bool {
+        let Some(deadline) = self.deadline else {
+            return false;
+        };
+        let has_passed = now > self.begun.saturating_add(deadline);
+        if has_passed {
+            self.deadline = None;
+        }
+        has_passed
     }
 
     /// Why it ends, by its status's text. It is told once.
@@ -154,6 +220,7 @@ impl Call {
             "deadline exceeded" => CallCause::Deadline(self.timeout.take()?),
             "message cut at end" => CallCause::Cut(self.requests.cut()?),
             "wrong number of messages" => CallCause::Count(self.requests.count),
+            "malformed message" => CallCause::Malformed(self.malformed?),
             "bad flag"
             | "compressed without encoding"
             | "unsupported encoding"
@@ -170,7 +237,7 @@ impl Call {
 fn head_fault(alloc: Global, fields: &[Field]) -> Result<Option<HeadCause>, AllocError> {
     let method = first_value(fields, b":method").unwrap_or(b"".as_slice());
     if method != b"POST".as_slice() {
-        return Ok(Some(HeadCause::Method(shown(alloc, method)?)));
+        return Ok(Some(HeadCause::Method(escaped(alloc, method)?)));
     }
     let content_type = first_value(fields, b"content-type");
     let is_grpc = match content_type {
@@ -182,7 +249,7 @@ fn head_fault(alloc: Global, fields: &[Field]) -> Result<Option<HeadCause>, Allo
     }
     match first_value(fields, b"grpc-timeout") {
         Some(text) if read_timeout(text).is_none() => {
-            Ok(Some(HeadCause::Timeout(shown(alloc, text)?)))
+            Ok(Some(HeadCause::Timeout(escaped(alloc, text)?)))
         }
         _ => Ok(None),
     }
@@ -191,7 +258,13 @@ fn head_fault(alloc: Global, fields: &[Field]) -> Result<Option<HeadCause>, Allo
 /// The front of the value of the first field with this name.
 fn value_of(alloc: Global, fields: &[Field], name: &[u8]) -> Result<Option<String>, AllocError> {
     match first_value(fields, name) {
-        Some(value) => Ok(Some(shown(alloc, value)?)),
+        Some(value) => Ok(Some(escaped(alloc, value)?)),
         None => Ok(None),
     }
+}
+
+/// How many seconds the call may take, rounded up, if it says so.
+fn deadline_of(fields: &[Field]) -> Option<u64> {
+    let nanoseconds = read_timeout(first_value(fields, b"grpc-timeout")?)?;
+    u64::try_from(nanoseconds / SECOND).ok()?.checked_add(1)
 }

@@ -2,6 +2,7 @@
 //! that a client can break, with what it sent, and what else ends them.
 
 use crate::fields::FieldFault;
+use crate::malformed::Malformed;
 use crate::messages::{Cut, PrefixFault};
 use crate::place::Place;
 use figures::{ByteCount, FrameName, Grouped, KindName, byte_count, section_of, wanted_length};
@@ -114,6 +115,8 @@ pub enum CallCause {
     Count(u64),
     /// `grpc-timeout` has this value.
     Deadline(String),
+    /// A request isn't of its type.
+    Malformed(Malformed),
 }
 
 /// What the server ends streams for by its own bounds.
@@ -389,20 +392,20 @@ impl fmt::Display for HeadCause {
         let requests = "(gRPC over HTTP/2, Requests)";
         match self {
             HeadCause::Method(value) => {
-                write!(f, ":method is {value:?}, wanted \"POST\" {requests}")
+                write!(f, ":method is \"{value}\", wanted \"POST\" {requests}")
             }
             HeadCause::ContentType(Some(value)) => write!(
                 f,
-                "content-type is {value:?}, wanted \"application/grpc\" at its front {requests}"
+                "content-type is \"{value}\", wanted \"application/grpc\" at its front {requests}"
             ),
             HeadCause::ContentType(None) => {
                 write!(f, "no content-type, wanted \"application/grpc\" {requests}")
             }
             HeadCause::Timeout(value) => write!(
                 f,
-                "grpc-timeout is {value:?}, wanted 1 to 8 digits and a unit {requests}"
+                "grpc-timeout is \"{value}\", wanted 1 to 8 digits and a unit {requests}"
             ),
-            HeadCause::Path(value) => write!(f, ":path is {value:?}"),
+            HeadCause::Path(value) => write!(f, ":path is \"{value}\""),
         }
     }
 }
@@ -425,7 +428,10 @@ impl fmt::Display for CallCause {
                 )
             }
             CallCause::Prefix(PrefixFault::Compressed, Some(encoding)) => {
-                write!(f, "a message is compressed, grpc-encoding is {encoding:?}")
+                write!(
+                    f,
+                    "a message is compressed, grpc-encoding is \"{encoding}\""
+                )
             }
             CallCause::Prefix(PrefixFault::Compressed, None) => {
                 write!(f, "a message is compressed, and no grpc-encoding {rule}")
@@ -444,7 +450,8 @@ impl fmt::Display for CallCause {
                 let count = Grouped(*count);
                 write!(f, "{count} messages came, wanted 1")
             }
-            CallCause::Deadline(timeout) => write!(f, "grpc-timeout is {timeout:?}"),
+            CallCause::Malformed(malformed) => write!(f, "{malformed}"),
+            CallCause::Deadline(timeout) => write!(f, "grpc-timeout is \"{timeout}\""),
         }
     }
 }

@@ -6,6 +6,7 @@ use crate::fields::{request_fault, trailers_fault};
 use crate::line::Event;
 use crate::place::place_of;
 use crate::seen::{Seen, traffic_of};
+use crate::text::escaped;
 use crate::walk::{Part, fragment_of};
 use flow::{HalfVerdict, MAX_WINDOW};
 use h2frame::{ErrorCode, Flags, FrameFault, FrameHead, FrameKind, SettingId, StreamId};
@@ -27,7 +28,7 @@ impl Seen {
             Part::Data(head) => self.request_data(head),
             Part::Content(head, bytes, is_last) => {
                 if self.is_taken {
-                    self.request_content(&head, bytes, is_last);
+                    self.request_content(&head, bytes, is_last)?;
                 }
                 Ok(())
             }
@@ -68,6 +69,7 @@ impl Seen {
             FrameKind::RstStream => self.client_reset(&head, payload),
             FrameKind::WindowUpdate => self.client_credit(&head, payload),
             FrameKind::Settings => self.client_settings(&head, payload),
+            FrameKind::GoAway => self.client_goaway(payload),
             _ => Ok(()),
         }
     }
@@ -122,7 +124,7 @@ impl Seen {
         block: &[u8],
     ) -> Result<(), AllocError> {
         if let (HalfVerdict::Open, Some(method)) = (verdict, self.plain_requests.get(block)) {
-            return self.begin_call(head, Call::plain(method, self.now));
+            return self.begin_call(head, Call::plain(self.alloc, method, self.now));
         }
         let fields = match self.requests.block(block) {
             Ok(fields) => fields,
@@ -189,12 +191,14 @@ impl Seen {
     fn begin_call(&mut self, head: &FrameHead, call: Call) -> Result<(), AllocError> {
         let mut call = call;
         self.greatest = self.greatest.max(head.stream);
-        if call.method.is_some() {
-            self.begun = self.begun.saturating_add(1);
-        }
+        let method = call.method;
         call.has_end = head.flags.contains(Flags::END_STREAM);
         let _before = self.calls.insert(head.stream, call)?;
-        Ok(())
+        let Some(method) = method else {
+            return Ok(());
+        };
+        self.begun = self.begun.saturating_add(1);
+        self.tell(head.stream, Event::Opened(method), None)
     }
 
     fn client_trailers(&mut self, head: &FrameHead, fields: &[Field]) -> Result<(), AllocError> {
@@ -271,13 +275,20 @@ impl Seen {
     }
 
     /// Bytes of DATA for a call.
-    fn request_content(&mut self, head: &FrameHead, bytes: &[u8], is_last: bool) {
+    fn request_content(
+        &mut self,
+        head: &FrameHead,
+        bytes: &[u8],
+        is_last: bool,
+    ) -> Result<(), AllocError> {
+        let alloc = self.alloc;
         if let Some(call) = self.calls.get_mut(&head.stream) {
-            call.requests.feed(bytes);
+            call.request(alloc, bytes)?;
         }
         if is_last && head.flags.contains(Flags::END_STREAM) {
             self.end_half(head.stream);
         }
+        Ok(())
     }
 
     // ---- frames that carry numbers
@@ -302,6 +313,14 @@ impl Seen {
         }
         let event = Event::Cancelled(method, number(payload), traffic);
         self.tell(stream, event, None)
+    }
+
+    /// The client says that it begins no more calls.
+    fn client_goaway(&mut self, payload: &[u8]) -> Result<(), AllocError> {
+        let last = number(payload) & MAX_WINDOW;
+        let code = number(payload.get(4..).unwrap_or(b"".as_slice()));
+        let debug = escaped(self.alloc, payload.get(8..).unwrap_or(b"".as_slice()))?;
+        self.tell(0, Event::ClientGoAway { code, last, debug }, None)
     }
 
     fn client_credit(&mut self, head: &FrameHead, payload: &[u8]) -> Result<(), AllocError> {

@@ -5,8 +5,9 @@
 //! names it once the server acts on it. So where it errs a line names no cause or another, and the server goes on as it would.
 //!
 //! Read `walk`, the frames of one direction, and `messages`, those of a call's DATA; `cause`, each rule with its figures and its text;
-//! `fields` and `place`, which field and which byte of a header block it is; `call`, what is known of one; `tables` and `known`, blocks
-//! that were read before; `line`, what a line says; then `seen` with `client` and `server`, what the frames of both sides come to, and
+//! `fields` and `place`, which field and which byte of a header block it is; `malformed`, what
+//! is wrong with a message; `text`, bytes that are told; `call`, what is known of one; `tables` and `known`, blocks
+//! that were read before; `json`, objects; `line`, what a line says; then `seen` with `client` and `server`, what the frames of both sides come to, and
 //! `observer`.
 #![tactic(auto)]
 
@@ -14,14 +15,17 @@ mod call;
 mod cause;
 mod client;
 mod fields;
+pub mod json;
 mod known;
 mod line;
+mod malformed;
 mod messages;
 mod observer;
 mod place;
 mod seen;
 mod server;
 mod tables;
+mod text;
 mod walk;
 
 pub use line::{Ended, Line};

@@ -2,6 +2,7 @@
 
 use crate::call::MethodName;
 use crate::cause::Cause;
+use crate::json;
 use crate::messages::Messages;
 use figures::{ByteCount, ErrorName, Grouped};
 use h2frame::StreamId;
@@ -22,6 +23,8 @@ pub struct Line {
 pub enum Event {
     /// The connection of this peer was taken.
     Begun(String),
+    /// A call of this method begins.
+    Opened(MethodName),
     /// A call of this method has ended with this status.
     Answered(MethodName, Status, Traffic),
     /// A stream that is no call was answered.
@@ -32,8 +35,16 @@ pub enum Event {
     Reset(u32),
     /// The server ended the connection, with this error and this last stream.
     GoAway(u32, StreamId),
+    /// The client begins no more calls: the error, the last stream and the debug data of its GOAWAY.
+    ClientGoAway {
+        code: u32,
+        last: StreamId,
+        debug: String,
+    },
     /// Nothing came on the call, and nothing was sent on it, for so many seconds.
     Waits(MethodName, u64, Waiting),
+    /// The deadline of the call has passed while its replies wait for a window.
+    Overdue(MethodName, Waiting),
     /// The connection ended before the call.
     Left(MethodName, Traffic),
     /// The connection has ended so, with so many calls. It was followed to its end, or memory ran out before.
@@ -62,7 +73,7 @@ pub enum Status {
     /// A status of gRPC and its text.
     Grpc(u32, String),
     /// A status of HTTP alone.
-    Http(String),
+    Http(u32),
 }
 
 /// The messages of a call, both ways.
@@ -85,8 +96,15 @@ pub enum Waiting {
     Method,
 }
 
+impl Waiting {
+    /// Whether it is credit.
+    pub fn is_window(self) -> bool {
+        matches!(self, Waiting::Stream(_) | Waiting::Connection(_))
+    }
+}
+
 impl Ended {
-    fn text(self) -> &'static str {
+    pub fn text(self) -> &'static str {
         match self {
             Ended::Input => "input-ended",
             Ended::PeerGoaway => "goaway",
@@ -122,7 +140,10 @@ impl fmt::Display for Status {
 impl fmt::Display for Traffic {
     fn fmt<W: fmt::Write>(&self, f: &mut fmt::Formatter<W>) -> fmt::Result {
         let (came, took) = (Grouped(self.requests.count), ByteCount(self.requests.bytes));
-        let (went, gave) = (Grouped(self.replies.count), ByteCount(self.replies.bytes));
+        let (went, gave) = (
+            Grouped(self.replies.count),
+            ByteCount(self.replies.content()),
+        );
         write!(f, "in {came} of {took}, out {went} of {gave}")
     }
 }
@@ -139,8 +160,16 @@ impl fmt::Display for Waiting {
 }
 
 impl Line {
-    /// Writes it as a line of text.
-    pub fn write_text(&self, text: &mut String, connection: u64) -> Result<(), AllocError> {
+    /// Writes it as a line of text, behind its time where that is told.
+    pub fn write_text(
+        &self,
+        text: &mut String,
+        connection: u64,
+        time: Option<&str>,
+    ) -> Result<(), AllocError> {
+        if let Some(time) = time {
+            write!(text, "{time} ")?;
+        }
         write!(text, "conn {connection} ")?;
         write_event(text, self.stream, &self.event)?;
         if let Some(cause) = &self.why {
@@ -149,25 +178,25 @@ impl Line {
         writeln!(text)
     }
 
-    /// Writes it as a line with one object of JSON.
+    /// Writes it as a line with one object of JSON. Its time is a JSON value.
     pub fn write_json(
         &self,
         alloc: Global,
         text: &mut String,
         connection: u64,
+        time: &str,
     ) -> Result<(), AllocError> {
-        write!(text, "{{\"conn\":{connection}")?;
+        json::begin(text, time)?;
+        json::number(text, "conn", connection)?;
         if self.stream != 0 {
-            let stream = self.stream;
-            write!(text, ",\"stream\":{stream}")?;
+            json::number(text, "stream", u64::from(self.stream))?;
         }
         write_members(alloc, text, &self.event)?;
         if let Some(cause) = &self.why {
             let why = format!(in alloc; "{cause}")?;
-            let why = Quoted(why.as_str());
-            write!(text, ",\"why\":{why}")?;
+            json::string(alloc, text, "why", why.as_str())?;
         }
-        writeln!(text, "}}")
+        json::end(text)
     }
 }
 
@@ -175,6 +204,10 @@ impl Line {
 fn write_event(text: &mut String, stream: StreamId, event: &Event) -> Result<(), AllocError> {
     match event {
         Event::Begun(peer) => write!(text, "from {peer}"),
+        Event::Opened(method) => {
+            let method = method.text();
+            write!(text, "call {stream} {method} begins")
+        }
         Event::Answered(method, status, traffic) => {
             let method = method.text();
             write!(text, "call {stream} {method} {status}, {traffic}")
@@ -189,11 +222,25 @@ fn write_event(text: &mut String, stream: StreamId, event: &Event) -> Result<(),
         }
         Event::Reset(code) => {
             let error = ErrorName(*code);
-            write!(text, "stream {stream} RST {code} {error}")
+            write!(text, "stream {stream} reset by the server, {code} {error}")
         }
         Event::GoAway(code, _) => {
             let error = ErrorName(*code);
             write!(text, "GOAWAY {code} {error}")
+        }
+        Event::ClientGoAway { code, last, debug } => {
+            let error = ErrorName(*code);
+            write!(
+                text,
+                "GOAWAY of the client, {code} {error}, last stream {last}, debug data \"{debug}\""
+            )
+        }
+        Event::Overdue(method, waiting) => {
+            let method = method.text();
+            write!(
+                text,
+                "call {stream} {method}: its deadline has passed, and its replies wait: {waiting}"
+            )
         }
         Event::Waits(method, seconds, waiting) => {
             let method = method.text();
@@ -228,35 +275,48 @@ fn write_end(
 
 /// The members of an object that tell an event.
 fn write_members(alloc: Global, text: &mut String, event: &Event) -> Result<(), AllocError> {
+    json::string(alloc, text, "event", name_of(event))?;
     match event {
-        Event::Begun(peer) => write!(text, ",\"event\":\"begun\",\"peer\":\"{peer}\""),
+        Event::Begun(peer) => json::string(alloc, text, "peer", peer.as_str()),
+        Event::Opened(method) => write_method(alloc, text, *method),
         Event::Answered(method, status, traffic) => {
-            write_method(text, "call", *method)?;
-            write_status(text, status)?;
+            write_method(alloc, text, *method)?;
+            write_status(alloc, text, status)?;
             write_traffic(text, traffic)
         }
-        Event::Refused(status) => {
-            write!(text, ",\"event\":\"refused\"")?;
-            write_status(text, status)
-        }
+        Event::Refused(status) => write_status(alloc, text, status),
         Event::Cancelled(method, code, traffic) => {
-            write_method(text, "cancelled", *method)?;
-            write!(text, ",\"code\":{code}")?;
+            json::string(alloc, text, "by", "client")?;
+            write_method(alloc, text, *method)?;
+            json::number(text, "code", u64::from(*code))?;
             write_traffic(text, traffic)
         }
-        Event::Reset(code) => write!(text, ",\"event\":\"reset\",\"code\":{code}"),
+        Event::Reset(code) => {
+            json::string(alloc, text, "by", "server")?;
+            json::number(text, "code", u64::from(*code))
+        }
         Event::GoAway(code, last) => {
-            write!(
-                text,
-                ",\"event\":\"goaway\",\"code\":{code},\"last\":{last}"
-            )
+            json::string(alloc, text, "by", "server")?;
+            json::number(text, "code", u64::from(*code))?;
+            json::number(text, "last", u64::from(*last))
+        }
+        Event::ClientGoAway { code, last, debug } => {
+            json::string(alloc, text, "by", "client")?;
+            json::number(text, "code", u64::from(*code))?;
+            json::number(text, "last", u64::from(*last))?;
+            json::string(alloc, text, "debug", debug.as_str())
         }
         Event::Waits(method, seconds, waiting) => {
-            write_method(text, "waits", *method)?;
-            write_waiting(alloc, text, *seconds, *waiting)
+            write_method(alloc, text, *method)?;
+            json::number(text, "seconds", *seconds)?;
+            write_waiting(alloc, text, *waiting)
+        }
+        Event::Overdue(method, waiting) => {
+            write_method(alloc, text, *method)?;
+            write_waiting(alloc, text, *waiting)
         }
         Event::Left(method, traffic) => {
-            write_method(text, "left", *method)?;
+            write_method(alloc, text, *method)?;
             write_traffic(text, traffic)
         }
         Event::Ended {
@@ -264,73 +324,52 @@ fn write_members(alloc: Global, text: &mut String, event: &Event) -> Result<(), 
             calls,
             is_followed,
         } => {
-            let how = how.text();
-            write!(
-                text,
-                ",\"event\":\"ended\",\"how\":\"{how}\",\"calls\":{calls}"
-            )?;
-            write!(text, ",\"followed\":{is_followed}")
+            json::string(alloc, text, "how", how.text())?;
+            json::number(text, "calls", *calls)?;
+            json::flag(text, "followed", *is_followed)
         }
     }
 }
 
-fn write_waiting(
-    alloc: Global,
-    text: &mut String,
-    seconds: u64,
-    waiting: Waiting,
-) -> Result<(), AllocError> {
+/// The name of an event in an object.
+fn name_of(event: &Event) -> &'static str {
+    match event {
+        Event::Begun(_) => "begun",
+        Event::Opened(_) => "opened",
+        Event::Answered(..) => "call",
+        Event::Refused(_) => "refused",
+        Event::Cancelled(..) | Event::Reset(_) => "reset",
+        Event::GoAway(..) | Event::ClientGoAway { .. } => "goaway",
+        Event::Waits(..) => "waits",
+        Event::Overdue(..) => "overdue",
+        Event::Left(..) => "left",
+        Event::Ended { .. } => "ended",
+    }
+}
+
+fn write_waiting(alloc: Global, text: &mut String, waiting: Waiting) -> Result<(), AllocError> {
     let waiting = format!(in alloc; "{waiting}")?;
-    let waiting = Quoted(waiting.as_str());
-    write!(text, ",\"seconds\":{seconds},\"for\":{waiting}")
+    json::string(alloc, text, "for", waiting.as_str())
 }
 
-fn write_method(text: &mut String, event: &str, method: MethodName) -> Result<(), AllocError> {
-    let method = method.text();
-    write!(text, ",\"event\":\"{event}\",\"method\":\"{method}\"")
+fn write_method(alloc: Global, text: &mut String, method: MethodName) -> Result<(), AllocError> {
+    json::string(alloc, text, "method", method.text())
 }
 
-fn write_status(text: &mut String, status: &Status) -> Result<(), AllocError> {
+fn write_status(alloc: Global, text: &mut String, status: &Status) -> Result<(), AllocError> {
     match status {
         Status::Grpc(code, message) => {
-            let message = Quoted(message.as_str());
-            write!(text, ",\"status\":{code},\"message\":{message}")
+            json::number(text, "status", u64::from(*code))?;
+            json::string(alloc, text, "message", message.as_str())
         }
-        Status::Http(status) => {
-            let status = Quoted(status.as_str());
-            write!(text, ",\"http\":{status}")
-        }
+        Status::Http(status) => json::number(text, "http", u64::from(*status)),
     }
 }
 
 fn write_traffic(text: &mut String, traffic: &Traffic) -> Result<(), AllocError> {
     let Traffic { requests, replies } = traffic;
-    let (came, took) = (requests.count, requests.bytes);
-    let (went, gave) = (replies.count, replies.bytes);
-    write!(
-        text,
-        ",\"in\":{came},\"in_bytes\":{took},\"out\":{went},\"out_bytes\":{gave}"
-    )
-}
-
-/// A text as a string of JSON (RFC 8259, section 7).
-#[derive(Clone, Copy)]
-struct Quoted<'a>(&'a str);
-
-impl<'a> fmt::Display for Quoted<'a> {
-    fn fmt<W: fmt::Write>(&self, f: &mut fmt::Formatter<W>) -> fmt::Result {
-        write!(f, "\"")?;
-        for letter in self.0.chars() {
-            match letter {
-                '"' => write!(f, "\\\"")?,
-                '\\' => write!(f, "\\\\")?,
-                '\0'..='\x1f' => {
-                    let code = u32::from(letter);
-                    write!(f, "\\u{code:04x}")?;
-                }
-                _ => write!(f, "{letter}")?,
-            }
-        }
-        write!(f, "\"")
-    }
+    json::number(text, "in", requests.count)?;
+    json::number(text, "in_bytes", requests.bytes)?;
+    json::number(text, "out", replies.count)?;
+    json::number(text, "out_bytes", replies.content())
 }

@@ -59,21 +59,36 @@ impl Messages {
     pub fn feed(&mut self, bytes: &[u8]) {
         let mut rest = bytes;
         for _ in 0..bytes.len() {
-            let Some((first, behind)) = rest.split_first() else {
-                return;
-            };
-            if self.fault.is_some() {
+            let (_content, behind) = self.step(rest);
+            if behind.is_empty() {
                 return;
             }
-            if self.left > 0 {
-                let count = rest.len().min(self.left as usize);
-                self.take(count as u32);
-                rest = &rest[count..];
-            } else {
-                self.prefix(*first);
-                rest = behind;
-            }
+            rest = behind;
         }
+    }
+
+    /// Takes a byte of a prefix off the front of bytes that come, or what they have of a message, and answers the latter, and what is
+    /// behind. Behind a fault that is nothing.
+    pub fn step<'a>(&mut self, bytes: &'a [u8]) -> (&'a [u8], &'a [u8]) {
+        let none = b"".as_slice();
+        let Some((first, behind)) = bytes.split_first() else {
+            return (none, none);
+        };
+        if self.fault.is_some() {
+            return (none, none);
+        }
+        if self.left == 0 {
+            self.prefix(*first);
+            return (none, behind);
+        }
+        let count = bytes.len().min(self.left as usize);
+        self.take(count as u32);
+        bytes.split_at(count)
+    }
+
+    /// Their bytes without those of prefixes.
+    pub fn content(&self) -> u64 {
+        self.bytes.saturating_sub(self.count.saturating_mul(5))
     }
 
     /// So many bytes of a message come.

@@ -272,11 +272,21 @@ impl Seen {
     /// A second has gone by: a line of each call that has waited for so many.
     pub fn tick(&mut self) -> Result<(), AllocError> {
         self.now = self.now.saturating_add(1);
-        for (stream, call) in self.calls.iter() {
+        for (stream, call) in self.calls.iter_mut() {
             let waited = self.now.saturating_sub(call.heard);
             let Some(method) = call.method else {
                 continue;
             };
+            if !call.is_answered && call.has_passed(self.now) {
+                let waiting = waiting_of(call, method, self.sends, self.initial);
+                if waiting.is_window() {
+                    self.lines.push(Line {
+                        stream: *stream,
+                        event: Event::Overdue(method, waiting),
+                        why: None,
+                    })?;
+                }
+            }
             if call.is_answered || waited != PATIENCE + 1 {
                 continue;
             }

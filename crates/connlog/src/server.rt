@@ -6,7 +6,6 @@ use crate::seen::Seen;
 use crate::tables::keeps_tables;
 use crate::walk::Part;
 use callhead::{first_value, read_status};
-use figures::shown;
 use flow::{HalfVerdict, MAX_WINDOW};
 use h2frame::{ErrorCode, Flags, FrameHead, FrameKind};
 use lists::Field;
@@ -135,6 +134,14 @@ fn status_of(alloc: Global, fields: &[Field]) -> Result<Status, AllocError> {
     if let Some((code, text)) = read_status(alloc, fields)? {
         return Ok(Status::Grpc(code, text));
     }
-    let status = first_value(fields, b":status").unwrap_or(b"".as_slice());
-    Ok(Status::Http(shown(alloc, status)?))
+    Ok(Status::Http(http_status(first_value(fields, b":status").unwrap_or(b"".as_slice()))))
+}
+
+/// The number that is written in these digits.
+fn http_status(digits: &[u8]) -> u32 {
+    digits.iter().fold(0u32, |number, digit| {
+        number
+            .saturating_mul(10)
+            .saturating_add(u32::from(digit.saturating_sub(b'0')))
+    })
 }

@@ -20,7 +20,10 @@
 ghost use Rattle.std.specs.Prelude.{◌<◌};
 ghost use Rattle.words.specs.Words.{IsInRange};
 
+mod help;
 mod misbehaving;
+mod range;
+mod signed;
 
 use commands::{
     CaseWords, Reason, RunFault, ServeWords, Verdict, WireFault, WireWords, Words, WordsFault,
@@ -41,7 +44,7 @@ use std::sync::{Arc, Wait};
 use std::thread::Threads;
 use std::time::Clock;
 use std::{env, io};
-use words::{COMMANDS, LOOPBACK, Port};
+use words::{LOOPBACK, Port};
 
 const CASE_FAILED: u8 = 1;
 
@@ -54,100 +57,12 @@ const NO_WIRE_CASE: &str = "there is no such wire case: all, a group (start, con
 
 const VERSION: &str = "interop 0.1.0";
 
-const HELP: &str = "\
-The gRPC interop test server's program.
-
-Usage: interop [body --cut N]
-       interop case NAME --port P [--host H] [--times N] [--streams K] [--timeout S]
-                    [--soak_iterations N ..]
-       interop case --list
-       interop drain [--port P]
-       interop misbehave (NAME --port P [--host H] [--timeout S] | --list [--verbose])
-       interop parts
-       interop self [--port P]
-       interop serve (--port P | --any-port) [--host H] [--conns N] [--report]
-                     [--log [text | json]] [--drain-on-eof]
-       interop wire (all | GROUP | GROUP/N) --port P [--host H] [--silence S] [--timeout T]
-                    [--jobs N] [--verbose] [--json FILE]
-       interop wire --list
-
-  body --cut N   read the joined DATA bytes of one call as hexadecimal text, in pieces
-                 of N bytes (1 to 65536), and print its messages; this with N = 3 is
-                 what no words at all mean
-  case NAME      run the test case of this name as a client against the server at port P of
-                 H (127.0.0.1 if no host is given), or the fourteen where NAME is all, and
-                 print a line of each; what differed is told on standard error. A case may take
-                 S seconds (10 if not given). With --times each is run N times, and its line
-                 tells how many of the runs passed; with --streams K runs go at a time, each over
-                 a connection of its own, whose windows aren't held back, and a line tells within
-                 which times 50 and 99 of 100 ended. The flags of gRPC's own clients do too:
-                 --test_case=NAME --server_host=H --server_port=P --use_tls=false, and of rpc_soak
-                 and channel_soak --soak_iterations, --soak_max_failures,
-                 --soak_per_iteration_max_acceptable_latency_ms, --soak_overall_timeout_seconds,
-                 --soak_min_time_ms_between_rpcs, --soak_request_size, --soak_response_size;
-                 --list prints the names
-  drain          serve on port P of 127.0.0.1 (50051 if none is given), run ping_pong against this
-                 server, drain the server behind the first reply, and print the GOAWAYs that
-                 came (last stream and error) and a line of the case
-  misbehave NAME misbehave as a server on port P of H (127.0.0.1 if no host is given) in the way of
-                 this name, or in all ways, each on the next port, where NAME is all. It says first
-                 what the client is to do, then what it did, and whether that is ok, failed, with
-                 the sentence that forbids it, or not tested. It ends when the client has gone, or
-                 after S seconds (30 if not given); --list prints the names, with --verbose what
-                 each does
-  parts          read the bytes of a connection as hexadecimal text, serve it, and print what
-                 it is answered with, stream by stream, and how it ended
-  self           serve on port P of 127.0.0.1 (50051 if none is given), run all test cases
-                 against this server, and print a line of each
-  serve          serve grpc.testing.TestService on port P of H (127.0.0.1 if no host is given),
-                 or on a port that the system chooses, until it is interrupted, or N connections
-                 were served; the line listening HOST:PORT tells where; with --report print a
-                 line of each connection that ends, and of each call on it; with --log print at
-                 once what happens, and why: a line as each call, stream and connection ends, and
-                 where a call waits; with --log json an object of JSON for each. With
-                 --drain-on-eof it ends once standard input has: calls that began are answered,
-                 others refused, and so where the last of N connections has ended
-  wire           send the server at port P of H what no real client would, judge what it answers
-                 by RFC 9113, RFC 7541 and gRPC, and print a line of each case: of all, of a
-                 group (start, conn, hpack, stream, flow, control, grpc), or of one, as grpc/4.
-                 N cases (8 if not given) go at a time, each over connections of its own. Silence of
-                 S milliseconds (1000 if not given) ends a case, and so do T seconds (10 if not
-                 given). What fails is tried twice again: unsteady is a case that passed in one of
-                 the tries, and not applicable one that the server's SETTINGS leave no room for.
-                 --verbose tells what was sent and read; --json writes the outcomes to FILE, and
-                 what a failed case sent to FILE.GROUP-N.hex, which parts takes; --list prints all
-                 cases
-  -h, --help     print this text, also behind a command
-  --version      print the version
-
-H is an IPv4 or IPv6 address, or a name. Options come in any order, as --port P or --port=P.
-
-The cases that case all runs, in their order: empty_unary, large_unary,
-client_streaming, server_streaming, ping_pong, empty_stream, custom_metadata,
-status_code_and_message, special_status_message, unimplemented_method,
-unimplemented_service, cancel_after_begin, cancel_after_first_response,
-timeout_on_sleeping_server. By their names alone: cacheable_unary, rpc_soak, channel_soak.
-
-Exit status: 0 done, 1 a case failed (of wire one of level must) or a client, 2 bad arguments or input,
-3 input, output, memory or the port failed; why a port can't be had, and which argument is bad,
-is told on standard error.";
-
-// What is said to words that ask about the program itself: one of them alone, or the one for help behind a command.
-fn self_description(words: &[String]) -> Option<&'static str> {
+// Says what these words ask about the program itself, if they do.
+fn describe(rt: &impl Print, words: &[String]) -> Option<io::Result<()>> {
     match words {
-        [word] if word.as_str() == "--version" => Some(VERSION),
-        [word] if is_help(word.as_str()) => Some(HELP),
-        [command, word] if is_command(command.as_str()) && is_help(word.as_str()) => Some(HELP),
-        _ => None,
+        [word] if word.as_str() == "--version" => Some(println!(rt; "{VERSION}")),
+        _ => Some(help::Help::asked(words)?.print(rt)),
     }
-}
-
-fn is_help(word: &str) -> bool {
-    matches!(word, "-h" | "--help")
-}
-
-fn is_command(word: &str) -> bool {
-    COMMANDS.iter().any(|command| *command == word)
 }
 
 // Reports on standard output on the call in standard input, and answers the exit status.
@@ -240,7 +155,8 @@ where
     R: Threads + Wait + Clock + Copy + Send + Sync + Drop + 'static,
 {
     match serve(rt, methods, words) {
-        Ok(()) => 0,
+        Ok(true) => 0,
+        Ok(false) => CASE_FAILED,
         Err(_) => FAILED,
     }
 }
@@ -315,11 +231,14 @@ where
     R: Threads + Wait + Clock + Copy + Send + Sync + Drop + 'static,
     R: Files,
 {
-    if let Some(text) = self_description(words) {
-        return match println!(rt; "{text}") {
+    if let Some(said) = describe(rt, words) {
+        return match said {
             Ok(()) => 0,
             Err(_) => FAILED,
         };
+    }
+    if let Some(reason) = signed::signed_port(words) {
+        return explain(rt, reason);
     }
     match read_words(rt.alloc(), words) {
         Ok(words) => obey_words(rt, words).unwrap_or(FAILED),

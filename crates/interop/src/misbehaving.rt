@@ -1,5 +1,6 @@
 //! The command `misbehave`: a server that misbehaves, for authors of clients (the crate `misbehave`).
 
+use crate::range::port_past_the_last;
 use crate::{CASE_FAILED, FAILED, complain};
 use device::Marked;
 use misbehave::{Place, RunFault};
@@ -14,6 +15,11 @@ where
     R: Net + Print + Eprint + AllocGlobal + Clock + Copy + Drop,
 {
     let alloc = rt.alloc();
+    if let Ok(Some(last)) = port_past_the_last(alloc, words) {
+        let status = complain(&rt, "bad arguments");
+        let _ = eprintln!(rt; "interop: all needs ports up to {last}, and the last is 65535");
+        return status;
+    }
     let mut output = Marked::new(io::writer(&rt));
     let answer = match words {
         MisbehaveWords::List { is_verbose } => misbehave::list(alloc, is_verbose, &mut output).map(

@@ -9,7 +9,7 @@ use Rattle.words.specs.Body.{body_command, cut_of}
 use Rattle.words.specs.Case.{IsTrial, Trial, case_command, trial, trial_of}
 use Rattle.words.specs.Misbehave.{IsPlayable, Misbehaving, misbehave_command, misbehaving, misbehaving_of}
 use Rattle.words.specs.OwnServer.{own_command, own_port_of}
-use Rattle.words.specs.Serve.{Serving, IsPort, serve_command, serving, serving_of}
+use Rattle.words.specs.Serve.{Serving, IsServing, serve_command, serving, serving_of}
 use Rattle.words.specs.Wire.{Told, told, told_of, wire_command}
 use Rattle.words.specs.Wire as wire
 use Rattle.words.specs.declared.read.Words.{Words}
@@ -92,7 +92,7 @@ meaning_of (word ∷ words) = command_meant (word ∷ words)
 abbrev pub IsInRange : Words → Type 0
 IsInRange (words.Body cut) = (1 ≤ cut) × (cut ≤ 65536)
 IsInRange words.Parts = ⊤
-IsInRange (words.Serve told) = IsPort told.port
+IsInRange (words.Serve told) = IsServing told
 IsInRange (words.Case told) = IsTrial told
 IsInRange (words.SelfTest port) = 1 ≤ port
 IsInRange (words.Drain port) = 1 ≤ port

@@ -29,7 +29,9 @@ pub any_port : meaning_of (codes "serve" ∷ codes "--any-port" ∷ codes "--hos
   connections = None;
   has_report = false;
   log = None;
+  time = None;
   drains_on_eof = false;
+  patience = 10;
 }))
 unfolding clap_on_literals command_meant
 any_port = refl
@@ -40,7 +42,9 @@ pub bare_log : meaning_of (codes "serve" ∷ codes "--log" ∷ codes "--port" �
   connections = None;
   has_report = false;
   log = Some Plain;
+  time = None;
   drains_on_eof = false;
+  patience = 10;
 }))
 unfolding clap_on_literals command_meant
 bare_log = refl
@@ -51,7 +55,9 @@ pub log_of_objects : meaning_of (codes "serve" ∷ codes "--any-port" ∷ codes 
   connections = None;
   has_report = false;
   log = Some Json;
+  time = None;
   drains_on_eof = false;
+  patience = 10;
 }))
 unfolding clap_on_literals command_meant
 log_of_objects = refl
@@ -66,7 +72,9 @@ pub drained_at_the_end : meaning_of (codes "serve" ∷ codes "--drain-on-eof" �
   connections = None;
   has_report = false;
   log = None;
+  time = None;
   drains_on_eof = true;
+  patience = 10;
 }))
 unfolding clap_on_literals command_meant
 drained_at_the_end = refl

@@ -26,5 +26,5 @@ pub use misbehave::MisbehaveWords;
 pub use options::LOOPBACK;
 pub use read::{COMMANDS, Words, WordsFault, read_words};
 pub use reason::Reason;
-pub use serve::{LogForm, Port, ServeWords};
+pub use serve::{LogForm, Port, ServeWords, TimeForm};
 pub use wire::{WireRun, WireWords};

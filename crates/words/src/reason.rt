@@ -4,7 +4,7 @@
 //! of them that the command does not take; where each is taken, something is missing, or two things exclude each other.
 
 use crate::read::{COMMANDS, command_line};
-use crate::serve::form_of;
+use crate::serve::{form_of, time_form_of};
 use crate::{body, case, misbehave, own_server, serve, wire};
 use clap::builder::ValueParser;
 use clap::{Arg, ArgAction, Command};
@@ -202,6 +202,7 @@ impl<'c, 'a> Given<'c, 'a> {
             },
             _ => match self.arg.get_id() {
                 "log" => form_of(value).is_some(),
+                "time" => time_form_of(value).is_some(),
                 "use_tls" => value == "false",
                 _ => true,
             },

@@ -1,10 +1,10 @@
-//! `serve --port P`, or `serve --any-port`, with `--host H`, `--conns N`, `--report`, `--log`, or `--log json`, and
-//! `--drain-on-eof`.
+//! `serve --port P`, or `serve --any-port`, with `--host H`, `--conns N`, `--report`, `--log`, or `--log json`, `--time T`,
+//! `--drain-on-eof` and `--drain-timeout S`.
 
 ghost use Rattle.std.specs.Prelude.{◌≡◌, ◌≤◌, false, IfOk, IfSome, option_map};
 ghost use Rattle.clap.specs.Words.{app_of, found_of, rows_of};
 ghost use Rattle.words.specs.Options.{IsCommand, IsOption};
-ghost use Rattle.words.specs.Serve.{IsPort, form_of, host_option, log_of, log_option, port_of, serve_command, serving, serving_of};
+ghost use Rattle.words.specs.Serve.{IsPort, IsServing, form_of, host_option, log_of, log_option, patience_option, port_of, serve_command, serving, serving_of, time_form_of, time_of, time_option};
 
 use crate::options::{
     LOOPBACK, flag, has_flag, number_option, small_number_of, text_of, text_option,
@@ -30,6 +30,15 @@ pub enum LogForm {
     Json,
 }
 
+/// How a log says when something happened.
+#[derive(Clone, Copy, Debug, PartialEq, Eq)]
+pub enum TimeForm {
+    /// In seconds since the server began.
+    Seconds,
+    /// By the clock, as RFC 3339 has it, in UTC.
+    Utc,
+}
+
 /// What `serve` is told.
 #[derive(Clone, Copy, Debug, PartialEq, Eq)]
 pub struct ServeWords<'a> {
@@ -42,13 +51,17 @@ pub struct ServeWords<'a> {
     pub has_report: bool,
     /// How it tells what happens, as it does, if it does.
     pub log: Option<LogForm>,
+    /// How the log says when, where that is told.
+    pub time: Option<TimeForm>,
     /// Whether it drains its connections, and ends, where standard input closes.
     pub drains_on_eof: bool,
+    /// How many seconds it waits at most for connections that it drains.
+    pub patience: u16,
 }
 
 /// The words that it takes.
-pub(crate) const TAKES: &str =
-    "--port P or --any-port, --host H, --conns N, --report, --log [text|json], --drain-on-eof";
+pub(crate) const TAKES: &str = "--port P or --any-port, --host H, --conns N, --report, \
+    --log [text|json], --time seconds|utc, --drain-on-eof, --drain-timeout S";
 
 // `--host H`.
 fn host_option<'a>(alloc: Global) -> Arg<'a>
@@ -66,6 +79,20 @@ fn log_option<'a>(alloc: Global) -> Arg<'a>
         .default_missing_value("text")
 }
 
+// `--time seconds` and `--time utc`.
+fn time_option<'a>(alloc: Global) -> Arg<'a>
+    ensures { IsOption time_option result }
+{
+    text_option(alloc, "time", "seconds or utc")
+}
+
+// `--drain-timeout S`.
+fn patience_option<'a>(alloc: Global) -> Arg<'a>
+    ensures { IsOption patience_option result }
+{
+    number_option(alloc, "drain-timeout", "seconds, 1 to 65535").default_value("10")
+}
+
 pub(crate) fn serve_command<'a>(alloc: Global) -> Result<Command<'a>, AllocError>
     ensures { IfOk result (IsCommand serve_command) }
 {
@@ -81,7 +108,9 @@ pub(crate) fn serve_command<'a>(alloc: Global) -> Result<Command<'a>, AllocError
         .arg(connections)?
         .arg(report)?
         .arg(log_option(alloc))?
-        .arg(drains)
+        .arg(time_option(alloc))?
+        .arg(drains)?
+        .arg(patience_option(alloc))
 }
 
 // The port that is given, or any: one of the two has to be said, and not both.
@@ -117,19 +146,44 @@ fn log_of(options: &ArgMatches<'_>) -> Option<Option<LogForm>>
     }
 }
 
+// The form of times of a name.
+pub(crate) fn time_form_of(name: &str) -> Option<TimeForm>
+    ensures { result ≡ time_form_of name.now }
+{
+    match name {
+        "seconds" => Some(TimeForm::Seconds),
+        "utc" => Some(TimeForm::Utc),
+        _ => None,
+    }
+}
+
+// The form of the log's times, if one is given; nothing where its name is no form's.
+fn time_of(options: &ArgMatches<'_>) -> Option<Option<TimeForm>>
+    ensures { result ≡ time_of (rows_of (found_of options.now)) }
+{
+    match text_of(options, "time") {
+        Some(name) => Some(Some(time_form_of(name)?)),
+        None => Some(None),
+    }
+}
+
 pub(crate) fn serving_of<'a>(options: &ArgMatches<'a>) -> Option<ServeWords<'a>>
     ensures value { option_map serving result ≡ serving_of (rows_of (found_of options.now)) }
-    ensures within { IfSome result (λ told. IsPort told.port) }
+    ensures within { IfSome result IsServing }
 {
     let port = port_of(options)?;
     let host = text_of(options, "host")?;
     let log = log_of(options)?;
+    let time = time_of(options)?;
+    let patience = small_number_of(options, "drain-timeout")?;
     Some(ServeWords {
         host,
         port,
         connections: small_number_of(options, "conns"),
         has_report: has_flag(options, "report"),
         log,
+        time,
         drains_on_eof: has_flag(options, "drain-on-eof"),
+        patience,
     })
 }

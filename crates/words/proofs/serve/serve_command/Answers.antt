@@ -11,5 +11,7 @@ returns c =
     let connections = with_option _ _ _ _ _ c.in_ok-arg-4.ensures host (is_option c.number_option-connections.result _ c.number_option-connections.ensures.rule c.number_option-connections.ensures.local) in
     let report = with_option _ _ _ _ _ c.in_ok-arg-5.ensures connections (is_option c.flag-report.result _ c.flag-report.ensures.rule c.flag-report.ensures.local) in
     let log = with_option _ _ _ _ _ c.in_ok-arg-6.ensures report c.log_option.ensures in
-    IfOk-weaker c.arg-7.result _ _ (λ command added.
-    with_option _ _ _ _ _ added log (is_option c.flag-drains.result _ c.flag-drains.ensures.rule c.flag-drains.ensures.local)) c.arg-7.ensures
+    let time = with_option _ _ _ _ _ c.in_ok-arg-7.ensures log c.time_option.ensures in
+    let drains = with_option _ _ _ _ _ c.in_ok-arg-8.ensures time (is_option c.flag-drains.result _ c.flag-drains.ensures.rule c.flag-drains.ensures.local) in
+    IfOk-weaker c.arg-9.result _ _ (λ command added.
+    with_option _ _ _ _ _ added drains c.patience_option.ensures) c.arg-9.ensures

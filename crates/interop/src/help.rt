@@ -1,0 +1,185 @@
+//! What the program says of itself: of all that it does, or of one command.
+
+use std::io;
+
+/// A command, as it is told.
+#[derive(Clone, Copy)]
+pub struct Command {
+    name: &'static str,
+    /// How it is called.
+    usage: &'static str,
+    /// What it does.
+    text: &'static str,
+}
+
+const ALL: [Command; 8] = [
+    Command {
+        name: "body",
+        usage: "  interop [body --cut N]",
+        text: "  body --cut N   read the joined DATA bytes of one call as hexadecimal text, in pieces
+                 of N bytes (1 to 65536), and print its messages; this with N = 3 is
+                 what no words at all mean",
+    },
+    Command {
+        name: "case",
+        usage: "  interop case NAME --port P [--host H] [--times N] [--streams K] [--timeout S]
+               [--soak_iterations N ..]
+  interop case --list",
+        text: "  case NAME      run the test case of this name as a client against the server at port P of
+                 H (127.0.0.1 if no host is given), or the fourteen where NAME is all, and
+                 print a line of each; what differed is told on standard error. A case may take
+                 S seconds (10 if not given). With --times each is run N times, and its line
+                 tells how many of the runs passed; with --streams K runs go at a time, each over
+                 a connection of its own, whose windows aren't held back, and a line tells within
+                 which times 50 and 99 of 100 ended. The flags of gRPC's own clients do too:
+                 --test_case=NAME --server_host=H --server_port=P --use_tls=false, and of rpc_soak
+                 and channel_soak --soak_iterations, --soak_max_failures,
+                 --soak_per_iteration_max_acceptable_latency_ms, --soak_overall_timeout_seconds,
+                 --soak_min_time_ms_between_rpcs, --soak_request_size, --soak_response_size;
+                 --list prints the names",
+    },
+    Command {
+        name: "drain",
+        usage: "  interop drain [--port P]",
+        text: "  drain          serve on port P of 127.0.0.1 (50051 if none is given), run ping_pong against this
+                 server, drain the server behind the first reply, and print the GOAWAYs that
+                 came (last stream and error) and a line of the case",
+    },
+    Command {
+        name: "misbehave",
+        usage: "  interop misbehave (NAME --port P [--host H] [--timeout S] | --list [--verbose])",
+        text: "  misbehave NAME misbehave as a server on port P of H (127.0.0.1 if no host is given) in the way of
+                 this name, or in all ways, each on the next port, where NAME is all. It says first
+                 what the client is to do, then what it did, and whether that is ok, failed, with
+                 the sentence that forbids it, or not tested. It ends when the client has gone, or
+                 after S seconds (30 if not given); --list prints the names, with --verbose what
+                 each does",
+    },
+    Command {
+        name: "parts",
+        usage: "  interop parts",
+        text: "  parts          read the bytes of a connection as hexadecimal text, serve it, and print what
+                 it is answered with, stream by stream, and how it ended",
+    },
+    Command {
+        name: "self",
+        usage: "  interop self [--port P]",
+        text: "  self           serve on port P of 127.0.0.1 (50051 if none is given), run all test cases
+                 against this server, and print a line of each",
+    },
+    Command {
+        name: "serve",
+        usage: "  interop serve (--port P | --any-port) [--host H] [--conns N] [--report]
+                [--log [text | json]] [--time (seconds | utc)] [--drain-on-eof]
+                [--drain-timeout S]",
+        text: "  serve          serve grpc.testing.TestService on port P of H (127.0.0.1 if no host is given),
+                 or on a port that the system chooses, until it is interrupted, or N connections
+                 were served; the line listening HOST:PORT tells where; with --report print a
+                 line of each connection that ends, and of each call on it; with --log print at
+                 once what happens, and why: a line as each call begins and ends, as each stream and
+                 connection ends, and where a call waits; with --log json each line of standard
+                 output is an object of JSON. --time says when: in seconds since the start, or by
+                 the clock (utc), in front of each line of a log. With --drain-on-eof it stops once
+                 standard input has ended: calls that began are answered, others refused, and so
+                 where the last of N connections has ended. What lives after S seconds of that (10
+                 if not given) is named, and left, with status 1. ./interop does the same on SIGINT
+                 and SIGTERM; a second one ends it at once",
+    },
+    Command {
+        name: "wire",
+        usage: "  interop wire (all | GROUP | GROUP/N) --port P [--host H] [--silence S] [--timeout T]
+               [--jobs N] [--verbose] [--json FILE]
+  interop wire --list",
+        text: "  wire           send the server at port P of H what no real client would, judge what it answers
+                 by RFC 9113, RFC 7541 and gRPC, and print a line of each case: of all, of a
+                 group (start, conn, hpack, stream, flow, control, grpc), or of one, as grpc/4.
+                 N cases (8 if not given) go at a time, each over connections of its own. Silence of
+                 S milliseconds (1000 if not given) ends a case, and so do T seconds (10 if not
+                 given). What fails is tried twice again: unsteady is a case that passed in one of
+                 the tries, and not applicable one that the server's SETTINGS leave no room for.
+                 --verbose tells what was sent and read; --json writes the outcomes to FILE, and
+                 what a failed case sent to FILE.GROUP-N.hex, which parts takes; --list prints all
+                 cases",
+    },
+];
+
+const FRONT: &str = "\
+The gRPC interop test server's program.
+
+Usage:";
+
+const OPTIONS: &str = "  -h, --help     print this text; behind a command, that of the command
+  --version      print the version
+
+H is an IPv4 or IPv6 address, or a name. Options come in any order, as --port P or --port=P.
+";
+
+const CASES: &str = "\
+The cases that case all runs, in their order: empty_unary, large_unary,
+client_streaming, server_streaming, ping_pong, empty_stream, custom_metadata,
+status_code_and_message, special_status_message, unimplemented_method,
+unimplemented_service, cancel_after_begin, cancel_after_first_response,
+timeout_on_sleeping_server. By their names alone: cacheable_unary, rpc_soak, channel_soak.
+";
+
+const STATUS: &str = "\
+Exit status: 0 done, 1 a case failed (of wire one of level must) or a client, or a drain took too
+long, 2 bad arguments or input, 3 input, output, memory or the port failed; why a port can't be had,
+and which argument is bad, is told on standard error.";
+
+/// What words that ask for help are answered with: those words alone, or one behind a command.
+#[derive(Clone, Copy)]
+pub enum Help {
+    Whole,
+    Of(Command),
+}
+
+impl Help {
+    /// The help that these words ask for, if they do.
+    pub fn asked(words: &[String]) -> Option<Help> {
+        match words {
+            [word] if is_help(word.as_str()) => Some(Help::Whole),
+            [name, word] if is_help(word.as_str()) => Some(Help::Of(command_of(name.as_str())?)),
+            _ => None,
+        }
+    }
+
+    /// Prints it.
+    pub fn print(self, rt: &impl Print) -> io::Result<()> {
+        match self {
+            Help::Whole => print_whole(rt),
+            Help::Of(command) => print_one(rt, command),
+        }
+    }
+}
+
+fn is_help(word: &str) -> bool {
+    matches!(word, "-h" | "--help")
+}
+
+fn command_of(name: &str) -> Option<Command> {
+    ALL.iter().find(|command| command.name == name).copied()
+}
+
+fn print_whole(rt: &impl Print) -> io::Result<()> {
+    println!(rt; "{FRONT}")?;
+    for command in ALL {
+        let usage = command.usage;
+        println!(rt; "{usage}")?;
+    }
+    println!(rt; "")?;
+    for command in ALL {
+        let text = command.text;
+        println!(rt; "{text}")?;
+    }
+    println!(rt; "{OPTIONS}\n{CASES}\n{STATUS}")
+}
+
+fn print_one(rt: &impl Print, command: Command) -> io::Result<()> {
+    let Command { name, usage, text } = command;
+    println!(rt; "Usage:\n{usage}\n\n{text}\n")?;
+    if name == "case" {
+        println!(rt; "{CASES}")?;
+    }
+    println!(rt; "{STATUS}")
+}
