@@ -104,6 +104,11 @@ where
         Ok(true) => 0,
         Ok(false) => CASE_FAILED,
         Err(WireFault::UnknownCase) => complain(rt, NO_WIRE_CASE),
+        Err(WireFault::NoConnection(why)) => {
+            // The exit status tells of it even where nothing can be said here.
+            let _said = eprintln!(rt; "interop: {why}");
+            FAILED
+        }
         Err(
             WireFault::BadRow
             | WireFault::WriteFailed

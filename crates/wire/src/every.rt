@@ -6,7 +6,7 @@ use crate::content::{Reading, SAMPLE};
 use crate::fault::WireFault;
 use crate::group::Group;
 use crate::outcome::Outcome;
-use crate::report::{push_counts, push_details, push_entry, push_line};
+use crate::report::{push_counts, push_details, push_entry, push_line, push_lost};
 use crate::step::{has_control, read_script};
 use device::{ConnWrite, write_all};
 use std::alloc::Global;
@@ -79,6 +79,19 @@ pub fn tell<W: ConnWrite>(
     if !outcome.is_alive {
         text.push_str("wire: the server answers no more\n")?;
     }
+    write_all(output, text.as_bytes())?;
+    Ok(())
+}
+
+/// Prints that a case has no verdict, since there is no connection to the server any more, for this reason.
+pub fn tell_lost<W: ConnWrite>(
+    alloc: Global,
+    case: &Case,
+    why: &str,
+    output: &mut W,
+) -> Result<(), WireFault> {
+    let mut text = String::new(alloc);
+    push_lost(&mut text, case, why)?;
     write_all(output, text.as_bytes())?;
     Ok(())
 }

@@ -36,7 +36,7 @@ mod talk;
 
 pub use case::Case;
 pub use choice::Choice;
-pub use every::{Options, chosen, list, tell, tell_counts};
+pub use every::{Options, chosen, list, tell, tell_counts, tell_lost};
 pub use fault::WireFault;
 pub use finding::{Finding, Verdict, verdict_of};
 pub use group::Group;
