@@ -168,22 +168,26 @@ pub fn push_ways(text: &mut String, ways: &[Lawful]) -> Result<(), AllocError> {
 }
 
 impl Lawful {
-    /// Adds its reactions, in words. Where there are several, each names its stream.
+    /// Adds its reactions, in words. Where all are of stream 1, it isn't named.
     pub fn describe(&self, text: &mut String) -> Result<(), AllocError> {
-        let is_one = self.all.len() == 1;
+        let is_first = self
+            .all
+            .as_slice()
+            .iter()
+            .all(|reaction| reaction.stream() < 2);
         for (place, reaction) in self.all.as_slice().iter().enumerate() {
             if place > 0 {
                 text.push_str(" and ")?;
             }
-            reaction.describe(text, is_one)?;
+            reaction.describe(text, is_first)?;
         }
         Ok(())
     }
 }
 
 impl Reaction {
-    /// Adds it in words. Where it is the only one, stream 1 isn't named.
-    fn describe(&self, text: &mut String, is_one: bool) -> Result<(), AllocError> {
+    /// Adds it in words, with its stream, where that isn't the first and only one.
+    fn describe(&self, text: &mut String, is_first: bool) -> Result<(), AllocError> {
         match self {
             Reaction::Connection(codes) => push_coded(text, "connection error", codes),
             Reaction::Goaway(codes) => push_coded(text, "GOAWAY", codes),
@@ -210,7 +214,7 @@ impl Reaction {
             }
             _ => {
                 self.describe_on_stream(text)?;
-                push_stream(text, self.stream(), is_one)
+                push_stream(text, self.stream(), is_first)
             }
         }
     }
@@ -232,6 +236,7 @@ impl Reaction {
             Reaction::Single(_) => text.push_str("one header block and no DATA"),
             Reaction::Data { count, .. } => write!(text, "{count} bytes of DATA"),
             Reaction::Most { count, .. } => write!(text, "at most {count} bytes of DATA"),
+            Reaction::Replies { count: 1, .. } => text.push_str("one message"),
             Reaction::Replies { count, .. } => write!(text, "{count} messages"),
             Reaction::Reply { content, .. } => push_bytes(text, "a last message of", content),
             Reaction::Has { content, .. } => push_bytes(text, "a message with", content),
@@ -259,9 +264,9 @@ impl Reaction {
     }
 }
 
-/// Adds the stream of what is wanted; of one reaction alone stream 1 goes without saying.
-fn push_stream(text: &mut String, stream: u32, is_one: bool) -> Result<(), AllocError> {
-    if is_one && stream == 1 {
+/// Adds the stream of what is wanted, but for the first and only one.
+fn push_stream(text: &mut String, stream: u32, is_first: bool) -> Result<(), AllocError> {
+    if is_first {
         return Ok(());
     }
     write!(text, " on stream {stream}")
