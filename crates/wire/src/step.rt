@@ -13,6 +13,7 @@
 //! - `quiet`: a PING, and waits a moment after its acknowledgement, whatever comes.
 //! - `crowd METHOD`: opens one call of the method more than the server's SETTINGS allow.
 //! - `many N METHOD`: opens so many calls, none of them ended; fields may stand after METHOD. `cancel N`: RST_STREAM with CANCEL on each of the first N streams.
+//!   `several N METHOD`: as `many`, of calls so few and short that others go on beside them.
 //!   A case with `crowd` or `many` is run while no other is, since a server may have no thread left for their calls.
 //!
 //! What a case rests on stands first:
@@ -172,7 +173,7 @@ fn read_step(
         "preface" => Ok(Step::Write(Vec::from_slice(alloc, PREFACE)?)),
         "await" => Ok(Step::Await(read_reaction(alloc, rest, reading)?)),
         "crowd" => Ok(Step::Crowd(rest)),
-        "many" => {
+        "many" | "several" => {
             let (count, method) = first_word(rest);
             let count = reading.announced.amount(count)?;
             Ok(Step::Many { count, method })

@@ -247,7 +247,7 @@ nothing comes of a call behind its deadline
   must RFC 9113, 5.1 (closed): \"MUST NOT send frames other than PRIORITY on a closed stream\"
   needs streams at least 16
   rounds 6
-  many 16 FullDuplexCall grpc-timeout=10m
+  several 16 FullDuplexCall grpc-timeout=10m
   await failed 1
   quiet
   want orderly
