@@ -12,8 +12,8 @@
 //! - `await REACTION`: waits for it (`reaction`). `sync`: a PING, and waits for its acknowledgement.
 //! - `quiet`: a PING, and waits a moment after its acknowledgement, whatever comes.
 //! - `crowd METHOD`: opens one call of the method more than the server's SETTINGS allow.
-//! - `many N METHOD`: opens so many calls, none of them ended; fields may stand after METHOD. `cancel N`: RST_STREAM with CANCEL on each of the first N streams.
-//!   `several N METHOD`: as `many`, of calls so few and short that others go on beside them.
+//! - `many N METHOD`: opens so many calls, none of them ended; fields may stand after METHOD. `several N METHOD`: the same, of calls
+//!   so few and short that other cases go on beside them. `cancel N`: RST_STREAM with CANCEL on each of the first N streams.
 //!   A case with `crowd` or `many` is run while no other is, since a server may have no thread left for their calls.
 //!
 //! What a case rests on stands first:
