@@ -1,5 +1,8 @@
 //! What became of a call.
 
+ghost use Rattle.std.specs.Prelude.{◌≡◌};
+ghost use Rattle.callparts.specs.Accounts.{unserved};
+
 use callbox::{InAccount, OutAccount};
 use h2frame::StreamId;
 
@@ -16,7 +19,9 @@ pub struct Traffic {
 
 impl Traffic {
     /// None.
-    pub fn none() -> Traffic {
+    pub fn none() -> Traffic
+        ensures { result ≡ record { bytes = 0; replies = 0; reply_bytes = 0 } }
+    {
         Traffic {
             bytes: 0,
             replies: 0,
@@ -41,7 +46,9 @@ pub struct CallAccount {
 
 impl CallAccount {
     /// The account of a call to which nothing was fed and nothing given.
-    pub fn unserved(id: StreamId, method: usize) -> CallAccount {
+    pub fn unserved(id: StreamId, method: usize) -> CallAccount
+        ensures { result ≡ unserved id method }
+    {
         CallAccount {
             id,
             method,

@@ -1,5 +1,8 @@
 //! How a connection ended, and what became of its calls.
 
+ghost use Rattle.std.specs.Prelude.{◌≡◌};
+ghost use Rattle.callparts.specs.Endings.{ending_number};
+
 use crate::accounts::Accounts;
 use h2frame::ErrorCode;
 
@@ -30,7 +33,9 @@ pub enum Ending {
 
 impl Ending {
     /// The ending's number.
-    pub fn code(self) -> u32 {
+    pub fn code(self) -> u32
+        ensures { result ≡ ending_number self }
+    {
         match self {
             Ending::InputEnded => 1,
             Ending::PeerGoaway => 2,

@@ -26,9 +26,7 @@ pub trait Gate {
 pub struct OpenGate;
 
 impl Gate for OpenGate {
-
-    fn may_go(&self, _id: StreamId) -> bool
-    {
+    fn may_go(&self, _id: StreamId) -> bool {
         true
     }
 

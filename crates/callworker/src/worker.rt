@@ -2,17 +2,32 @@
 //!
 //! `Worker::work` answers one call after another, and hands each back as soon as it is over: with its ends, and what is known of it.
 
+ghost use Rattle.std.specs.Prelude.{◌≡◌, ◌<◌, [], ◌∷◌, ◌++◌, false, length, None, Some};
+ghost use Rattle.lane.specs.End.{of_end};
+ghost use Rattle.lane.specs.RingEnds.{consumer_name, producer_name};
+ghost use Rattle.lane.specs.RingLane.{got, in_name, out_name, put_in, put_shut, shut_name};
+ghost use Rattle.rtrb.specs.Ring.{received, sent};
+ghost use Rattle.handlers.specs.Listed.{listed};
+ghost use Rattle.callrun.specs.declared.call.Turn.TheVariants as turn;
+ghost use Rattle.callrun.specs.Sides.{is_open};
+ghost use Rattle.callparts.specs.Workers.{Answers, AnswersAt, IsFreshWork, IsGivenAs, IsKnown, answers_by};
+ghost use Rattle.callworker.specs.Runs.{EndsAs, GoesOn, IsOneCall, giver_name};
+ghost use Rattle.callworker.specs.Works.{HasHandedBack, IsUnused};
+
 use crate::gate::Gate;
 use crate::jobs::next_job;
 use crate::pace::{Pace, STEP, limit};
 use crate::shared::Shared;
 use crate::ways::Ways;
 use callbox::{GivenShut, Giver, Taker};
-use callparts::{Finished, InLane, Job, Line, OutLane, Request, Traffic};
+use callparts::{
+    Answering, DoneIn, Finished, InLane, Job, Line, Naming, OutLane, Request, Traffic, Work,
+};
 use callrun::{CallRun, Turn};
 use h2frame::StreamId;
 use handlers::{Method, Methods};
 use lane::End;
+use rtrb::PushError;
 use std::alloc::Global;
 use std::sync::ledger::Ledger;
 use std::sync::{Arc, Wait};
@@ -30,47 +45,116 @@ pub struct Worker<A: Ledger, B: Ledger, C: Ledger, G: Drop> {
     pub start: Instant,
 }
 
+/// What is left of a call that was answered.
+#[derive(Drop)]
+struct Served {
+    taker: Taker<InLane>,
+    given: GivenShut<OutLane>,
+    status: Option<u32>,
+    traffic: Traffic,
+}
+
 impl<A: Ledger, B: Ledger, C: Ledger, G: Gate + Drop> Worker<A, B, C, G> {
     /// Answers one call after another, until no more come, and hands each back.
-    pub fn work<R>(&self, rt: &R, methods: &Methods, ways: Ways) -> Ways
+    pub fn work<J, M, R>(&self, rt: &R, methods: &Methods, ways: Ways<J, M>) -> Ways<J, M>
     where
+        J: Naming,
+        M: Answering,
         R: Wait + Clock,
+        requires known { IsKnown M.known (λ m. answers (m.vtable, m.value)) (listed methods.now) }
+        requires unused { IsUnused (received ways.tasks) (sent ways.done) }
+        ensures tasks { consumer_name result.tasks ≡ consumer_name ways.tasks }
+        ensures done { producer_name result.done ≡ producer_name ways.done }
+        ensures handed_back { HasHandedBack (λ job. job.number.value)
+            (λ finished. finished.number.value) (received result.tasks) (sent result.done) }
     {
         let mut ways = ways;
         'calls: for _ in rt.forever() {
             let Some(job) = next_job(rt, &self.line, &mut ways.tasks) else {
                 return ways;
             };
-            let finished = self.answer(rt, methods, job);
-            self.hand_back(&mut ways, finished);
+            let finished = self.answer::<J, M, R>(rt, methods, job);
+            self.hand_back(rt, &mut ways.done, finished);
         }
         unreachable!()
     }
 
-    /// Hands a call back, for which there is room: the one before it was taken before this one came. Only then the others are rung, so that
-    /// this worker is free by the time that the peer sees the end of the call.
-    fn hand_back(&self, ways: &mut Ways, finished: Finished) {
-        if let Err(_full) = ways.done.put(finished) {
-            unreachable!();
+    /// Hands a call back. There is room for it, since the one before it was taken before this one came. Only then the others are rung, so
+    /// that this worker is free by the time that the peer sees the end of the call.
+    fn hand_back<J: Naming, M: Answering>(
+        &self,
+        rt: &impl Wait,
+        done: &mut DoneIn<J, M>,
+        finished: Finished<J>,
+    )
+        requires answers { AnswersAt M.known finished.number.seen.log finished.number.value
+            (got finished.taker.rx) finished.taker.progress (put_shut finished.given.shut)
+            finished.status }
+        ensures name { producer_name done.new ≡ producer_name done.old }
+        ensures sent { sent done.new ≡ sent done.old ++ finished ∷ [] }
+    {
+        let mut finished = finished;
+        'looks: for _ in rt.forever() {
+            let mark = self.line.bell.mark();
+            match done.push(finished) {
+                Ok(()) => {
+                    self.shared.writer.ring();
+                    self.shared.reader.ring();
+                    return;
+                }
+                Err(PushError::Full(back)) => finished = back,
+            }
+            self.line
+                .bell
+                .wait_past(rt, mark, Duration::from_millis(STEP));
         }
-        self.shared.writer.ring();
-        self.shared.reader.ring();
+        unreachable!()
     }
 
     /// Answers a call.
-    fn answer<R: Wait + Clock>(
-        &self,
-        rt: &R,
-        methods: &Methods,
-        job: Job,
-    ) -> Finished
+    fn answer<J, M, R>(&self, rt: &R, methods: &Methods, job: Job<J>) -> Finished<J>
+    where
+        J: Naming,
+        M: Answering,
+        R: Wait + Clock,
+        requires known { IsKnown M.known (λ m. answers (m.vtable, m.value)) (listed methods.now) }
+        requires fresh { IsFreshWork job.work }
+        ensures number { result.number ≡ job.number }
+        ensures answers { AnswersAt M.known result.number.seen.log result.number.value
+            (got result.taker.rx) result.taker.progress (put_shut result.given.shut)
+            result.status }
     {
-        let Job {
-            request,
+        let Job { work, number } = job;
+        let Served {
+            taker,
+            given,
+            status,
+            traffic,
+        } = self.serve(rt, methods, work);
+        Finished {
             number,
             taker,
+            given,
+            status,
+            traffic,
+        }
+    }
+
+    /// The same, without the number.
+    fn serve<R: Wait + Clock>(&self, rt: &R, methods: &Methods, work: Work) -> Served
+        requires fresh { IsFreshWork work }
+        ensures in_name { out_name result.taker.rx ≡ out_name work.taker.rx }
+        ensures name { shut_name result.given.shut ≡ in_name work.giver.tx }
+        ensures answers { Answers
+            (answers_by (λ m. answers (m.vtable, m.value)) (listed methods.now))
+            work.request (got result.taker.rx) result.taker.progress
+            (put_shut result.given.shut) result.status }
+    {
+        let Work {
+            request,
+            taker,
             giver,
-        } = job;
+        } = work;
         let Request {
             id,
             index,
@@ -78,12 +162,12 @@ impl<A: Ledger, B: Ledger, C: Ledger, G: Gate + Drop> Worker<A, B, C, G> {
             opened,
         } = request;
         if methods.get(index).is_none() {
-            return self.pass_over(rt, id, number, taker, giver);
+            return self.pass_over(rt, id, taker, giver);
         }
         let mut run = CallRun::new(self.alloc, methods, index, head, taker, giver, opened);
         let mut pace = Pace::new();
         self.run(rt, methods, id, &mut run, &mut pace);
-        self.end(rt, id, number, run, pace)
+        self.end(rt, id, run, pace)
     }
 
     /// Leaves a call of which nothing was taken.
@@ -91,14 +175,17 @@ impl<A: Ledger, B: Ledger, C: Ledger, G: Gate + Drop> Worker<A, B, C, G> {
         &self,
         rt: &impl Wait,
         id: StreamId,
-        number: u64,
         taker: Taker<InLane>,
         giver: Giver<OutLane>,
-    ) -> Finished {
+    ) -> Served
+        ensures taker { result.taker ≡ taker }
+        ensures name { shut_name result.given.shut ≡ in_name giver.tx }
+        ensures given { IsGivenAs (put_in giver.tx) (put_shut result.given.shut) }
+        ensures status { result.status ≡ None }
+    {
         let given = giver.leave();
         self.settle(rt, id, 0, false);
-        Finished {
-            number,
+        Served {
             taker,
             given,
             status: None,
@@ -115,6 +202,12 @@ impl<A: Ledger, B: Ledger, C: Ledger, G: Gate + Drop> Worker<A, B, C, G> {
         run: &mut CallRun<InLane, OutLane>,
         pace: &mut Pace,
     )
+        requires index { run.old.index < length (listed methods.now) }
+        ensures goes_on { GoesOn (λ m. answers (m.vtable, m.value))
+            (λ m. stands (m.vtable, m.value))
+            (listed methods.now) run.old run.new }
+        ensures same { IsOneCall run.old run.new }
+        ensures over { is_open run.new.response ≡ false }
     {
         'turns: for _ in rt.forever() {
             self.pass_gate(rt, id, pace);
@@ -150,6 +243,12 @@ impl<A: Ledger, B: Ledger, C: Ledger, G: Gate + Drop> Worker<A, B, C, G> {
         run: &mut CallRun<InLane, OutLane>,
         pace: &mut Pace,
     ) -> bool
+        requires index { run.old.index < length (listed methods.now) }
+        ensures goes_on { GoesOn (λ m. answers (m.vtable, m.value))
+            (λ m. stands (m.vtable, m.value))
+            (listed methods.now) run.old run.new }
+        ensures same { IsOneCall run.old run.new }
+        ensures over { result ≡ false → is_open run.new.response ≡ false }
     {
         let came = self.line.bell.mark();
         let now = self.now(rt, run);
@@ -175,8 +274,14 @@ impl<A: Ledger, B: Ledger, C: Ledger, G: Gate + Drop> Worker<A, B, C, G> {
         }
     }
 
-    /// Gives the call a turn; where that finds no room, another one, once the slot's bell is rung for room.
+    /// Gives the call a turn; where that finds no room, another one, once its bell is rung for room.
     fn look(&self, methods: &Methods, run: &mut CallRun<InLane, OutLane>, now: u64) -> Turn
+        requires index { run.old.index < length (listed methods.now) }
+        ensures goes_on { GoesOn (λ m. answers (m.vtable, m.value))
+            (λ m. stands (m.vtable, m.value))
+            (listed methods.now) run.old run.new }
+        ensures same { IsOneCall run.old run.new }
+        ensures over { result ≡ turn.Over → is_open run.new.response ≡ false }
     {
         let turn = run.turn(methods, now);
         if turn != Turn::Full {
@@ -195,6 +300,10 @@ impl<A: Ledger, B: Ledger, C: Ledger, G: Gate + Drop> Worker<A, B, C, G> {
         run: &mut CallRun<InLane, OutLane>,
         pace: &mut Pace,
     ) -> bool
+        ensures none { run.new.taker.progress ≡ record run.old.taker.progress { owed = 0 } }
+        ensures rx { run.new.taker.rx ≡ run.old.taker.rx }
+        ensures same { (run.new.index ≡ run.old.index) × (run.new.call ≡ run.old.call)
+            × (run.new.in_hand ≡ run.old.in_hand) × (run.new.response ≡ run.old.response) }
     {
         let credit = run.credit();
         pace.came(credit);
@@ -220,6 +329,12 @@ impl<A: Ledger, B: Ledger, C: Ledger, G: Gate + Drop> Worker<A, B, C, G> {
         methods: &Methods,
         run: &mut CallRun<InLane, OutLane>,
     )
+        requires index { run.old.index < length (listed methods.now) }
+        ensures goes_on { GoesOn (λ m. answers (m.vtable, m.value))
+            (λ m. stands (m.vtable, m.value))
+            (listed methods.now) run.old run.new }
+        ensures same { IsOneCall run.old run.new }
+        ensures over { is_open run.new.response ≡ false }
     {
         'turns: for _ in rt.forever() {
             let now = self.now(rt, run);
@@ -235,14 +350,12 @@ impl<A: Ledger, B: Ledger, C: Ledger, G: Gate + Drop> Worker<A, B, C, G> {
     }
 
     /// Ends a call that is over, by its last item, and hands back its ends.
-    fn end(
-        &self,
-        rt: &impl Wait,
-        id: StreamId,
-        number: u64,
-        run: CallRun<InLane, OutLane>,
-        pace: Pace,
-    ) -> Finished {
+    fn end(&self, rt: &impl Wait, id: StreamId, run: CallRun<InLane, OutLane>, pace: Pace) -> Served
+        ensures rx { result.taker.rx ≡ run.taker.rx }
+        ensures progress { result.taker.progress ≡ record run.taker.progress { owed = 0 } }
+        ensures name { Some (shut_name result.given.shut) ≡ giver_name run.response }
+        ensures given { EndsAs run (put_shut result.given.shut) result.status }
+    {
         let mut run = run;
         let mut pace = pace;
         let credit = run.credit();
@@ -251,8 +364,7 @@ impl<A: Ledger, B: Ledger, C: Ledger, G: Gate + Drop> Worker<A, B, C, G> {
         let (taker, end, status) = run.into_ends();
         let given = shut_of(end);
         self.settle(rt, id, credit, status.is_some());
-        Finished {
-            number,
+        Served {
             taker,
             given,
             status,
@@ -293,7 +405,11 @@ pub fn moment(rt: &impl Clock, start: Instant) -> u64 {
 }
 
 /// The giving end once the call is left, where it wasn't answered.
-fn shut_of(end: End<Giver<OutLane>, GivenShut<OutLane>>) -> GivenShut<OutLane> {
+fn shut_of(end: End<Giver<OutLane>, GivenShut<OutLane>>) -> GivenShut<OutLane>
+    ensures name { shut_name result.shut ≡ of_end (λ g. in_name g.tx) (λ s. shut_name s.shut) end }
+    ensures given { IsGivenAs (of_end (λ g. put_in g.tx) (λ s. put_shut s.shut) end)
+        (put_shut result.shut) }
+{
     match end {
         End::Open(giver) => giver.leave(),
         End::Shut(shut) => shut,

@@ -1,34 +1,56 @@
 //! A call, as the reading side has it.
 
+ghost use Rattle.std.specs.Prelude.{◌≡◌, ◌≢◌, ℕ, Bool, List, [], ◌∷◌, true, Some, OnErr, OnOk, option_map, unwrap_or};
+ghost use Rattle.account.specs.declared.call.OutItem.{OutItem as Item};
+ghost use Rattle.connbook.specs.declared.answers.Receipt.TheVariants.{Feed};
+ghost use Rattle.handlers.specs.declared.step.Step.{Step as Answer};
+ghost use Rattle.session.specs.declared.event.InEvent.TheVariants as events;
+ghost use Rattle.callparts.specs.Numbers.{OptionalName_set, in_lane_at};
+ghost use Rattle.readerloop.specs.Calls.{HasAnswered, HasReturned, IsCall, Rises, is_over};
+ghost use Rattle.readerloop.specs.Halves.{is_open, lane_of};
+ghost use Rattle.readerloop.specs.Reports.{IsSettled};
+ghost use Rattle.readerloop.specs.Steps.{Misses, Received, ShutAs, Step, Told, closing_at};
+
 use crate::half::Half;
-use callbox::{OutAccount, settle_in, settle_out};
-use callparts::{CallAccount, Finished, Sending};
+use account::Shut;
+use bytes::Bytes;
+use callbox::{FeedFault, settle_in, settle_out};
+use callparts::{CallAccount, CallNumber, Finished, Naming, Returning, Sending};
 use h2frame::StreamId;
 use lane::End;
 
 /// A call whose lanes were opened, and which isn't settled.
 #[derive(Drop)]
-pub struct Call {
+pub struct Call<J: Naming> {
     pub(crate) id: StreamId,
     /// Which of the methods it calls.
     pub(crate) method: usize,
     /// Its number among all whose lanes were opened.
-    pub(crate) number: u64,
+    pub(crate) number: CallNumber<J>,
     /// The place of its account.
     pub(crate) place: usize,
     /// The worker that answers it, until that has handed it back.
     pub(crate) seat: usize,
     pub(crate) half: Half,
     /// What its worker has handed back.
-    pub(crate) finished: Option<Finished>,
+    pub(crate) finished: Option<Finished<J>>,
     /// Its sender, once the writing side has handed it back.
-    pub(crate) sending: Option<Box<Sending>>,
+    pub(crate) returning: Option<Returning<J>>,
+    /// Its half feeds the lane with which it stands in the register.
+    ghost one_lane: { in_lane_at number.seen.log number.value ≡ lane_of half } by { OptionalName_set (in_lane_at number.seen.log number.value) (lane_of half) },
+    /// What came back is of its number.
+    ghost one_finished: { unwrap_or (option_map (λ f. f.number.value) finished) number.value
+        ≡ number.value },
+    ghost one_returning: { unwrap_or (option_map (λ r. r.sending.value.number.value) returning)
+        number.value ≡ number.value },
 }
 
-impl Call {
+impl<J: Naming> Call<J> {
     /// Whether all its ends are back: it is over.
-    pub(crate) fn is_over(&self) -> bool {
-        self.finished.is_some() && self.sending.is_some() && !self.half.is_open()
+    pub(crate) fn is_over(&self) -> bool
+        ensures { result ≡ is_over self.now }
+    {
+        self.finished.is_some() && (self.returning.is_some() && self.half.is_closed())
     }
 
     /// The worker that is to be woken where something comes for the call. None where it was handed back.
@@ -39,47 +61,129 @@ impl Call {
         }
     }
 
-    /// Brings its ends together. None where one isn't back.
-    pub(crate) fn settle(self) -> Option<CallAccount> {
+    /// Feeds a piece to it, if more may be fed.
+    pub(crate) fn feed(&mut self, piece: Bytes) -> Result<(), FeedFault>
+        ensures heard { OnOk result ((known : ℕ → List (List ℕ) → Bool → Answer → Type 0)
+            (names : List ℕ → ℕ → Type 0) (carries : ℕ → List Item → Type 0) (counted : ℕ)
+            (told : List Step) → IsCall known names carries told self.old
+            → IsCall known names carries
+            (Told (events.Data self.old.id piece counted) (Received Feed) ∷ told) self.new) }
+        ensures stays { OnErr result ((known : ℕ → List (List ℕ) → Bool → Answer → Type 0)
+            (names : List ℕ → ℕ → Type 0) (carries : ℕ → List Item → Type 0) (told : List Step)
+            → IsCall known names carries told self.old
+            → IsCall known names carries told self.new) }
+        ensures due { OnErr result ((piece ≢ []) × (is_open self.old.half ≡ true)) }
+        ensures id { self.new.id ≡ self.old.id }
+        ensures place { self.new.place ≡ self.old.place }
+    {
+        self.half.feed(piece)
+    }
+
+    /// Shuts its half in this way. Where it was closed before nothing changes.
+    pub(crate) fn shut(&mut self, kind: Shut)
+        ensures heard { (known : ℕ → List (List ℕ) → Bool → Answer → Type 0)
+            (names : List ℕ → ℕ → Type 0) (carries : ℕ → List Item → Type 0) (told : List Step) (step : Step)
+            → Rises told step → closing_at self.old.id step ≡ Some (ShutAs kind)
+            → IsCall known names carries told self.old
+            → IsCall known names carries (step ∷ told) self.new }
+        ensures id { self.new.id ≡ self.old.id }
+        ensures place { self.new.place ≡ self.old.place }
+    {
+        self.half.shut(kind);
+    }
+
+    /// A piece isn't fed to it, if more may be fed.
+    pub(crate) fn miss(&mut self)
+        ensures heard { (known : ℕ → List (List ℕ) → Bool → Answer → Type 0)
+            (names : List ℕ → ℕ → Type 0) (carries : ℕ → List Item → Type 0) (told : List Step) (step : Step)
+            → Rises told step → closing_at self.old.id step ≡ Some Misses
+            → IsCall known names carries told self.old
+            → IsCall known names carries (step ∷ told) self.new }
+        ensures id { self.new.id ≡ self.old.id }
+        ensures place { self.new.place ≡ self.old.place }
+    {
+        self.half.miss();
+    }
+
+    /// Its worker has handed this back, if it is of its number.
+    pub(crate) fn finish(&mut self, finished: Finished<J>)
+        ensures stays { (known : ℕ → List (List ℕ) → Bool → Answer → Type 0)
+            (names : List ℕ → ℕ → Type 0) (carries : ℕ → List Item → Type 0) (told : List Step)
+            → HasAnswered known finished → IsCall known names carries told self.old
+            → IsCall known names carries told self.new }
+        ensures id { self.new.id ≡ self.old.id }
+        ensures place { self.new.place ≡ self.old.place }
+    {
+        if self.number.is(&finished.number) {
+            self.finished = Some(finished);
+        }
+    }
+
+    /// The writing side has handed this back, if it is of its number.
+    pub(crate) fn take_back(&mut self, returning: Returning<J>)
+        ensures stays { (known : ℕ → List (List ℕ) → Bool → Answer → Type 0)
+            (names : List ℕ → ℕ → Type 0) (carries : ℕ → List Item → Type 0) (told : List Step)
+            → HasReturned carries returning.sending.value
+            → IsCall known names carries told self.old
+            → IsCall known names carries told self.new }
+        ensures id { self.new.id ≡ self.old.id }
+        ensures place { self.new.place ≡ self.old.place }
+    {
+        if self.number.is(&returning.sending.number) {
+            self.returning = Some(returning);
+        }
+    }
+
+    /// Brings its ends together, once it is over.
+    pub(crate) fn settle(self) -> CallAccount
+        requires over { is_over self ≡ true }
+        ensures id { result.id ≡ self.id }
+        ensures settled { (known : ℕ → List (List ℕ) → Bool → Answer → Type 0)
+            (names : List ℕ → ℕ → Type 0) (carries : ℕ → List Item → Type 0) (told : List Step)
+            → IsCall known names carries told self → IsSettled known names carries told result }
+    {
         let Call {
             id,
             method,
             number,
             half,
             finished,
-            sending,
+            returning,
             ..
         } = self;
-        let (Some(finished), Some(sending)) = (finished, sending) else {
-            return None;
+        let Some(
+            Finished {
+                number: worked,
+                taker,
+                given,
+                status,
+                traffic,
+            },
+        ) = finished
+        else {
+            unreachable!();
         };
-        let sending = Box::into_inner(sending);
-        if finished.number != number || sending.number != number {
-            return None;
-        }
-        let sender = sending.sender?;
-        let input = settle_in(half.into_end(), finished.taker);
-        let output = without_left(settle_out(End::Shut(finished.given), sender));
-        Some(CallAccount {
+        let Some(Returning { sending }) = returning else {
+            unreachable!();
+        };
+        let Sending {
+            number: sent,
+            sender,
+        } = Box::into_inner(sending);
+        let Some(sender) = sender else {
+            unreachable!();
+        };
+        let _one_worked = number.is(&worked);
+        let _one_sent = number.is(&sent);
+        let input = settle_in(half.into_end(), taker);
+        let output = settle_out(End::Shut(given), sender);
+        CallAccount {
             id,
             method,
             input,
             output,
-            status: finished.status,
-            traffic: finished.traffic,
-        })
-    }
-}
-
-/// The same without the word that a call was left, which is no item of a response. It stands last where no trailers do.
-fn without_left(output: OutAccount) -> OutAccount {
-    if output.trailers_given {
-        return output;
-    }
-    let given = output.given.saturating_sub(1);
-    OutAccount {
-        given,
-        sent: output.sent.min(given),
-        ..output
+            status,
+            traffic,
+        }
     }
 }

@@ -1,7 +1,12 @@
 //! What was decided of a step.
 
+ghost use Rattle.std.specs.Prelude.{◌≡◌, None, Some};
+ghost use Rattle.account.specs.declared.call.Shut.TheVariants as shut;
+ghost use Rattle.h2frame.specs.ErrorCode.{error_number};
+ghost use Rattle.outwriter.specs.declared.control.Control.TheVariants as orders;
+
 use account::Shut;
-use callparts::{Ending, Order};
+use callparts::{Ending, Naming, Order};
 use h2frame::{ErrorCode, StreamId};
 use outwriter::Control;
 
@@ -14,20 +19,22 @@ pub struct Cut {
 
 /// What was decided of a step.
 #[derive(Drop)]
-pub struct Decided {
+pub struct Decided<J: Naming> {
     /// The stream that a GOAWAY without an error names, where one is ordered first.
     pub goaway: Option<StreamId>,
     /// What is ordered of the writing side.
-    pub order: Option<Order>,
+    pub order: Option<Order<J>>,
     /// The half that is to be shut once that was ordered.
     pub cut: Option<Cut>,
     /// How the connection ends, if it does.
     pub ends: Option<Ending>,
 }
 
-impl Decided {
+impl<J: Naming> Decided<J> {
     /// Nothing is ordered.
-    pub(crate) fn nothing() -> Decided
+    pub(crate) fn nothing() -> Decided<J>
+        ensures { (result.goaway ≡ None) × (result.order ≡ None) × (result.cut ≡ None)
+            × (result.ends ≡ None) }
     {
         Decided {
             goaway: None,
@@ -38,7 +45,9 @@ impl Decided {
     }
 
     /// This is ordered.
-    pub(crate) fn order(order: Order) -> Decided
+    pub(crate) fn order(order: Order<J>) -> Decided<J>
+        ensures { (result.goaway ≡ None) × (result.order ≡ Some order) × (result.cut ≡ None)
+            × (result.ends ≡ None) }
     {
         Decided {
             order: Some(order),
@@ -47,9 +56,14 @@ impl Decided {
     }
 
     /// A stream is reset, of which the peer is told, unless it did so; and so is the half of its call, with this code.
-    pub(crate) fn reset(id: StreamId, code: ErrorCode, written: bool, kind: ErrorCode) -> Decided
+    pub(crate) fn reset(id: StreamId, code: ErrorCode, written: bool) -> Decided<J>
+        ensures order { (result.goaway ≡ None)
+            × (result.order ≡ Some (orders.Reset id code written)) }
+        ensures cut { result.cut ≡ Some
+            (record { id = id; kind = shut.Reset (error_number code) }) }
+        ensures ends { result.ends ≡ None }
     {
-        let kind = Shut::Reset(kind.code());
+        let kind = Shut::Reset(code.code());
         Decided {
             order: Some(Control::Reset { id, code, written }),
             cut: Some(Cut { id, kind }),
@@ -57,4 +71,3 @@ impl Decided {
         }
     }
 }
-

@@ -1,22 +1,26 @@
 //! The writing side's end of the ring of orders.
 
-use callparts::Order;
 use lane::RingOut;
+use outwriter::Control;
 
-/// The orders that came for the writer.
+/// The orders that came for the writer. `S` is what comes with a call that begins.
 #[derive(Drop)]
-pub struct Inbox {
-    pub ring: RingOut<Order>,
+pub struct Inbox<S: Drop> {
+    pub ring: RingOut<Control<S>>,
     /// An order that waits, or can't be taken yet. The others wait behind it.
-    pub set_aside: Option<Order>,
+    pub set_aside: Option<Control<S>>,
     /// Whether an order was lost, for want of memory.
     pub has_lost: bool,
 }
 
-impl Inbox {
+impl<S: Drop> Inbox<S> {
+    ghost use Rattle.std.specs.Prelude.{◌≡◌, false, None};
+    ghost use Rattle.writerloop.specs.Orders.{Gives, Keeps};
 
     /// An inbox of which no order was given.
-    pub fn new(ring: RingOut<Order>) -> Inbox
+    pub fn new(ring: RingOut<Control<S>>) -> Inbox<S>
+        ensures ring { result.ring ≡ ring }
+        ensures none { (result.set_aside ≡ None) × (result.has_lost ≡ false) }
     {
         Inbox {
             ring,
@@ -27,6 +31,7 @@ impl Inbox {
 
     /// Sets the next order aside, where one waits.
     pub(crate) fn look(&mut self)
+        ensures keeps { Keeps self.old self.new }
     {
         if self.set_aside.is_none() {
             self.set_aside = self.ring.take();
@@ -34,7 +39,8 @@ impl Inbox {
     }
 
     /// The order that was set aside, or else the next that waits.
-    pub(crate) fn next(&mut self) -> Option<Order>
+    pub(crate) fn next(&mut self) -> Option<Control<S>>
+        ensures gives { Gives result self.old self.new }
     {
         match self.set_aside.take() {
             Some(order) => Some(order),

@@ -7,14 +7,18 @@
 //! senders handed back and the buffer written. Each step answers what its owner is to do: which bells
 //! are to be rung, which calls are to be cut, whether the connection is to be stopped.
 //!
-//! - `inbox`: the writing side's end of the ring of orders; `sends`: the calls that are sent.
+//! - `inbox`: the writing side's end of the ring of orders; `sends`: the calls that are sent; `opening`: how one begins.
 //! - `frames`: core, buffer and device, with `standing`, `taking` and `filled` for its answers.
 //! - `steps`: what a step answers; `writing`: the machine.
+//!
+//! `specs/Orders.antt` says when a run of the core obeys orders, `specs/Spelled.antt` and `specs/Wrote.antt` what of its frames was
+//! written, and `specs/Sent.antt` where each call's sender is; each step leads on by these (`specs/Written.antt`).
 #![tactic(auto)]
 
 mod filled;
 mod frames;
 pub mod inbox;
+mod opening;
 mod sends;
 mod standing;
 pub mod steps;

@@ -1,149 +1,192 @@
 //! The calls that the writing side sends, and the way on which their senders go back.
 
 use callbox::Sender;
-use callparts::{Line, Opening, Order, OutLane, Sending};
+use callparts::{Line, Naming, Opening, OutLane, Returning, Sending};
 use h2frame::StreamId;
 use lane::RingIn;
-use outwriter::Control;
-use std::alloc::Global;
+use std::alloc::{AllocError, Global};
 use std::sync::Arc;
 
 /// A call whose sender is with the writer's core.
 #[derive(Drop)]
-struct Sent {
-    id: StreamId,
+pub(crate) struct Sent<J: Naming> {
+    pub(crate) id: StreamId,
     /// In which its sender goes back.
-    sending: Box<Sending>,
+    pub(crate) sending: Box<Sending<J>>,
     /// By which its worker is woken.
     line: Arc<Line>,
     /// Whether its sender is to go back: its stream was reset, or has ended.
     is_through: bool,
 }
 
-/// The calls whose senders are with the writer's core.
+/// The calls whose senders are with the writer's core, in the same order.
 #[derive(Drop)]
-pub(crate) struct Sends {
-    calls: Vec<Sent>,
+pub(crate) struct Sends<J: Naming> {
+    pub(crate) calls: Vec<Sent<J>>,
     /// The way back.
-    home: RingIn<Box<Sending>>,
+    pub(crate) home: RingIn<Returning<J>>,
     /// Whether there may be senders that are to go back.
     are_some_through: bool,
-    /// That of a call that could not begin, for want of memory.
-    lost: Option<Box<Sending>>,
 }
 
-impl Sends {
-    pub(crate) fn new(alloc: Global, home: RingIn<Box<Sending>>) -> Sends {
+impl<J: Naming> Sends<J> {
+    ghost use Rattle.std.specs.Prelude.{◌≡◌, ◌<◌, ◌++◌, ◌∷◌, [], true, length, vec_len, vec_capacity};
+    ghost use Rattle.std.specs.Prelude.{IfNone, IfSome, OnErr, OnOk, Some, slice_get};
+    ghost use Rattle.lane.specs.Ring.{HasRoom, put_in};
+    ghost use Rattle.writerloop.specs.Sent.{Adds, HandsHome, HasNone, HasNoneBelow, IsAt, IsFirstOf};
+    ghost use Rattle.writerloop.specs.Sent.{IsLastOf, Passes, SameCalls, TakesLast, ids_of};
+
+    pub(crate) fn new(alloc: Global, home: RingIn<Returning<J>>) -> Sends<J>
+        ensures none { result.calls.items ≡ [] }
+        ensures home { result.home ≡ home }
+    {
         Sends {
             calls: Vec::new(alloc),
             home,
             are_some_through: false,
-            lost: None,
         }
     }
 
     /// How many there are.
-    pub(crate) fn len(&self) -> usize {
+    pub(crate) fn len(&self) -> usize
+        ensures { result ≡ length self.now.calls.items }
+    {
         self.calls.len()
     }
 
     /// The stream of the call at this place.
-    pub(crate) fn stream_at(&self, place: usize) -> Option<StreamId> {
+    pub(crate) fn stream_at(&self, place: usize) -> Option<StreamId>
+        ensures { result ≡ slice_get (ids_of self.now.calls.items) place }
+    {
         let call = self.calls.get(place)?;
         Some(call.id)
     }
 
-    /// The control that an order is, for the core. Without memory for a call that begins, the order comes back.
-    pub(crate) fn control_of(&mut self, order: Order) -> Result<Control<Sender<OutLane>>, Order> {
-        match split(order) {
-            Ok(control) => Ok(control),
-            Err((id, opening)) => self.begin(id, opening),
-        }
+    /// Makes room for one call more.
+    pub(crate) fn reserve(&mut self) -> Result<(), AllocError>
+        ensures calls { self.new.calls.items ≡ self.old.calls.items }
+        ensures room { OnOk result (vec_len self.new.calls < vec_capacity self.new.calls) }
+        ensures home { self.new.home ≡ self.old.home }
+    {
+        self.calls.reserve(1)
     }
 
-    /// A call begins.
-    fn begin(
-        &mut self,
-        id: StreamId,
-        opening: Opening,
-    ) -> Result<Control<Sender<OutLane>>, Order> {
-        if self.calls.reserve(1).is_err() {
-            return Err(Control::Open(id, opening));
-        }
-        let Opening { mut sending, line } = opening;
-        let Some(sender) = sending.sender.take() else {
-            return Err(Control::Open(id, Opening { sending, line }));
-        };
+    /// A call whose sender the core has, behind the others.
+    pub(crate) fn push_reserved(&mut self, id: StreamId, sending: Box<Sending<J>>, line: Arc<Line>)
+        requires room { vec_len self.old.calls < vec_capacity self.old.calls }
+        ensures adds { Adds id sending.value self.old.calls.items self.new.calls.items }
+        ensures home { self.new.home ≡ self.old.home }
+    {
         self.calls.push_reserved(Sent {
             id,
             sending,
             line,
             is_through: false,
         });
-        Ok(Control::Open(id, sender))
     }
 
-    /// The call that began last could not begin: its sender is to go back. No other begins behind it.
-    pub(crate) fn undo(&mut self, control: Control<Sender<OutLane>>) {
-        let Control::Open(_, sender) = control else {
-            return;
-        };
-        if let Some(Sent { mut sending, .. }) = self.calls.pop() {
-            sending.sender = Some(sender);
-            self.lost = Some(sending);
-        }
-    }
-
-    /// Has the sender of an order that isn't taken go back. Where there is no place for it the order comes back.
-    pub(crate) fn turn_back(&mut self, id: StreamId, opening: Opening) -> Result<(), Order> {
+    /// Has the sender of an order that isn't taken go back. Where there is no place for it the order's call comes back.
+    pub(crate) fn turn_back(&mut self, opening: Opening<J>) -> Result<(), Opening<J>>
+        ensures home { Passes opening result (put_in self.old.home) (put_in self.new.home) }
+        ensures calls { self.new.calls ≡ self.old.calls }
+    {
         opening.line.ring_for_room();
         if !self.has_place() {
-            return Err(Control::Open(id, opening));
+            return Err(opening);
         }
         let Opening { sending, .. } = opening;
-        self.send_home(sending);
+        self.send_home(Returning { sending });
         Ok(())
     }
 
     /// Whether there is a place for a sender on the way back.
-    pub(crate) fn has_place(&mut self) -> bool {
+    pub(crate) fn has_place(&mut self) -> bool
+        ensures free { result ≡ true → HasRoom self.new.home }
+        ensures put { put_in self.new.home ≡ put_in self.old.home }
+        ensures calls { self.new.calls ≡ self.old.calls }
+    {
         self.home.has_room()
     }
 
     /// Has a sender go back, for which there is a place.
-    fn send_home(&mut self, sending: Box<Sending>) {
-        if let Err(_full) = self.home.put(sending) {
+    fn send_home(&mut self, returning: Returning<J>)
+        requires room { HasRoom self.old.home }
+        ensures put { put_in self.new.home ≡ put_in self.old.home ++ returning ∷ [] }
+        ensures calls { self.new.calls ≡ self.old.calls }
+    {
+        if let Err(_full) = self.home.put(returning) {
             unreachable!();
         }
     }
 
-    /// The sender of a call goes back, for which there is a place.
-    pub(crate) fn hand_back(&mut self, id: StreamId, sender: Sender<OutLane>) {
-        if let Some(sending) = self.take(id, sender) {
-            self.send_home(sending);
-        }
+    /// The sender of the first call of this stream goes back, for which there is a place.
+    pub(crate) fn hand_back(&mut self, id: StreamId, sender: Sender<OutLane>)
+        requires room { HasRoom self.old.home }
+        requires whose { IsFirstOf id sender self.old.calls.items }
+        ensures home { HandsHome id sender self.old.calls.items self.new.calls.items
+            (put_in self.old.home) (put_in self.new.home) }
+    {
+        let returning = self.take(id, sender);
+        self.send_home(returning);
     }
 
-    /// The sender of a call that could not begin.
-    pub(crate) fn take_lost(&mut self) -> Option<Box<Sending>> {
-        self.lost.take()
-    }
-
-    /// The sender of a call, in its box.
-    pub(crate) fn take(&mut self, id: StreamId, sender: Sender<OutLane>) -> Option<Box<Sending>> {
-        let place = self.place_of(id)?;
+    /// The sender of the first call of this stream, in its box.
+    pub(crate) fn take(&mut self, id: StreamId, sender: Sender<OutLane>) -> Returning<J>
+        requires whose { IsFirstOf id sender self.old.calls.items }
+        ensures home { HandsHome id sender self.old.calls.items self.new.calls.items
+            (put_in self.old.home) (put_in self.old.home ++ result ∷ []) }
+        ensures way { self.new.home ≡ self.old.home }
+    {
+        let Some(place) = self.place_of(id) else {
+            unreachable!();
+        };
         let Sent { mut sending, .. } = self.calls.swap_remove(place);
         sending.sender = Some(sender);
-        Some(sending)
+        Returning { sending }
     }
 
-    /// The place of the call of this stream.
-    fn place_of(&self, id: StreamId) -> Option<usize> {
-        self.calls.iter().position(|call| call.id == id)
+    /// The sender of the last call, in its box.
+    pub(crate) fn take_last(&mut self, sender: Sender<OutLane>) -> Returning<J>
+        requires whose { IsLastOf sender self.old.calls.items }
+        ensures takes { TakesLast sender self.old.calls.items self.new.calls.items result }
+        ensures way { self.new.home ≡ self.old.home }
+    {
+        let Some(Sent { mut sending, .. }) = self.calls.pop() else {
+            unreachable!();
+        };
+        sending.sender = Some(sender);
+        Returning { sending }
+    }
+
+    /// The end of the way back that puts.
+    pub(crate) fn into_home(self) -> RingIn<Returning<J>>
+        ensures { result ≡ self.home }
+    {
+        let Sends { home, .. } = self;
+        home
+    }
+
+    /// The place of the first call of this stream.
+    fn place_of(&self, id: StreamId) -> Option<usize>
+        ensures some { IfSome result (λ place. IsAt id place self.now.calls.items) }
+        ensures first { IfSome result (λ place. HasNoneBelow place id self.now.calls.items) }
+        ensures none { IfNone result (HasNone id self.now.calls.items) }
+    {
+        for place in 0..self.calls.len() {
+            if let Some(call) = self.calls.get(place) {
+                if call.id == id {
+                    return Some(place);
+                }
+            }
+        }
+        None
     }
 
     /// The sender of this stream's call is to go back, where there is such a call.
-    pub(crate) fn note_through(&mut self, id: StreamId) {
+    pub(crate) fn note_through(&mut self, id: StreamId)
+        ensures same { SameCalls self.old.calls.items self.new.calls.items }
+        ensures home { self.new.home ≡ self.old.home }
+    {
         let Some(place) = self.place_of(id) else {
             return;
         };
@@ -159,7 +202,10 @@ impl Sends {
     }
 
     /// Those that are to go back are looked at now.
-    pub(crate) fn look_through(&mut self) {
+    pub(crate) fn look_through(&mut self)
+        ensures calls { self.new.calls ≡ self.old.calls }
+        ensures home { self.new.home ≡ self.old.home }
+    {
         self.are_some_through = false;
     }
 
@@ -196,21 +242,5 @@ impl Sends {
         for call in &self.calls {
             call.line.ring_for_room();
         }
-    }
-}
-
-/// The control that an order is where no call begins by it; else which call begins.
-fn split(order: Order) -> Result<Control<Sender<OutLane>>, (StreamId, Opening)> {
-    match order {
-        Control::Open(id, opening) => Err((id, opening)),
-        Control::Settings(settings) => Ok(Control::Settings(settings)),
-        Control::Ping(bytes) => Ok(Control::Ping(bytes)),
-        Control::Probe(bytes) => Ok(Control::Probe(bytes)),
-        Control::Window(id, increment) => Ok(Control::Window(id, increment)),
-        Control::Refuse(id, fields) => Ok(Control::Refuse(id, fields)),
-        Control::Reset { id, code, written } => Ok(Control::Reset { id, code, written }),
-        Control::Goaway { last, code } => Ok(Control::Goaway { last, code }),
-        Control::InputEnded => Ok(Control::InputEnded),
-        Control::Close => Ok(Control::Close),
     }
 }

@@ -1,0 +1,9 @@
+pub mod BlamedSteps
+pub mod CallSteps
+pub mod CreditSteps
+pub mod EndSteps
+pub mod OrderSteps
+pub mod SentSteps
+pub mod WrittenSteps
+pub mod SpelledLemmas
+pub mod WroteSteps
