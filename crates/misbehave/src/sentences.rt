@@ -77,7 +77,7 @@ const ALL_CALLS_GO_WELL: Rule = Rule {
 
 const PADDED_CALL_GOES_WELL: Rule = Rule {
     standard: GRPC_TESTS,
-    section: "data_frame_padding",
+    section: "data_frame_padding (RFC 9113 has no sentence for it)",
     sentence: "This test verifies that the client can correctly receive padded http2 data frames.",
 };
 

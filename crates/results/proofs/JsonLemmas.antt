@@ -4,7 +4,7 @@ use Rattle.std.specs.Ordering.{match_ordering}
 use Rattle.std.specs.Cmp.Lexicographic.{slice_cmp}
 use Rattle.serde_json.specs.Data.{Data, Members, array, member, no_members, put, string}
 use Rattle.serde_json.specs.View.{items_of}
-use Rattle.serde_json.specs.Written.{has_float, items_have_float, members_have_float}
+use Rattle.serde_json.specs.Written.{compact_text, has_float, items_have_float, members_have_float}
 use Rattle.results.specs.Json.{hex_data, json_text, number_data, ending_list, outcome_data, rule_list, standing_data, subject_list, text_data, traffic_list, with_all}
 use Rattle.results.specs.declared.outcome.Outcome.{Outcome}
 use Rattle.results.specs.declared.outcome.Rule.{Rule}
@@ -86,3 +86,8 @@ outcome_plain outcome =
 pub line_plain : (line : List ℕ) (v d : Data) → v ≡ d → has_float d ≡ false → (has_float v ≡ false → line ≡ json_text v) → line ≡ json_text d
 line_plain line v d same plain told =
     subst (λ (x : Data). line ≡ json_text x) same (told (subst (λ (x : Data). has_float x ≡ false) (sym same) plain))
+
+-- a value's text, where the value is this one
+pub compact_plain : (text : List ℕ) (v d : Data) → v ≡ d → has_float d ≡ false → (has_float v ≡ false → text ≡ compact_text v) → text ≡ compact_text d
+compact_plain text v d same plain told =
+    subst (λ (x : Data). text ≡ compact_text x) same (told (subst (λ (x : Data). has_float x ≡ false) (sym same) plain))

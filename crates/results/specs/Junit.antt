@@ -6,7 +6,7 @@ use Rattle.results.specs.Causes.{cause_of, details_of}
 use Rattle.results.specs.Standings.{fails_the_run, standing_of}
 use Rattle.results.specs.Summaries.{same_verdict}
 use Rattle.results.specs.Words.{level_word, suite_word, verdict_word}
-use Rattle.results.specs.Xml.{attribute, xml_text}
+use Rattle.results.specs.Xml.{attributes, element, empty_element, xml_text}
 use Rattle.results.specs.declared.known.Known.{Known}
 use Rattle.results.specs.declared.outcome.Outcome.{Outcome}
 use Rattle.results.specs.declared.standing.Standing.{Standing}
@@ -18,41 +18,45 @@ use Rattle.results.specs.declared.words.Verdict.{Verdict}
 abbrev pub is_skipped : Outcome → Bool
 is_skipped outcome = not (fails_the_run outcome) && not (same_verdict outcome.verdict Verdict.Ok)
 
--- a digit of a number
-abbrev pub digit : ℕ → ℕ
-digit number = 48 + number % 10
-
 -- milliseconds as seconds with three places
 abbrev pub seconds : ℕ → List ℕ
 seconds milliseconds =
-    codes " time=\"" ++ decimal (milliseconds / 1000) ++ codes "."
-    ++ digit (milliseconds / 100) ∷ digit (milliseconds / 10) ∷ digit milliseconds ∷ codes "\""
+    decimal (milliseconds / 1000) ++ codes "." ++ decimal (milliseconds / 100 % 10)
+    ++ decimal (milliseconds / 10 % 10) ++ decimal (milliseconds % 10)
 
--- how many cases there are, fail and are skipped
-abbrev pub numbers : List Outcome → List ℕ
-numbers outcomes =
-    codes " tests=\"" ++ decimal (length outcomes) ++ codes "\" failures=\"" ++ decimal (count_by fails_the_run outcomes)
-    ++ codes "\" skipped=\"" ++ decimal (count_by is_skipped outcomes) ++ codes "\" errors=\"0\""
-
--- what the attributes of all suites and of one have
-unfoldable pub counts : Suite → List Outcome → ℕ → List ℕ
+-- what all suites and one have: how many cases there are, fail and are skipped, and how long they took
+abbrev pub counts : Suite → List Outcome → ℕ → List (List ℕ × List ℕ)
 counts suite outcomes milliseconds =
-    attribute (codes "name") (suite_word suite) ++ numbers outcomes ++ seconds milliseconds
+    (codes "name", suite_word suite)
+    ∷ (codes "tests", decimal (length outcomes))
+    ∷ (codes "failures", decimal (count_by fails_the_run outcomes))
+    ∷ (codes "skipped", decimal (count_by is_skipped outcomes))
+    ∷ (codes "errors", codes "0")
+    ∷ (codes "time", seconds milliseconds)
+    ∷ []
 
 -- ` (LEVEL)`, where there is one
 abbrev pub level_note : Option Level → List ℕ
 level_note None = []
 level_note (Some level) = codes " (" ++ level_word level ++ codes ")"
 
+-- the verdict on an outcome, its level and why it isn't ok
+abbrev pub plain_message : Outcome → List ℕ
+plain_message outcome = verdict_word outcome.verdict ++ level_note outcome.level ++ codes ": " ++ cause_of outcome
+
+-- what is said of one on the list of known failures
+abbrev pub known_message : Option Known → Outcome → List ℕ
+known_message None outcome = plain_message outcome
+known_message (Some known) outcome = codes "known: " ++ string_bytes known.reason
+
 -- what is said of an outcome in one line
-abbrev pub message_by : Standing → Option Known → Outcome → List ℕ
-message_by Standing.Mended known outcome = codes "no longer fails: take it off the list of known failures"
-message_by Standing.Known (Some known) outcome = codes "known: " ++ string_bytes known.reason
-message_by Standing.Known None outcome = verdict_word outcome.verdict ++ level_note outcome.level ++ codes ": " ++ cause_of outcome
-message_by Standing.AsFound known outcome = verdict_word outcome.verdict ++ level_note outcome.level ++ codes ": " ++ cause_of outcome
+abbrev pub message_by : Standing → Outcome → List ℕ
+message_by Standing.Mended outcome = codes "no longer fails: take it off the list of known failures"
+message_by Standing.Known outcome = known_message outcome.known outcome
+message_by Standing.AsFound outcome = plain_message outcome
 
 abbrev pub message_of : Outcome → List ℕ
-message_of outcome = message_by (standing_of outcome) outcome.known outcome
+message_of outcome = message_by (standing_of outcome) outcome
 
 abbrev pub type_by : Standing → Verdict → List ℕ
 type_by Standing.Mended verdict = codes "no longer fails"
@@ -60,29 +64,33 @@ type_by Standing.AsFound verdict = verdict_word verdict
 type_by Standing.Known verdict = verdict_word verdict
 
 -- a failure, where it fails the run; else skipped
-unfoldable pub inside : Outcome → List ℕ
+abbrev pub inside : Outcome → List ℕ
 inside outcome =
     if fails_the_run outcome
-    then codes "<failure" ++ attribute (codes "message") (message_of outcome)
-        ++ attribute (codes "type") (type_by (standing_of outcome) outcome.verdict) ++ codes ">"
-        ++ xml_text (details_of outcome) ++ codes "</failure>"
-    else codes "<skipped" ++ attribute (codes "message") (message_of outcome) ++ codes "/><system-out>"
-        ++ xml_text (details_of outcome) ++ codes "</system-out>"
+    then element (codes "failure")
+    ((codes "message", xml_text (message_of outcome)) ∷ (codes "type", type_by (standing_of outcome) outcome.verdict) ∷ [])
+    (xml_text (details_of outcome))
+    else empty_element (codes "skipped") ((codes "message", xml_text (message_of outcome)) ∷ [])
+    ++ element (codes "system-out") [] (xml_text (details_of outcome))
+
+abbrev pub case_attributes : Outcome → List (List ℕ × List ℕ)
+case_attributes outcome =
+    (codes "classname", suite_word outcome.suite)
+    ∷ (codes "name", xml_text (string_bytes outcome.name))
+    ∷ (codes "time", seconds outcome.milliseconds)
+    ∷ []
 
 -- a case; one that is ok has nothing inside
 abbrev pub case_text : Outcome → List ℕ
 case_text outcome =
-    codes "<testcase" ++ attribute (codes "classname") (suite_word outcome.suite)
-    ++ attribute (codes "name") (string_bytes outcome.name) ++ seconds outcome.milliseconds
-    ++ (if fails_the_run outcome || is_skipped outcome then codes ">" ++ inside outcome ++ codes "</testcase>\n" else codes "/>\n")
+    (if fails_the_run outcome || is_skipped outcome
+    then element (codes "testcase") (case_attributes outcome) (inside outcome)
+    else empty_element (codes "testcase") (case_attributes outcome)) ++ codes "\n"
 
--- the document before its cases
-abbrev pub head : Suite → List Outcome → ℕ → List ℕ
-head suite outcomes milliseconds =
-    codes "<?xml version=\"1.0\" encoding=\"UTF-8\"?>\n<testsuites" ++ counts suite outcomes milliseconds
-    ++ codes ">\n<testsuite" ++ counts suite outcomes milliseconds ++ codes ">\n"
-
--- the document
+-- the document: all suites, with one of them, which has a case for each outcome
 abbrev pub document : Suite → List Outcome → ℕ → List ℕ
 document suite outcomes milliseconds =
-    head suite outcomes milliseconds ++ flat_map case_text outcomes ++ codes "</testsuite>\n</testsuites>\n"
+    codes "<?xml version=\"1.0\" encoding=\"UTF-8\"?>\n"
+    ++ element (codes "testsuites") (counts suite outcomes milliseconds)
+    (codes "\n" ++ element (codes "testsuite") (counts suite outcomes milliseconds) (codes "\n" ++ flat_map case_text outcomes) ++ codes "\n")
+    ++ codes "\n"

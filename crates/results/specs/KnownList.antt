@@ -80,6 +80,13 @@ IsWrongAfter before found KnownReason.Twice = (found.reason ≢ []) × Contains 
 abbrev pub IsRightAfter : List Entry → Entry → Type 0
 IsRightAfter before found = (found.reason ≢ []) × ¬ Contains (names before) found.name
 
+-- why the line with this number is wrong after these entries
+abbrev pub IsFaultOf : List Entry → ℕ → List ℕ → KnownFault → Type 0
+IsFaultOf before number line (fault.BadLine place name reason) =
+    (found : Entry) × (entry_of line ≡ Some found) × (place ≡ number) × (found.name ≡ name.now)
+    × IsWrongAfter before found reason
+IsFaultOf before number line fault.OutOfMemory = ⊤
+
 -- the first line that is wrong has this number, and begins with this name
 abbrev pub IsFirstWrong : List (List ℕ) → ℕ → List ℕ → KnownReason → Type 0
 IsFirstWrong all number name reason =

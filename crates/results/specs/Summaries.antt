@@ -69,7 +69,7 @@ abbrev pub levels_text : Summary → List ℕ
 levels_text summary =
     if (summary.failed_must == 0) && (summary.failed_should == 0) && (summary.failed_ours == 0) then []
     else codes " (" ++ decimal summary.failed_must ++ codes " must, " ++ decimal summary.failed_should ++ codes " should, "
-        ++ decimal summary.failed_ours ++ codes " ours)"
+    ++ decimal summary.failed_ours ++ codes " ours)"
 
 -- how many there are, are ok, and failed
 abbrev pub first_counts : Suite → Summary → List ℕ

@@ -39,20 +39,26 @@ abbrev pub point_of : Outcome → Point
 point_of outcome = if fails_the_run outcome then Point.Fails else lenient_point outcome.verdict
 
 abbrev pub status : Point → List ℕ
-status Point.Passes = codes "ok "
-status Point.Fails = codes "not ok "
-status Point.Skips = codes "ok "
-status Point.Todo = codes "not ok "
+status Point.Passes = codes "ok"
+status Point.Fails = codes "not ok"
+status Point.Skips = codes "ok"
+status Point.Todo = codes "not ok"
 
 -- why there is a directive
-abbrev pub why_by : Standing → Option Known → Outcome → List ℕ
-why_by Standing.Known (Some known) outcome = string_bytes known.reason
-why_by Standing.Known None outcome = verdict_word outcome.verdict ++ codes ": " ++ cause_of outcome
-why_by Standing.Mended known outcome = verdict_word outcome.verdict ++ codes ": " ++ cause_of outcome
-why_by Standing.AsFound known outcome = verdict_word outcome.verdict ++ codes ": " ++ cause_of outcome
+abbrev pub plain_why : Outcome → List ℕ
+plain_why outcome = verdict_word outcome.verdict ++ codes ": " ++ cause_of outcome
+
+abbrev pub known_why : Option Known → Outcome → List ℕ
+known_why None outcome = plain_why outcome
+known_why (Some known) outcome = string_bytes known.reason
+
+abbrev pub why_by : Standing → Outcome → List ℕ
+why_by Standing.Known outcome = known_why outcome.known outcome
+why_by Standing.Mended outcome = plain_why outcome
+why_by Standing.AsFound outcome = plain_why outcome
 
 abbrev pub why : Outcome → List ℕ
-why outcome = why_by (standing_of outcome) outcome.known outcome
+why outcome = why_by (standing_of outcome) outcome
 
 abbrev pub directive : Point → Outcome → List ℕ
 directive Point.Passes outcome = []
@@ -75,9 +81,9 @@ rule_entries None = []
 rule_entries (Some rule) =
     entry (codes "rule") (Some (string_bytes rule.place)) ++ entry (codes "sentence") (option_map string_bytes rule.sentence)
 
--- what stands after a test point that isn't ok
-unfoldable pub block_text : Outcome → List ℕ
-block_text outcome =
+-- what stands after a test point that isn't ok: a block of YAML, indented by two blanks
+abbrev pub yaml_block : Outcome → List ℕ
+yaml_block outcome =
     codes "  ---\n"
     ++ entry (codes "verdict") (Some (verdict_note (standing_of outcome) outcome.verdict))
     ++ entry (codes "level") (option_map level_word outcome.level)
@@ -90,12 +96,12 @@ block_text outcome =
 abbrev pub block_of : Point → Outcome → List ℕ
 block_of Point.Passes outcome = []
 block_of Point.Skips outcome = []
-block_of Point.Fails outcome = block_text outcome
-block_of Point.Todo outcome = block_text outcome
+block_of Point.Fails outcome = yaml_block outcome
+block_of Point.Todo outcome = yaml_block outcome
 
--- a test point: `not ok 3 - wire grpc/4`
+-- a test point, with a directive where it isn't to count: `not ok 3 - wire grpc/4`
 abbrev pub point_text : ℕ → Outcome → List ℕ
 point_text number outcome =
-    status (point_of outcome) ++ decimal number ++ codes " - " ++ suite_word outcome.suite ++ codes " "
-    ++ escaped (string_bytes outcome.name) ++ directive (point_of outcome) outcome ++ 10 ∷ []
+    status (point_of outcome) ++ codes " " ++ decimal number ++ codes " - " ++ suite_word outcome.suite ++ codes " "
+    ++ escaped (string_bytes outcome.name) ++ directive (point_of outcome) outcome ++ codes "\n"
     ++ block_of (point_of outcome) outcome

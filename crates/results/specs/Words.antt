@@ -1,5 +1,6 @@
 -- The words of suites, verdicts and levels.
-use Rattle.std.specs.Prelude.{◌≢◌, ℕ, List, [], ◌∷◌, codes}
+use Rattle.std.specs.Prelude.{ℕ, List, Option, Some, None, if◌then◌else◌, codes}
+use Rattle.std.specs.Str.{bytes_eq}
 use Rattle.results.specs.declared.words.Suite.{Suite}
 use Rattle.results.specs.declared.words.Verdict.{Verdict}
 use Rattle.results.specs.declared.words.Level.{Level}
@@ -24,10 +25,10 @@ level_word Level.Must = codes "must"
 level_word Level.Should = codes "should"
 level_word Level.Ours = codes "ours"
 
--- all levels, the most binding first
-abbrev pub levels : List Level
-levels = Level.Must ∷ Level.Should ∷ Level.Ours ∷ []
-
--- no level has this word
-abbrev pub IsNoLevel : List ℕ → Type 0
-IsNoLevel word = (level : Level) → level_word level ≢ word
+-- the level of a word, if it is one's
+abbrev pub level_named : List ℕ → Option Level
+level_named word =
+    if bytes_eq word (codes "must") then Some Level.Must
+    else if bytes_eq word (codes "should") then Some Level.Should
+    else if bytes_eq word (codes "ours") then Some Level.Ours
+    else None

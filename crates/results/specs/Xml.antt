@@ -26,6 +26,14 @@ char_text c =
 abbrev pub xml_text : List ℕ → List ℕ
 xml_text text = flat_map char_text (chars text)
 
--- ` NAME="VALUE"`
-abbrev pub attribute : List ℕ → List ℕ → List ℕ
-attribute name value = 32 ∷ (name ++ codes "=\"" ++ xml_text value ++ codes "\"")
+-- attributes with their values as they are written: ` NAME="VALUE"` for each (section 3.1)
+abbrev pub attributes : List (List ℕ × List ℕ) → List ℕ
+attributes all = flat_map (λ (each : List ℕ × List ℕ). codes " " ++ each.0 ++ codes "=\"" ++ each.1 ++ codes "\"") all
+
+-- an element with content, and one without (section 3.1)
+abbrev pub element : List ℕ → List (List ℕ × List ℕ) → List ℕ → List ℕ
+element name all content =
+    codes "<" ++ name ++ attributes all ++ codes ">" ++ content ++ codes "</" ++ name ++ codes ">"
+
+abbrev pub empty_element : List ℕ → List (List ℕ × List ℕ) → List ℕ
+empty_element name all = codes "<" ++ name ++ attributes all ++ codes "/>"

@@ -1,10 +1,10 @@
 //! Why a case isn't ok, in one line, and in more.
 
-ghost use Rattle.std.specs.Prelude.{◌≡◌, ◌++◌, OnOk, option_map, string_bytes};
+ghost use Rattle.std.specs.Prelude.{◌≡◌, ◌++◌, IfOk, OnOk, option_map, string_bytes};
 ghost use Rattle.results.specs.Causes.{cause_of, detail, details_of, rule_details};
 
 use crate::outcome::{Outcome, Rule};
-use std::alloc::AllocError;
+use std::alloc::{AllocError, Global};
 
 /// Adds why a case isn't ok, in one line without its end: the reason where there is one, else what was wanted and what came,
 /// else the verdict's word.
@@ -32,11 +32,7 @@ pub fn push_cause(text: &mut String, outcome: &Outcome) -> Result<(), AllocError
 }
 
 /// Adds a line with a name and a text, where there is one.
-fn push_detail(
-    text: &mut String,
-    name: &str,
-    value: &Option<String>,
-) -> Result<(), AllocError>
+fn push_detail(text: &mut String, name: &str, value: &Option<String>) -> Result<(), AllocError>
     ensures { OnOk result (string_bytes text.new
         ≡ string_bytes text.old ++ detail name.now (option_map string_bytes value.now)) }
 {
@@ -72,4 +68,13 @@ pub fn push_details(text: &mut String, outcome: &Outcome) -> Result<(), AllocErr
     push_detail(text, "came", &outcome.came)?;
     push_detail(text, "reason", &outcome.reason)?;
     push_rule(text, &outcome.rule)
+}
+
+/// Why a case isn't ok, in one line without its end.
+pub(crate) fn cause_text(alloc: Global, outcome: &Outcome) -> Result<String, AllocError>
+    ensures { IfOk result (λ text. string_bytes text ≡ cause_of outcome.now) }
+{
+    let mut text = String::new(alloc);
+    push_cause(&mut text, outcome)?;
+    Ok(text)
 }

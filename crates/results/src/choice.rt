@@ -59,7 +59,10 @@ impl<'a, T: Drop> From<AllocFailed<T>> for ChoiceFault<'a> {
 impl<'a> fmt::Display for ChoiceFault<'a> {
     fn fmt<W: fmt::Write>(&self, f: &mut fmt::Formatter<W>) -> fmt::Result {
         match *self {
-            ChoiceFault::NoCase(word) => write!(f, "{word} is the name of no case: --list prints all"),
+            ChoiceFault::NoCase(word) => write!(
+                f,
+                "{word} is the name of no case: --list prints all"
+            ),
             ChoiceFault::NothingLeft => f.write_str("--skip and --level leave no case"),
             ChoiceFault::OutOfMemory => f.write_str("no memory was to be had"),
         }
@@ -82,12 +85,7 @@ impl<'a> Entry<'a> {
     fn is_chosen_by_any(&self, words: &[&str]) -> bool
         ensures { IsTrue result ↔ Any (λ word. IsChosenBy self.now word.now) words.now }
     {
-        for word in words {
-            if self.is_chosen_by(word) {
-                return true;
-            }
-        }
-        false
+        words.iter().any(|word| self.is_chosen_by(word))
     }
 
     /// Whether it binds as much as a level.
@@ -127,12 +125,7 @@ impl<'w, 'a> Choice<'w, 'a> {
 fn chooses_any(word: &str, entries: &[Entry<'_>]) -> bool
     ensures { IsTrue result ↔ Any (λ entry. IsChosenBy entry word.now) entries.now }
 {
-    for entry in entries {
-        if entry.is_chosen_by(word) {
-            return true;
-        }
-    }
-    false
+    entries.iter().any(|entry| entry.is_chosen_by(word))
 }
 
 /// The first of some words that chooses no case.

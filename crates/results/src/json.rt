@@ -6,10 +6,11 @@ ghost use Rattle.serde_json.specs.View.{members_view, view};
 ghost use Rattle.serde_json.specs.Written.{has_float};
 ghost use Rattle.results.specs.Json.{count_members, ending_members, json_text, number_data, outcome_data, rule_members, hex_data, standing_data, subject_members, summary_data, text_data, texts_data, traffic_members};
 
+use crate::known::Known;
 use crate::outcome::{Outcome, Rule, shown};
 use crate::standing::Standing;
 use crate::summary::Summary;
-use crate::words::Suite;
+use crate::words::{Suite, level_word};
 use serde_json::{Map, Value, put};
 use std::alloc::{AllocError, Global};
 
@@ -93,23 +94,34 @@ fn standing_word(standing: Standing) -> Option<&'static str>
     }
 }
 
+/// The reason of a known failure, if it is one.
+fn known_reason(known: &Option<Known>) -> Option<&str>
+    ensures { option_map (λ shown. shown.now) result
+        ≡ option_map (λ known. string_bytes known.reason) known.now }
+{
+    match known {
+        Some(known) => Some(known.reason.as_str()),
+        None => None,
+    }
+}
+
+/// A number of 32 bits, if there is one, as one of 64.
+fn wide(number: Option<u32>) -> Option<u64>
+    ensures { result ≡ number }
+{
+    match number {
+        Some(number) => Some(u64::from(number)),
+        None => None,
+    }
+}
+
 /// Puts in which case it is, and what became of it.
-fn put_subject(
-    alloc: Global,
-    object: &mut Object,
-    outcome: &Outcome,
-) -> Result<(), AllocError>
+fn put_subject(alloc: Global, object: &mut Object, outcome: &Outcome) -> Result<(), AllocError>
     ensures { OnOk result (members_view object.new.entries
         ≡ subject_members outcome.now (members_view object.old.entries)) }
 {
-    let level = match outcome.level {
-        Some(level) => Some(level.name()),
-        None => None,
-    };
-    let known = match &outcome.known {
-        Some(known) => Some(known.reason.as_str()),
-        None => None,
-    };
+    let level = level_word(outcome.level);
+    let known = known_reason(&outcome.known);
     put_text(alloc, object, "suite", Some(outcome.suite.name()))?;
     put_text(alloc, object, "name", Some(outcome.name.as_str()))?;
     put_text(alloc, object, "title", shown(&outcome.title))?;
@@ -121,35 +133,28 @@ fn put_subject(
 }
 
 /// Puts in a rule, or null in the place of each of its parts.
-fn put_rule(
-    alloc: Global,
-    object: &mut Object,
-    rule: &Option<Rule>,
-) -> Result<(), AllocError>
+fn put_rule(alloc: Global, object: &mut Object, rule: &Option<Rule>) -> Result<(), AllocError>
     ensures { OnOk result (members_view object.new.entries
         ≡ rule_members rule.now (members_view object.old.entries)) }
 {
-    let (place, sentence) = match rule {
-        Some(rule) => (Some(rule.place.as_str()), shown(&rule.sentence)),
-        None => (None, None),
-    };
-    put_text(alloc, object, "rule", place)?;
-    put_text(alloc, object, "sentence", sentence)
+    match rule {
+        Some(rule) => {
+            put_text(alloc, object, "rule", Some(rule.place.as_str()))?;
+            put_text(alloc, object, "sentence", shown(&rule.sentence))
+        }
+        None => {
+            put_text(alloc, object, "rule", None)?;
+            put_text(alloc, object, "sentence", None)
+        }
+    }
 }
 
 /// Puts in what was wanted, what came, and how long it took.
-fn put_ending(
-    alloc: Global,
-    object: &mut Object,
-    outcome: &Outcome,
-) -> Result<(), AllocError>
+fn put_ending(alloc: Global, object: &mut Object, outcome: &Outcome) -> Result<(), AllocError>
     ensures { OnOk result (members_view object.new.entries
         ≡ ending_members outcome.now (members_view object.old.entries)) }
 {
-    let fault = match outcome.fault {
-        Some(fault) => Some(u64::from(fault)),
-        None => None,
-    };
+    let fault = wide(outcome.fault);
     put_text(alloc, object, "wanted", shown(&outcome.wanted))?;
     put_text(alloc, object, "came", shown(&outcome.came))?;
     put_text(alloc, object, "reason", shown(&outcome.reason))?;
@@ -160,11 +165,7 @@ fn put_ending(
 }
 
 /// Puts in what was sent and read.
-fn put_traffic(
-    alloc: Global,
-    object: &mut Object,
-    outcome: &Outcome,
-) -> Result<(), AllocError>
+fn put_traffic(alloc: Global, object: &mut Object, outcome: &Outcome) -> Result<(), AllocError>
     ensures { OnOk result (members_view object.new.entries
         ≡ traffic_members outcome.now (members_view object.old.entries)) }
 {
@@ -189,12 +190,7 @@ fn value_of(alloc: Global, outcome: &Outcome) -> Result<Value, AllocError>
 }
 
 /// Puts in a count.
-fn put_count(
-    alloc: Global,
-    object: &mut Object,
-    key: &str,
-    count: usize,
-) -> Result<(), AllocError>
+fn put_count(alloc: Global, object: &mut Object, key: &str, count: usize) -> Result<(), AllocError>
     ensures { OnOk result (members_view object.new.entries
         ≡ with_member key.now (number_data (Some count)) (members_view object.old.entries)) }
 {
@@ -202,11 +198,7 @@ fn put_count(
 }
 
 /// Puts in the counts of a summary.
-fn put_counts(
-    alloc: Global,
-    object: &mut Object,
-    summary: &Summary,
-) -> Result<(), AllocError>
+fn put_counts(alloc: Global, object: &mut Object, summary: &Summary) -> Result<(), AllocError>
     ensures { OnOk result (members_view object.new.entries
         ≡ count_members summary.now (members_view object.old.entries)) }
 {

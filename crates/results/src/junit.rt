@@ -3,33 +3,28 @@
 //! A case has a `failure` exactly where it fails the run. One that isn't ok and doesn't fail it is `skipped`.
 
 ghost use Rattle.std.specs.Prelude.{◌≡◌, ◌++◌, IfOk, OnOk, count_by, string_bytes};
-ghost use Rattle.results.specs.Junit.{case_text, counts, digit, document, head, inside, is_skipped, level_note, message_of, numbers, seconds, type_by};
+ghost use Rattle.std.specs.List.{flat_map};
+ghost use Rattle.results.specs.Causes.{details_of};
+ghost use Rattle.results.specs.Junit.{case_attributes, case_text, counts, document, inside, is_skipped, known_message, level_note, message_of, plain_message, seconds, type_by};
 ghost use Rattle.results.specs.Standings.{standing_of};
+ghost use Rattle.results.specs.Xml.{attributes, xml_text};
 
-use crate::cause::{push_cause, push_details};
+use crate::cause::{cause_text, push_details};
 use crate::outcome::Outcome;
 use crate::standing::{Standing, failure_count};
 use crate::words::{Level, Suite, Verdict};
-use crate::xml::{push_attribute, push_text};
+use crate::xml::escaped;
 use std::alloc::{AllocError, Global};
 
-/// The digit of a number's last place.
-fn last_digit(number: u64) -> char
-    ensures { result ≡ digit number }
-{
-    char::from(b'0' + (number % 10) as u8)
-}
-
-/// Adds a number of milliseconds as seconds with three places.
-fn push_seconds(xml: &mut String, milliseconds: u64) -> Result<(), AllocError>
-    ensures { OnOk result (string_bytes xml.new ≡ string_bytes xml.old ++ seconds milliseconds) }
+/// A number of milliseconds as seconds with three places.
+fn seconds(alloc: Global, milliseconds: u64) -> Result<String, AllocError>
+    ensures { IfOk result (λ text. string_bytes text ≡ seconds milliseconds) }
 {
     let whole = milliseconds / 1_000;
-    write!(xml, " time=\"{whole}.")?;
-    xml.push(last_digit(milliseconds / 100))?;
-    xml.push(last_digit(milliseconds / 10))?;
-    xml.push(last_digit(milliseconds))?;
-    xml.push_str("\"")
+    let tenths = milliseconds / 100 % 10;
+    let hundredths = milliseconds / 10 % 10;
+    let thousandths = milliseconds % 10;
+    format!(in alloc; "{whole}.{tenths}{hundredths}{thousandths}")
 }
 
 /// Whether an outcome is skipped: it isn't ok, and doesn't fail the run.
@@ -49,68 +44,77 @@ fn skipped_count(outcomes: &[Outcome]) -> usize
         .count()
 }
 
-/// Adds how many cases there are, fail and are skipped.
-fn push_numbers(xml: &mut String, outcomes: &[Outcome]) -> Result<(), AllocError>
-    ensures { OnOk result (string_bytes xml.new ≡ string_bytes xml.old ++ numbers outcomes.now) }
-{
-    let tests = outcomes.len();
-    let failures = failure_count(outcomes);
-    let skipped = skipped_count(outcomes);
-    write!(
-        xml,
-        " tests=\"{tests}\" failures=\"{failures}\" skipped=\"{skipped}\" errors=\"0\""
-    )
-}
-
-/// Adds the attributes of a suite, or of all.
-fn push_counts(
+/// The attributes of a suite, or of all.
+fn counts_text(
     alloc: Global,
-    xml: &mut String,
     suite: Suite,
     outcomes: &[Outcome],
     milliseconds: u64,
-) -> Result<(), AllocError>
-    ensures { OnOk result (string_bytes xml.new
-        ≡ string_bytes xml.old ++ counts suite outcomes.now milliseconds) }
+) -> Result<String, AllocError>
+    ensures { IfOk result (λ text. string_bytes text
+        ≡ attributes (counts suite outcomes.now milliseconds)) }
 {
-    push_attribute(alloc, xml, "name", suite.name())?;
-    push_numbers(xml, outcomes)?;
-    push_seconds(xml, milliseconds)
+    let name = suite.name();
+    let tests = outcomes.len();
+    let failures = failure_count(outcomes);
+    let skipped = skipped_count(outcomes);
+    let time = seconds(alloc, milliseconds)?;
+    format!(in alloc;
+        " name=\"{name}\" tests=\"{tests}\" failures=\"{failures}\" skipped=\"{skipped}\" errors=\"0\" time=\"{time}\""
+    )
 }
 
-/// Adds a level, if there is one.
-fn push_level(text: &mut String, level: Option<Level>) -> Result<(), AllocError>
-    ensures { OnOk result (string_bytes text.new ≡ string_bytes text.old ++ level_note level) }
+/// A level in parentheses, if there is one.
+fn level_note(alloc: Global, level: Option<Level>) -> Result<String, AllocError>
+    ensures { IfOk result (λ text. string_bytes text ≡ level_note level) }
 {
-    let Some(level) = level else {
-        return Ok(());
-    };
-    text.push_str(" (")?;
-    text.push_str(level.name())?;
-    text.push_str(")")
+    match level {
+        Some(level) => {
+            let word = level.name();
+            format!(in alloc; " ({word})")
+        }
+        None => Ok(String::new(alloc)),
+    }
+}
+
+/// The verdict on an outcome, its level and why it isn't ok, in one line.
+fn plain_message(alloc: Global, outcome: &Outcome) -> Result<String, AllocError>
+    ensures { IfOk result (λ message. string_bytes message ≡ plain_message outcome.now) }
+{
+    let verdict = outcome.verdict.name();
+    let level = level_note(alloc, outcome.level)?;
+    let cause = cause_text(alloc, outcome)?;
+    format!(in alloc; "{verdict}{level}: {cause}")
+}
+
+/// What is said of an outcome on the list of known failures.
+fn known_message(alloc: Global, outcome: &Outcome) -> Result<String, AllocError>
+    ensures { IfOk result (λ message. string_bytes message
+        ≡ known_message outcome.now.known outcome.now) }
+{
+    match &outcome.known {
+        Some(known) => {
+            let reason = known.reason.as_str();
+            format!(in alloc; "known: {reason}")
+        }
+        None => plain_message(alloc, outcome),
+    }
 }
 
 /// What is said of an outcome that isn't simply ok, in one line.
 fn message_of(alloc: Global, outcome: &Outcome) -> Result<String, AllocError>
     ensures { IfOk result (λ message. string_bytes message ≡ message_of outcome.now) }
 {
-    let mut message = String::new(alloc);
-    match (outcome.standing(), &outcome.known) {
-        (Standing::Mended, _) => {
-            message.push_str("no longer fails: take it off the list of known failures")?;
+    match outcome.standing() {
+        Standing::Mended => {
+            String::from_str(
+                alloc,
+                "no longer fails: take it off the list of known failures",
+            )
         }
-        (Standing::Known, Some(known)) => {
-            message.push_str("known: ")?;
-            message.push_str(known.reason.as_str())?;
-        }
-        _ => {
-            message.push_str(outcome.verdict.name())?;
-            push_level(&mut message, outcome.level)?;
-            message.push_str(": ")?;
-            push_cause(&mut message, outcome)?;
-        }
+        Standing::Known => known_message(alloc, outcome),
+        Standing::AsFound => plain_message(alloc, outcome),
     }
-    Ok(message)
 }
 
 /// The type of a failure: the verdict, or that it is mended.
@@ -123,62 +127,62 @@ fn failure_type(outcome: &Outcome) -> &'static str
     }
 }
 
-/// Adds what is inside of a case that isn't simply ok.
-fn push_inside(alloc: Global, xml: &mut String, outcome: &Outcome) -> Result<(), AllocError>
-    ensures { OnOk result (string_bytes xml.new ≡ string_bytes xml.old ++ inside outcome.now) }
+/// What is known of an outcome, as XML has it.
+fn details_text(alloc: Global, outcome: &Outcome) -> Result<String, AllocError>
+    ensures { IfOk result (λ text. string_bytes text ≡ xml_text (details_of outcome.now)) }
 {
-    let message = message_of(alloc, outcome)?;
     let mut details = String::new(alloc);
     push_details(&mut details, outcome)?;
+    escaped(alloc, details.as_str())
+}
+
+/// What is inside of a case that isn't simply ok.
+fn inside_text(alloc: Global, outcome: &Outcome) -> Result<String, AllocError>
+    ensures { IfOk result (λ text. string_bytes text ≡ inside outcome.now) }
+{
+    let told = message_of(alloc, outcome)?;
+    let message = escaped(alloc, told.as_str())?;
+    let details = details_text(alloc, outcome)?;
     if outcome.fails_the_run() {
-        xml.push_str("<failure")?;
-        push_attribute(alloc, xml, "message", message.as_str())?;
-        push_attribute(alloc, xml, "type", failure_type(outcome))?;
-        xml.push_str(">")?;
-        push_text(alloc, xml, details.as_str())?;
-        xml.push_str("</failure>")
+        let kind = failure_type(outcome);
+        format!(in alloc; "<failure message=\"{message}\" type=\"{kind}\">{details}</failure>")
     } else {
-        xml.push_str("<skipped")?;
-        push_attribute(alloc, xml, "message", message.as_str())?;
-        xml.push_str("/><system-out>")?;
-        push_text(alloc, xml, details.as_str())?;
-        xml.push_str("</system-out>")
+        format!(in alloc; "<skipped message=\"{message}\"/><system-out>{details}</system-out>")
     }
+}
+
+/// The attributes of a case.
+fn case_attributes(alloc: Global, outcome: &Outcome) -> Result<String, AllocError>
+    ensures { IfOk result (λ text. string_bytes text ≡ attributes (case_attributes outcome.now)) }
+{
+    let suite = outcome.suite.name();
+    let name = escaped(alloc, outcome.name.as_str())?;
+    let time = seconds(alloc, outcome.milliseconds)?;
+    format!(in alloc; " classname=\"{suite}\" name=\"{name}\" time=\"{time}\"")
 }
 
 /// Adds a case.
 fn push_case(alloc: Global, xml: &mut String, outcome: &Outcome) -> Result<(), AllocError>
     ensures { OnOk result (string_bytes xml.new ≡ string_bytes xml.old ++ case_text outcome.now) }
 {
-    xml.push_str("<testcase")?;
-    push_attribute(alloc, xml, "classname", outcome.suite.name())?;
-    push_attribute(alloc, xml, "name", outcome.name.as_str())?;
-    push_seconds(xml, outcome.milliseconds)?;
+    let attributes = case_attributes(alloc, outcome)?;
     if outcome.fails_the_run() || is_skipped(outcome) {
-        xml.push_str(">")?;
-        push_inside(alloc, xml, outcome)?;
-        xml.push_str("</testcase>\n")
+        let inside = inside_text(alloc, outcome)?;
+        writeln!(xml, "<testcase{attributes}>{inside}</testcase>")
     } else {
-        xml.push_str("/>\n")
+        writeln!(xml, "<testcase{attributes}/>")
     }
 }
 
-/// Adds the document before its cases.
-fn push_head(
-    alloc: Global,
-    xml: &mut String,
-    suite: Suite,
-    outcomes: &[Outcome],
-    milliseconds: u64,
-) -> Result<(), AllocError>
-    ensures { OnOk result (string_bytes xml.new
-        ≡ string_bytes xml.old ++ head suite outcomes.now milliseconds) }
+/// The cases of a suite.
+fn cases_text(alloc: Global, outcomes: &[Outcome]) -> Result<String, AllocError>
+    ensures { IfOk result (λ text. string_bytes text ≡ flat_map case_text outcomes.now) }
 {
-    xml.push_str("<?xml version=\"1.0\" encoding=\"UTF-8\"?>\n<testsuites")?;
-    push_counts(alloc, xml, suite, outcomes, milliseconds)?;
-    xml.push_str(">\n<testsuite")?;
-    push_counts(alloc, xml, suite, outcomes, milliseconds)?;
-    xml.push_str(">\n")
+    let mut xml = String::new(alloc);
+    for outcome in outcomes {
+        push_case(alloc, &mut xml, outcome)?;
+    }
+    Ok(xml)
 }
 
 /// Adds a document with the outcomes of a run, which took so many milliseconds.
@@ -192,9 +196,11 @@ pub fn push_junit(
     ensures { OnOk result (string_bytes xml.new
         ≡ string_bytes xml.old ++ document suite outcomes.now milliseconds) }
 {
-    push_head(alloc, xml, suite, outcomes, milliseconds)?;
-    for outcome in outcomes {
-        push_case(alloc, xml, outcome)?;
-    }
-    xml.push_str("</testsuite>\n</testsuites>\n")
+    let counts = counts_text(alloc, suite, outcomes, milliseconds)?;
+    let cases = cases_text(alloc, outcomes)?;
+    xml.push_str("<?xml version=\"1.0\" encoding=\"UTF-8\"?>\n")?;
+    write!(
+        xml,
+        "<testsuites{counts}>\n<testsuite{counts}>\n{cases}</testsuite>\n</testsuites>\n"
+    )
 }

@@ -3,13 +3,13 @@
 //! A line is blank, or a comment that begins with `#`, or a name, a space, and the reason why it may fail. The reason may
 //! begin with the word `sometimes`: then the case may pass too.
 
-ghost use Rattle.std.specs.Prelude.{◌≡◌, ◌==◌, ◌++◌, IfErr, IfOk, IfNone, IfSome, OnOk, find, map, option_map, string_bytes};
+ghost use Rattle.std.specs.Prelude.{◌≡◌, ◌==◌, [], ◌∷◌, ◌++◌, IfErr, IfOk, IfNone, IfSome, OnOk, find, map, option_map, string_bytes};
 ghost use Rattle.std.specs.List.{after_first, before_first};
 ghost use Rattle.std.specs.Str.Lines.{lines};
-ghost use Rattle.results.specs.KnownList.{AreGood, Explains, IsRightAfter, IsWrongAfter, after_word, entries, entry, entry_by, entry_of, first_word, has_name, is_stray, line_by, list_text, listed_text, listing, reason_of, said};
+ghost use Rattle.results.specs.KnownList.{AreGood, Explains, IsFaultOf, IsRightAfter, IsWrongAfter, after_word, entries, entry, entry_by, entry_of, first_word, has_name, is_stray, line_by, list_text, listed_text, listing, reason_of, said};
 ghost use Rattle.results.specs.declared.known.KnownFault.TheVariants.{OutOfMemory};
 
-use crate::cause::push_cause;
+use crate::cause::cause_text;
 use crate::outcome::Outcome;
 use crate::words::{Suite, Verdict};
 use std::alloc::{AllocError, AllocFailed, Global};
@@ -84,6 +84,19 @@ struct Said<'a> {
     name: &'a str,
     reason: &'a str,
     is_unsteady: bool,
+}
+
+impl Said<'_> {
+    /// The known failure that it tells of.
+    fn known(self, alloc: Global) -> Result<Known, AllocError>
+        ensures { IfOk result (λ known. entry known ≡ said self.entry) }
+    {
+        Ok(Known {
+            name: String::from_str(alloc, self.name)?,
+            reason: String::from_str(alloc, self.reason)?,
+            is_unsteady: self.is_unsteady,
+        })
+    }
 }
 
 /// What stands before the first space, and what stands after it.
@@ -175,23 +188,36 @@ fn read_lines<'a>(alloc: Global, all_lines: &[&'a str]) -> Result<Vec<Known>, Kn
 {
     let mut all = Vec::new(alloc);
     for (place, line) in all_lines.iter().enumerate() {
-        let Some(said) = said_in(line) else {
-            continue;
-        };
-        if let Some(reason) = fault_of(all.as_slice(), said) {
-            return Err(KnownFault::BadLine {
-                line: place.saturating_add(1),
-                name: said.name,
-                reason,
-            });
-        }
-        all.push(Known {
-            name: String::from_str(alloc, said.name)?,
-            reason: String::from_str(alloc, said.reason)?,
-            is_unsteady: said.is_unsteady,
-        })?;
+        push_named(alloc, &mut all, place + 1, line)?;
     }
     Ok(all)
+}
+
+/// Adds the known failure that the line with this number names, if it names one.
+fn push_named<'a>(
+    alloc: Global,
+    all: &mut Vec<Known>,
+    number: usize,
+    line: &'a str,
+) -> Result<(), KnownFault<'a>>
+    ensures entries { OnOk result (map entry all.new.items
+        ≡ map entry all.old.items ++ entries (line.now ∷ [])) }
+    ensures good { OnOk result
+        (AreGood (map entry all.old.items) → AreGood (map entry all.new.items)) }
+    ensures refused { IfErr result (IsFaultOf (map entry all.old.items) number line.now) }
+{
+    let Some(said) = said_in(line) else {
+        return Ok(());
+    };
+    if let Some(reason) = fault_of(all.as_slice(), said) {
+        return Err(KnownFault::BadLine {
+            line: number,
+            name: said.name,
+            reason,
+        });
+    }
+    all.push(said.known(alloc)?)?;
+    Ok(())
 }
 
 /// The known failure of this name.
@@ -239,13 +265,8 @@ fn push_line(
     ensures { OnOk result (string_bytes text.new
         ≡ string_bytes text.old ++ line_by name.now is_unsteady reason.now) }
 {
-    text.push_str(name)?;
-    text.push_str("  ")?;
-    if is_unsteady {
-        text.push_str("sometimes ")?;
-    }
-    text.push_str(reason)?;
-    text.push_str("\n")
+    let sometimes = if is_unsteady { "sometimes " } else { "" };
+    writeln!(text, "{name}  {sometimes}{reason}")
 }
 
 /// Whether a case may pass too, if it may fail by what was known and what came of it.
@@ -272,11 +293,7 @@ fn reason_of(alloc: Global, outcome: &Outcome) -> Result<String, AllocError>
 {
     match &outcome.known {
         Some(known) => String::from_str(alloc, known.reason.as_str()),
-        None => {
-            let mut cause = String::new(alloc);
-            push_cause(&mut cause, outcome)?;
-            Ok(cause)
-        }
+        None => cause_text(alloc, outcome),
     }
 }
 

@@ -20,8 +20,6 @@ mod pattern;
 mod standing;
 mod summary;
 mod tap;
-#[cfg(test)]
-mod tests;
 mod words;
 mod xml;
 

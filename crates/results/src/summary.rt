@@ -121,7 +121,10 @@ fn push_first(text: &mut String, suite: Suite, summary: &Summary) -> Result<(), 
 {
     let name = suite.name();
     let Summary {
-        cases, ok, failed, ..
+        cases,
+        ok,
+        failed,
+        ..
     } = *summary;
     let noun = if cases == 1 { "case" } else { "cases" };
     write!(text, "{name}: {cases} {noun}, {ok} ok, {failed} failed")?;

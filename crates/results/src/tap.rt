@@ -5,19 +5,20 @@
 ghost use Rattle.std.specs.Prelude.{◌≡◌, ◌++◌, [], ◌∷◌, IfOk, OnOk, codes, option_map, string_bytes};
 ghost use Rattle.std.specs.Fmt.{decimal};
 ghost use Rattle.std.specs.List.{flat_map};
-ghost use Rattle.results.specs.Tap.{block_text, char_text, directive, entry, escaped, point_of, point_text, rule_entries, status, verdict_note, why};
+ghost use Rattle.serde_json.specs.Data.{string};
+ghost use Rattle.serde_json.specs.Written.{compact_text};
+ghost use Rattle.results.specs.Tap.{block_of, char_text, directive, entry, escaped, known_why, plain_why, point_of, point_text, rule_entries, status, verdict_note, why, yaml_block};
 ghost use Rattle.results.specs.Standings.{standing_of};
-ghost use Rattle.results.specs.Words.{level_word};
 
-use crate::cause::push_cause;
+use crate::cause::cause_text;
 use crate::outcome::{Outcome, Rule, shown};
 use crate::standing::Standing;
-use crate::words::{Level, Verdict};
+use crate::words::{Verdict, level_word};
 use serde_json::Value;
 use std::alloc::{AllocError, Global};
 
-/// The first line.
-pub const TAP_VERSION: &str = "TAP version 14\n";
+/// The first line. What follows is the same by version 14, whose number perl's `prove` takes for an error.
+pub const TAP_VERSION: &str = "TAP version 13\n";
 
 /// How a test point counts.
 #[derive(Clone, Copy)]
@@ -31,13 +32,13 @@ enum Point {
 }
 
 impl Point {
-    /// The words that a line begins with.
+    /// The words that its line begins with.
     fn status(self) -> &'static str
         ensures { result.now ≡ status self }
     {
         match self {
-            Point::Passes | Point::Skips => "ok ",
-            Point::Fails | Point::Todo => "not ok ",
+            Point::Passes | Point::Skips => "ok",
+            Point::Fails | Point::Todo => "not ok",
         }
     }
 }
@@ -79,94 +80,100 @@ fn push_chars(line: &mut String, all: &[char]) -> Result<(), AllocError>
     Ok(())
 }
 
-/// Adds a text to a test point's line: `#` and `\` have a `\` before them, and a line end is a blank.
-fn push_escaped(alloc: Global, line: &mut String, text: &str) -> Result<(), AllocError>
-    ensures { OnOk result (string_bytes line.new ≡ string_bytes line.old ++ escaped text.now) }
+/// A text as it stands in a test point's line: `#` and `\` have a `\` before them, and a line end is a blank.
+fn escaped(alloc: Global, text: &str) -> Result<String, AllocError>
+    ensures { IfOk result (λ line. string_bytes line ≡ escaped text.now) }
 {
     let all: Vec<char> = text.chars().collect(alloc)?;
-    push_chars(line, all.as_slice())
+    let mut line = String::new(alloc);
+    push_chars(&mut line, all.as_slice())?;
+    Ok(line)
+}
+
+/// The verdict on an outcome, and why it isn't ok.
+fn plain_why(alloc: Global, outcome: &Outcome) -> Result<String, AllocError>
+    ensures { IfOk result (λ text. string_bytes text ≡ plain_why outcome.now) }
+{
+    let verdict = outcome.verdict.name();
+    let cause = cause_text(alloc, outcome)?;
+    format!(in alloc; "{verdict}: {cause}")
+}
+
+/// Why an outcome on the list of known failures isn't to count.
+fn known_why(alloc: Global, outcome: &Outcome) -> Result<String, AllocError>
+    ensures { IfOk result (λ text. string_bytes text ≡ known_why outcome.now.known outcome.now) }
+{
+    match &outcome.known {
+        Some(known) => String::from_str(alloc, known.reason.as_str()),
+        None => plain_why(alloc, outcome),
+    }
 }
 
 /// Why a test point isn't to count.
 fn why_of(alloc: Global, outcome: &Outcome) -> Result<String, AllocError>
     ensures { IfOk result (λ text. string_bytes text ≡ why outcome.now) }
 {
-    let mut text = String::new(alloc);
-    match (outcome.standing(), &outcome.known) {
-        (Standing::Known, Some(known)) => text.push_str(known.reason.as_str())?,
-        _ => {
-            text.push_str(outcome.verdict.name())?;
-            text.push_str(": ")?;
-            push_cause(&mut text, outcome)?;
-        }
+    match outcome.standing() {
+        Standing::Known => known_why(alloc, outcome),
+        Standing::Mended | Standing::AsFound => plain_why(alloc, outcome),
     }
-    Ok(text)
 }
 
-/// Adds a directive, where there is one, and why it stands there.
-fn push_directive(
-    alloc: Global,
-    line: &mut String,
-    how: Point,
-    outcome: &Outcome,
-) -> Result<(), AllocError>
-    ensures { OnOk result (string_bytes line.new
-        ≡ string_bytes line.old ++ directive how outcome.now) }
+/// Why a test point isn't to count, as it stands in its line.
+fn escaped_why(alloc: Global, outcome: &Outcome) -> Result<String, AllocError>
+    ensures { IfOk result (λ text. string_bytes text ≡ escaped (why outcome.now)) }
+{
+    let why = why_of(alloc, outcome)?;
+    escaped(alloc, why.as_str())
+}
+
+/// A directive and why it stands there, where there is one.
+fn directive_text(alloc: Global, how: Point, outcome: &Outcome) -> Result<String, AllocError>
+    ensures { IfOk result (λ text. string_bytes text ≡ directive how outcome.now) }
 {
     match how {
-        Point::Passes | Point::Fails => return Ok(()),
-        Point::Skips => line.push_str(" # SKIP ")?,
-        Point::Todo => line.push_str(" # TODO ")?,
+        Point::Passes | Point::Fails => Ok(String::new(alloc)),
+        Point::Skips => {
+            let why = escaped_why(alloc, outcome)?;
+            format!(in alloc; " # SKIP {why}")
+        }
+        Point::Todo => {
+            let why = escaped_why(alloc, outcome)?;
+            format!(in alloc; " # TODO {why}")
+        }
     }
-    let why = why_of(alloc, outcome)?;
-    push_escaped(alloc, line, why.as_str())
 }
 
-/// Adds a line of a block, where there is a text for it. A text of JSON is one of YAML.
-fn push_entry(
-    alloc: Global,
-    block: &mut String,
-    name: &str,
-    text: Option<&str>,
-) -> Result<(), AllocError>
-    ensures { OnOk result (string_bytes block.new
-        ≡ string_bytes block.old ++ entry name.now (option_map (λ shown. shown.now) text.entry)) }
+/// A text as JSON has it.
+fn quoted(alloc: Global, text: &str) -> Result<String, AllocError>
+    ensures { IfOk result (λ json. string_bytes json ≡ compact_text (string text.now)) }
+{
+    let value = Value::try_from_str(alloc, text)?;
+    value.to_string(alloc)
+}
+
+/// A line of a block, where there is a text for it. A text of JSON is one of YAML.
+fn entry(alloc: Global, name: &str, text: Option<&str>) -> Result<String, AllocError>
+    ensures { IfOk result (λ line. string_bytes line
+        ≡ entry name.now (option_map (λ shown. shown.now) text.entry)) }
 {
     let Some(text) = text else {
-        return Ok(());
+        return Ok(String::new(alloc));
     };
-    let quoted = Value::try_from_str(alloc, text)?.to_string(alloc)?;
-    block.push_str("  ")?;
-    block.push_str(name)?;
-    block.push_str(": ")?;
-    block.push_str(quoted.as_str())?;
-    block.push_str("\n")
+    let json = quoted(alloc, text)?;
+    format!(in alloc; "  {name}: {json}\n")
 }
 
-/// Adds the lines of a rule, if there is one.
-fn push_rule(
-    alloc: Global,
-    block: &mut String,
-    rule: &Option<Rule>,
-) -> Result<(), AllocError>
-    ensures { OnOk result (string_bytes block.new
-        ≡ string_bytes block.old ++ rule_entries rule.now) }
+/// The lines of a rule, if there is one.
+fn rule_entries(alloc: Global, rule: &Option<Rule>) -> Result<String, AllocError>
+    ensures { IfOk result (λ lines. string_bytes lines ≡ rule_entries rule.now) }
 {
     let Some(rule) = rule else {
-        return Ok(());
+        return Ok(String::new(alloc));
     };
-    push_entry(alloc, block, "rule", Some(rule.place.as_str()))?;
-    push_entry(alloc, block, "sentence", shown(&rule.sentence))
-}
-
-/// The word of a level, if there is one.
-fn level_word(level: Option<Level>) -> Option<&'static str>
-    ensures { option_map (λ shown. shown.now) result ≡ option_map level_word level }
-{
-    match level {
-        Some(level) => Some(level.name()),
-        None => None,
-    }
+    let place = entry(alloc, "rule", Some(rule.place.as_str()))?;
+    let sentence = entry(alloc, "sentence", shown(&rule.sentence))?;
+    format!(in alloc; "{place}{sentence}")
 }
 
 /// What a block says of the verdict.
@@ -179,18 +186,27 @@ fn verdict_note(outcome: &Outcome) -> &'static str
     }
 }
 
-/// Adds the block of a test point that isn't ok.
-fn push_block(alloc: Global, block: &mut String, outcome: &Outcome) -> Result<(), AllocError>
-    ensures { OnOk result (string_bytes block.new ≡ string_bytes block.old ++ block_text outcome.now) }
+/// The block of a test point that isn't ok.
+fn yaml_block(alloc: Global, outcome: &Outcome) -> Result<String, AllocError>
+    ensures { IfOk result (λ block. string_bytes block ≡ yaml_block outcome.now) }
 {
-    block.push_str("  ---\n")?;
-    push_entry(alloc, block, "verdict", Some(verdict_note(outcome)))?;
-    push_entry(alloc, block, "level", level_word(outcome.level))?;
-    push_entry(alloc, block, "wanted", shown(&outcome.wanted))?;
-    push_entry(alloc, block, "came", shown(&outcome.came))?;
-    push_entry(alloc, block, "reason", shown(&outcome.reason))?;
-    push_rule(alloc, block, &outcome.rule)?;
-    block.push_str("  ...\n")
+    let verdict = entry(alloc, "verdict", Some(verdict_note(outcome)))?;
+    let level = entry(alloc, "level", level_word(outcome.level))?;
+    let wanted = entry(alloc, "wanted", shown(&outcome.wanted))?;
+    let came = entry(alloc, "came", shown(&outcome.came))?;
+    let reason = entry(alloc, "reason", shown(&outcome.reason))?;
+    let rule = rule_entries(alloc, &outcome.rule)?;
+    format!(in alloc; "  ---\n{verdict}{level}{wanted}{came}{reason}{rule}  ...\n")
+}
+
+/// What stands after a test point.
+fn block_of(alloc: Global, how: Point, outcome: &Outcome) -> Result<String, AllocError>
+    ensures { IfOk result (λ block. string_bytes block ≡ block_of how outcome.now) }
+{
+    match how {
+        Point::Passes | Point::Skips => Ok(String::new(alloc)),
+        Point::Fails | Point::Todo => yaml_block(alloc, outcome),
+    }
 }
 
 /// Adds the test point of an outcome, with this number from 1 on.
@@ -204,17 +220,15 @@ pub fn push_tap(
         ≡ string_bytes text.old ++ point_text number outcome.now) }
 {
     let how = point_of(outcome);
-    text.push_str(how.status())?;
-    write!(text, "{number} - ")?;
-    text.push_str(outcome.suite.name())?;
-    text.push_str(" ")?;
-    push_escaped(alloc, text, outcome.name.as_str())?;
-    push_directive(alloc, text, how, outcome)?;
-    text.push_str("\n")?;
-    match how {
-        Point::Passes | Point::Skips => Ok(()),
-        Point::Fails | Point::Todo => push_block(alloc, text, outcome),
-    }
+    let status = how.status();
+    let suite = outcome.suite.name();
+    let name = escaped(alloc, outcome.name.as_str())?;
+    let directive = directive_text(alloc, how, outcome)?;
+    let block = block_of(alloc, how, outcome)?;
+    write!(
+        text,
+        "{status} {number} - {suite} {name}{directive}\n{block}"
+    )
 }
 
 /// Adds the plan: how many test points there are.

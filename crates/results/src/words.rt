@@ -1,7 +1,7 @@
 //! The words for what came of a case.
 
-ghost use Rattle.std.specs.Prelude.{◌≡◌, IfNone, IfSome};
-ghost use Rattle.results.specs.Words.{IsNoLevel, level_word, suite_word, verdict_word};
+ghost use Rattle.std.specs.Prelude.{◌≡◌, option_map};
+ghost use Rattle.results.specs.Words.{level_named, level_word, suite_word, verdict_word};
 
 /// The command that runs a case.
 #[derive(Clone, Copy, Debug, PartialEq, Eq)]
@@ -69,9 +69,6 @@ impl Verdict {
 }
 
 impl Level {
-    /// All levels, the most binding first.
-    pub const ALL: [Level; 3] = [Level::Must, Level::Should, Level::Ours];
-
     /// Its word.
     pub fn name(self) -> &'static str
         ensures { result.now ≡ level_word self }
@@ -85,12 +82,23 @@ impl Level {
 
     /// The level of a word.
     pub fn named(word: &str) -> Option<Level>
-        ensures some { IfSome result (λ level. level_word level ≡ word.now) }
-        ensures none { IfNone result (IsNoLevel word.now) }
+        ensures { result ≡ level_named word.now }
     {
-        Level::ALL
-            .iter()
-            .find(|level| level.name() == word)
-            .copied()
+        match word {
+            "must" => Some(Level::Must),
+            "should" => Some(Level::Should),
+            "ours" => Some(Level::Ours),
+            _ => None,
+        }
+    }
+}
+
+/// The word of a level, if there is one.
+pub(crate) fn level_word(level: Option<Level>) -> Option<&'static str>
+    ensures { option_map (λ word. word.now) result ≡ option_map level_word level }
+{
+    match level {
+        Some(level) => Some(level.name()),
+        None => None,
     }
 }

@@ -1,8 +1,8 @@
 //! Texts in XML (XML 1.0, fifth edition).
 
-ghost use Rattle.std.specs.Prelude.{◌≡◌, ◌++◌, OnOk, string_bytes};
+ghost use Rattle.std.specs.Prelude.{◌≡◌, ◌++◌, IfOk, OnOk, string_bytes};
 ghost use Rattle.std.specs.List.{flat_map};
-ghost use Rattle.results.specs.Xml.{attribute, char_text, is_allowed, xml_text};
+ghost use Rattle.results.specs.Xml.{char_text, is_allowed, xml_text};
 
 use std::alloc::{AllocError, Global};
 
@@ -46,26 +46,18 @@ fn push_chars(xml: &mut String, all: &[char]) -> Result<(), AllocError>
 }
 
 /// Adds a text.
-pub fn push_text(alloc: Global, xml: &mut String, text: &str) -> Result<(), AllocError>
+fn push_text(alloc: Global, xml: &mut String, text: &str) -> Result<(), AllocError>
     ensures { OnOk result (string_bytes xml.new ≡ string_bytes xml.old ++ xml_text text.now) }
 {
     let all: Vec<char> = text.chars().collect(alloc)?;
     push_chars(xml, all.as_slice())
 }
 
-/// Adds an attribute.
-pub fn push_attribute(
-    alloc: Global,
-    xml: &mut String,
-    name: &str,
-    value: &str,
-) -> Result<(), AllocError>
-    ensures { OnOk result (string_bytes xml.new
-        ≡ string_bytes xml.old ++ attribute name.now value.now) }
+/// A text as it stands in an element's content and in an attribute's value.
+pub fn escaped(alloc: Global, text: &str) -> Result<String, AllocError>
+    ensures { IfOk result (λ xml. string_bytes xml ≡ xml_text text.now) }
 {
-    xml.push_str(" ")?;
-    xml.push_str(name)?;
-    xml.push_str("=\"")?;
-    push_text(alloc, xml, value)?;
-    xml.push_str("\"")
+    let mut xml = String::new(alloc);
+    push_text(alloc, &mut xml, text)?;
+    Ok(xml)
 }

@@ -13,9 +13,9 @@ use crate::progress::Progress;
 use crate::saved::{is_saved, save};
 use device::{ConnWrite, write_all};
 use results::{
-    Known, KnownFault, Outcome, Standing, Suite, fail_the_run, json_line, json_summary,
-    known_named, push_junit, push_plan, push_summary, push_tap, read_known, stray, summary_of,
-    write_known,
+    Known, KnownFault, Outcome, Standing, Suite, TAP_VERSION, fail_the_run, json_line,
+    json_summary, known_named, push_junit, push_plan, push_summary, push_tap, read_known, stray,
+    summary_of, write_known,
 };
 use std::alloc::{AllocError, Global};
 use std::io::Write;
@@ -25,9 +25,6 @@ use words::Reporting;
 
 /// The name by which a file is standard output.
 const STANDARD: &str = "-";
-
-/// The first line of TAP. Version 14 has the same lines and another number, which perl's `prove` takes for an error.
-const TAP_BEGIN: &str = "TAP version 13\n";
 
 /// A run of cases.
 #[derive(Clone, Copy)]
@@ -188,7 +185,7 @@ impl<'a, R: Files + Clock + Eprint + AllocGlobal + Drop> Sinks<'a, R> {
         let number = self.outcomes.len().saturating_add(1);
         let mut text = String::new(self.alloc);
         if number == 1 {
-            text.push_str(TAP_BEGIN)?;
+            text.push_str(TAP_VERSION)?;
         }
         push_tap(self.alloc, &mut text, number, outcome)?;
         self.print(text.as_bytes(), output)

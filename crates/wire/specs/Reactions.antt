@@ -1,5 +1,5 @@
 -- Which errors a server said, and what a judgment of its reactions rests on.
-use Rattle.std.specs.Prelude.{◌≡◌, ⊤, ℕ, ◌==◌, nat_le, Bool, true, false, ◌||◌, not, List, Option, Some, None, if◌then◌else◌, length}
+use Rattle.std.specs.Prelude.{◌≡◌, ⊤, ℕ, ◌==◌, nat_le, Bool, true, false, ◌||◌, not, List, Option, Some, None, is_none, ◌&&◌, if◌then◌else◌, length}
 use Rattle.std.specs.Ordering.{nat_cmp}
 use Rattle.std.specs.List.{All, list_any}
 use Rattle.std.specs.BTreeMap.{get}
@@ -41,6 +41,10 @@ Judges seen (reaction.Acks count) held = held ≡ (seen.acks == count)
 Judges seen (reaction.Largest most) held = held ≡ nat_le seen.largest most
 Judges seen reaction.Orderly held = held ≡ not seen.late
 Judges seen other held = ⊤
+
+-- the connection ended before anything came that could be judged
+abbrev pub was_shut : Seen → Bool
+was_shut seen = seen.closed && (not seen.any_frame && (not seen.text && is_none seen.wrong))
 
 -- the server did nothing that no server may, and all that is asked for holds
 pub record IsLawful (seen : Seen) (lawful : Lawful) : Type 0 where

@@ -1,8 +1,8 @@
 //! One try of a case, over one connection: its steps in order, and then a wait for a lawful reaction.
 
-ghost use Rattle.std.specs.Prelude.{IfOk, IsTrue};
+ghost use Rattle.std.specs.Prelude.{◌≡◌, false, IfOk, IsTrue};
 ghost use Rattle.std.specs.List.{Any};
-ghost use Rattle.wire.specs.Reactions.{IsLawful};
+ghost use Rattle.wire.specs.Reactions.{IsLawful, was_shut};
 
 use crate::announced::{Announced, Need};
 use crate::case::Case;
@@ -22,6 +22,9 @@ const PADDED_LEN: u64 = 257;
 
 /// The greatest number of streams that a step opens.
 const MOST_STREAMS: u64 = 10_000;
+
+/// So many connections are made where the server ends each before it says anything.
+const MOST_CONNECTIONS: usize = 3;
 
 /// The greatest number of a stream, without the reserved bit.
 const STREAM_MASK: u32 = 0x7fff_ffff;
@@ -60,24 +63,26 @@ pub struct Try {
     pub sent: Vec<u8>,
 }
 
-/// Tries a case over a connection on which nothing was said: as it stands, or without its fault.
+/// Tries a case over a connection of its own: as it stands, or without its fault.
+///
+/// # Errors
+///
+/// `NoConnection` where there is no connection to the server, or where it ends each before it says anything.
 pub fn try_case<V: Server>(
     alloc: Global,
     case: Case,
     pace: Pace,
     server: &V,
-    socket: V::Line,
     is_control: bool,
 ) -> Result<Try, WireFault> {
-    let mut talk = Talk::new(alloc, server, socket, pace)?;
     let mut reading = Reading {
         announced: Announced::FIRST,
         is_control,
     };
     let mut script = read_script(alloc, case.script, &reading)?;
     let is_bare = matches!(script.steps.as_slice().first(), Some(Step::Bare));
+    let mut talk = open(alloc, server, pace, is_bare)?;
     if !is_bare {
-        talk.greet()?;
         reading.announced = talk.seen.announced;
         script = read_script(alloc, case.script, &reading)?;
     }
@@ -96,12 +101,41 @@ pub fn try_case<V: Server>(
             }
         }
     };
+    if is_bare && talk.seen.was_shut() {
+        // It may have ended the connection for what the case said, or whatever is said.
+        let _greeted = open(alloc, server, pace, false)?;
+    }
     Ok(Try {
         judgment,
         lawful: script.lawful,
         seen: talk.seen,
         sent: talk.sent,
     })
+}
+
+/// A connection, on which the client greets the server, or leaves that to the case. A server that ends a connection before it says
+/// anything may have too many: another is tried.
+fn open<'a, V: Server>(
+    alloc: Global,
+    server: &'a V,
+    pace: Pace,
+    is_bare: bool,
+) -> Result<Talk<'a, V>, WireFault>
+    // Nothing is judged over a connection that was ended before anything came.
+    ensures greeted { IfOk result (λ talk. is_bare ≡ false → was_shut talk.seen ≡ false) }
+{
+    for _ in 0..MOST_CONNECTIONS {
+        let mut talk = Talk::new(alloc, server, server.connect()?, pace)?;
+        if is_bare {
+            return Ok(talk);
+        }
+        talk.greet()?;
+        if !talk.seen.was_shut() {
+            return Ok(talk);
+        }
+    }
+    let why = "the server ends each connection before its first frame";
+    Err(WireFault::NoConnection(String::from_str(alloc, why)?))
 }
 
 /// What a try without a lawful reaction is. A case that began before the server's SETTINGS came is read by them now.

@@ -7,8 +7,10 @@ use device::DeviceFault;
 use std::alloc::{AllocError, AllocFailed};
 
 /// Why cases were not run to their end.
-#[derive(Clone, Copy, Debug, PartialEq, Eq)]
+#[derive(Drop)]
 pub enum WireFault {
+    /// There is no connection to the server, for this reason.
+    NoConnection(String),
     /// A row of the tables can't be read: a fault of this program.
     BadRow,
     /// A line could not be written.

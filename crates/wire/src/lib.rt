@@ -36,7 +36,7 @@ pub use every::{every_case, list};
 pub use fault::WireFault;
 pub use group::Group;
 pub use outcome::Ended;
-pub use report::text_of;
+pub use report::{lost_text, text_of};
 pub use run::run_case;
 pub use server::{Pace, Server};
 pub use verdict::verdict_of;

@@ -131,8 +131,6 @@ pub enum Reaction {
 pub struct Lawful {
     /// What has to hold, all of it.
     pub all: Vec<Reaction>,
-    /// Its line, as it is printed.
-    pub text: &'static str,
 }
 
 /// Reads a line of lawful reactions.
@@ -145,7 +143,7 @@ pub fn read_lawful(
     for part in text.split(" and ") {
         all.push(read_reaction(alloc, part.trim(), reading)?)?;
     }
-    Ok(Lawful { all, text })
+    Ok(Lawful { all })
 }
 
 /// The first word of a text, and what stands behind the blank.

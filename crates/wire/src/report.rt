@@ -3,7 +3,7 @@
 use crate::case::Case;
 use crate::outcome::Ended;
 use crate::reaction::{Lawful, Reaction, push_codes};
-use crate::seen::SeenFrame;
+use crate::seen::{SeenFrame, stream_of};
 use h2frame::FrameKind;
 use results::{Outcome, Verdict};
 use std::alloc::{AllocError, Global};
@@ -51,6 +51,7 @@ fn push_line(text: &mut String, outcome: &Outcome) -> Result<(), AllocError> {
         Verdict::Failed => {
             write!(text, ": wanted {wanted}, came {came} -- failed")?;
             push_level(text, outcome)?;
+            push_rule(text, outcome)?;
         }
         Verdict::Unsteady => {
             let tries = outcome.tries;
@@ -79,6 +80,29 @@ fn push_level(text: &mut String, outcome: &Outcome) -> Result<(), AllocError> {
         }
         None => Ok(()),
     }
+}
+
+/// Adds what the case rests on: the standard and the section, and the sentence where it is known.
+fn push_rule(text: &mut String, outcome: &Outcome) -> Result<(), AllocError> {
+    let Some(rule) = &outcome.rule else {
+        return Ok(());
+    };
+    let place = rule.place.as_str();
+    write!(text, ": {place}")?;
+    match &rule.sentence {
+        Some(sentence) => {
+            let sentence = sentence.as_str();
+            write!(text, ": {sentence}")
+        }
+        None => Ok(()),
+    }
+}
+
+/// The line of a case that has no verdict, for this reason.
+pub fn lost_text(alloc: Global, case: &Case, why: &str) -> Result<String, AllocError> {
+    let name = case.name(alloc)?;
+    let title = case.title;
+    format!(in alloc; "wire {name} {title} .. not judged: {why}\n")
 }
 
 /// Adds what `--verbose` says of a case: its section, what came, what was written and which frames were read.
@@ -131,7 +155,7 @@ pub fn push_frame_line(text: &mut String, frame: &SeenFrame) -> Result<(), Alloc
 }
 
 /// The name of a type (RFC 9113, section 6).
-fn kind_name(kind: FrameKind) -> &'static str {
+pub fn kind_name(kind: FrameKind) -> &'static str {
     match kind {
         FrameKind::Data => "DATA",
         FrameKind::Headers => "HEADERS",
@@ -159,54 +183,126 @@ pub fn push_ways(text: &mut String, ways: &[Lawful]) -> Result<(), AllocError> {
 }
 
 impl Lawful {
-    /// Adds its reactions, in words.
+    /// Adds its reactions, in words. Where all are of stream 1, it isn't named.
     pub fn describe(&self, text: &mut String) -> Result<(), AllocError> {
-        match self.all.as_slice() {
-            [reaction] => reaction.describe(text, self.text),
-            _ => text.push_str(self.text),
+        let is_first = self
+            .all
+            .as_slice()
+            .iter()
+            .all(|reaction| reaction.stream() < 2);
+        for (place, reaction) in self.all.as_slice().iter().enumerate() {
+            if place > 0 {
+                text.push_str(" and ")?;
+            }
+            reaction.describe(text, is_first)?;
         }
+        Ok(())
     }
 }
 
 impl Reaction {
-    /// Adds it in words; those of the row where they say enough.
-    fn describe(&self, text: &mut String, row: &str) -> Result<(), AllocError> {
+    /// Adds it in words, with its stream, where that isn't the first and only one.
+    fn describe(&self, text: &mut String, is_first: bool) -> Result<(), AllocError> {
         match self {
-            Reaction::Connection(codes) => push_coded(text, "connection error ", codes, 1),
-            Reaction::Goaway(codes) => push_coded(text, "GOAWAY ", codes, 1),
-            Reaction::Reset { stream, codes } => push_coded(text, "RST_STREAM ", codes, *stream),
-            Reaction::Stream { stream, codes } => push_coded(text, "stream error ", codes, *stream),
-            Reaction::Status { stream, codes } => push_coded(text, "status ", codes, *stream),
-            Reaction::Http { stream, codes } => push_coded(text, ":status ", codes, *stream),
-            Reaction::Answered(stream) => push_on(text, "the whole response", *stream),
-            Reaction::Rejected(stream) => push_on(text, "an error response", *stream),
-            Reaction::Failed(stream) => push_on(text, "an error response, RST_STREAM", *stream),
-            Reaction::Live(stream) => push_on(text, "no RST_STREAM", *stream),
+            Reaction::Connection(codes) => push_coded(text, "connection error", codes),
+            Reaction::Goaway(codes) => push_coded(text, "GOAWAY", codes),
+            Reaction::Crowded(codes) => {
+                push_coded(text, "RST_STREAM", codes)?;
+                text.push_str(" on some stream")
+            }
             Reaction::Acks(count) => write!(text, "{count} acknowledgements of SETTINGS"),
-            Reaction::Orderly => text.push_str("nothing after the end of a stream"),
+            Reaction::Orderly => text.push_str("no DATA or HEADERS on a stream after its end"),
             Reaction::Closed => text.push_str("the end of the connection"),
             Reaction::Ignored => text.push_str("nothing but an answer to PING"),
             Reaction::Text => text.push_str("text of HTTP/1"),
             Reaction::First => text.push_str("SETTINGS as the first frame"),
-            _ => text.push_str(row),
+            Reaction::Settings => text.push_str("SETTINGS with lawful values"),
+            Reaction::Ping(content) => push_bytes(text, "PING with ACK and", content),
+            Reaction::Silent(content) => push_bytes(text, "no PING with ACK and", content),
+            Reaction::Total(count) => write!(text, "{count} bytes of DATA on all streams"),
+            Reaction::Most { stream: 0, count } => {
+                write!(text, "at most {count} bytes of DATA on all streams")
+            }
+            Reaction::Largest(most) => write!(text, "no DATA frame of over {most} bytes"),
+            Reaction::Same { stream, other } => {
+                write!(text, "the same statuses on streams {stream} and {other}")
+            }
+            _ => {
+                self.describe_on_stream(text)?;
+                push_stream(text, self.stream(), is_first)
+            }
+        }
+    }
+
+    /// Adds what is wanted on a stream, in words, without the stream.
+    fn describe_on_stream(&self, text: &mut String) -> Result<(), AllocError> {
+        match self {
+            Reaction::Reset { codes, .. } => push_coded(text, "RST_STREAM", codes),
+            Reaction::Stream { codes, .. } => push_coded(text, "stream error", codes),
+            Reaction::Status { codes, .. } => push_coded(text, "status", codes),
+            Reaction::Http { codes, .. } => push_coded(text, ":status", codes),
+            Reaction::Answered(_) => text.push_str("the whole response"),
+            Reaction::Rejected(_) => text.push_str("an error response"),
+            Reaction::Failed(_) => text.push_str("an error response, RST_STREAM"),
+            Reaction::Open(_) => text.push_str("no end and no RST_STREAM"),
+            Reaction::Live(_) => text.push_str("no RST_STREAM"),
+            Reaction::Nothing(_) => text.push_str("nothing"),
+            Reaction::Begun(_) => text.push_str("some DATA"),
+            Reaction::Single(_) => text.push_str("one header block and no DATA"),
+            Reaction::Data { count, .. } => write!(text, "{count} bytes of DATA"),
+            Reaction::Most { count, .. } => write!(text, "at most {count} bytes of DATA"),
+            Reaction::Replies { count: 1, .. } => text.push_str("one message"),
+            Reaction::Replies { count, .. } => write!(text, "{count} messages"),
+            Reaction::Reply { content, .. } => push_bytes(text, "a last message of", content),
+            Reaction::Has { content, .. } => push_bytes(text, "a message with", content),
+            Reaction::Block { front, .. } => push_bytes(text, "a header block from", front),
+            Reaction::Head { name, value, .. } => write!(text, "{name}: {value} in the head"),
+            Reaction::Begins { name, value, .. } => write!(text, "{name}: {value}.. in the head"),
+            Reaction::Trailer { name, value, .. } => {
+                write!(text, "{name}: {value} in the trailers")
+            }
+            Reaction::Without { name, .. } => write!(text, "no {name}"),
+            _ => Ok(()),
+        }
+    }
+
+    /// The stream of a reaction that has one.
+    fn stream(&self) -> u32 {
+        match self {
+            Reaction::Reset { stream, .. }
+            | Reaction::Stream { stream, .. }
+            | Reaction::Data { stream, .. }
+            | Reaction::Most { stream, .. } => *stream,
+            Reaction::Open(stream) | Reaction::Live(stream) | Reaction::Nothing(stream) => *stream,
+            _ => stream_of(self),
         }
     }
 }
 
-/// Adds what is wanted of a stream.
-fn push_on(text: &mut String, what: &str, stream: u32) -> Result<(), AllocError> {
-    text.push_str(what)?;
-    if stream != 1 {
-        write!(text, " on stream {stream}")?;
+/// Adds the stream of what is wanted, but for the first and only one.
+fn push_stream(text: &mut String, stream: u32, is_first: bool) -> Result<(), AllocError> {
+    if is_first {
+        return Ok(());
     }
-    Ok(())
+    write!(text, " on stream {stream}")
 }
 
-fn push_coded(text: &mut String, what: &str, codes: &[u32], stream: u32) -> Result<(), AllocError> {
+/// Adds numbers of which one is wanted, if any are named.
+fn push_coded(text: &mut String, what: &str, codes: &[u32]) -> Result<(), AllocError> {
     text.push_str(what)?;
-    push_codes(text, codes)?;
-    if stream != 1 {
-        write!(text, " on stream {stream}")?;
+    if codes.is_empty() {
+        return Ok(());
+    }
+    text.push_str(" ")?;
+    push_codes(text, codes)
+}
+
+/// Adds bytes that are wanted, in hexadecimal.
+fn push_bytes(text: &mut String, what: &str, bytes: &[u8]) -> Result<(), AllocError> {
+    text.push_str(what)?;
+    text.push_str(if bytes.is_empty() { " no bytes" } else { " " })?;
+    for byte in bytes {
+        write!(text, "{byte:02x}")?;
     }
     Ok(())
 }

@@ -7,7 +7,7 @@ use crate::outcome::{Ended, outcome_of};
 use crate::report::{push_frame_line, push_ways};
 use crate::seen::SeenFrame;
 use crate::server::{Pace, Server};
-use crate::step::has_control;
+use crate::step::{has_control, rounds_of};
 use crate::talk::Talk;
 use crate::verdict::verdict_of;
 use results::{Level, Outcome, Verdict};
@@ -22,6 +22,10 @@ fn tries_of(level: Level) -> usize {
 }
 
 /// Runs a case, over connections of its own.
+///
+/// # Errors
+///
+/// `NoConnection` where there is none for one of its tries: then there is no verdict.
 pub fn run_case<V: Server>(
     alloc: Global,
     case: Case,
@@ -31,16 +35,21 @@ pub fn run_case<V: Server>(
     let begun = server.now().ok_or(WireFault::ClockFailed)?;
     let mut outcome = match unfit_of_control(alloc, case, pace, server)? {
         Some(outcome) => outcome,
-        None => find(alloc, case, pace, server)?,
+        None => find(alloc, case, pace, server, begun)?,
     };
-    let now = server.now().ok_or(WireFault::ClockFailed)?;
-    outcome.milliseconds = now.saturating_sub(begun);
+    outcome.milliseconds = spent(server, begun)?;
     let is_alive = outcome.verdict != Verdict::Failed || is_alive(alloc, pace, server)?;
     Ok(Ended {
         case,
         outcome,
         is_alive,
     })
+}
+
+/// How many milliseconds have passed since then.
+fn spent<V: Server>(server: &V, begun: u64) -> Result<u64, WireFault> {
+    let now = server.now().ok_or(WireFault::ClockFailed)?;
+    Ok(now.saturating_sub(begun))
 }
 
 /// Tries a case without its fault, if its lines say so, and answers what came of it where that fails already.
@@ -53,10 +62,7 @@ fn unfit_of_control<V: Server>(
     if !has_control(case.script) {
         return Ok(None);
     }
-    let Some(socket) = server.connect() else {
-        return Ok(None);
-    };
-    let tried = try_case(alloc, case, pace, server, socket, true)?;
+    let tried = try_case(alloc, case, pace, server, true)?;
     match tried.judgment {
         Judgment::Passed => Ok(None),
         Judgment::Unfit(unfit) => Ok(Some(unfit_outcome(alloc, case, unfit, tried)?)),
@@ -70,22 +76,21 @@ fn unfit_of_control<V: Server>(
     }
 }
 
-/// Tries a case: once where it passes, and as often as its level asks for where it fails.
+/// Tries a case: once where it passes, and as often as its level asks for where it fails, while the time of the case, which began
+/// then, isn't over.
 fn find<V: Server>(
     alloc: Global,
     case: Case,
     pace: Pace,
     server: &V,
+    begun: u64,
 ) -> Result<Outcome, WireFault> {
     let mut tries = 0usize;
     let mut passed = 0usize;
     let mut first: Option<Try> = None;
     for _ in 0..tries_of(case.level) {
         tries = tries.saturating_add(1);
-        let Some(socket) = server.connect() else {
-            continue;
-        };
-        let tried = try_case(alloc, case, pace, server, socket, false)?;
+        let tried = try_rounds(alloc, case, pace, server)?;
         if let Judgment::Unfit(unfit) = tried.judgment {
             return unfit_outcome(alloc, case, unfit, tried);
         }
@@ -97,14 +102,30 @@ fn find<V: Server>(
         if first.is_none() || !has_passed && !has_failed(&first) {
             first = Some(tried);
         }
-        if is_over {
+        if is_over || spent(server, begun)? >= pace.limit {
             break;
         }
     }
     match first {
         Some(tried) => tried_outcome(alloc, case, tries, passed, tried),
-        None => no_connection(alloc, case),
+        None => Err(WireFault::BadRow),
     }
+}
+
+/// A try of a case: over one connection, or over as many as its lines say, up to the first over which it doesn't pass.
+fn try_rounds<V: Server>(
+    alloc: Global,
+    case: Case,
+    pace: Pace,
+    server: &V,
+) -> Result<Try, WireFault> {
+    for _ in 1..rounds_of(case.script)? {
+        let tried = try_case(alloc, case, pace, server, false)?;
+        if tried.judgment != Judgment::Passed {
+            return Ok(tried);
+        }
+    }
+    try_case(alloc, case, pace, server, false)
 }
 
 /// Whether the try that is told of failed.
@@ -178,15 +199,6 @@ fn not_applicable(
     Ok(outcome)
 }
 
-/// What came of a case for which no connection is to be had.
-fn no_connection(alloc: Global, case: Case) -> Result<Outcome, WireFault> {
-    let mut outcome = outcome_of(alloc, &case, Verdict::Failed)?;
-    outcome.wanted = Some(String::from_str(alloc, "a connection")?);
-    outcome.came = Some(String::from_str(alloc, "none")?);
-    outcome.tries = count_of(tries_of(case.level));
-    Ok(outcome)
-}
-
 /// The frames that were read, in words.
 fn frames_of(alloc: Global, frames: &[SeenFrame]) -> Result<Vec<String>, AllocError> {
     let mut lines = Vec::new(alloc);
@@ -200,8 +212,10 @@ fn frames_of(alloc: Global, frames: &[SeenFrame]) -> Result<Vec<String>, AllocEr
 
 /// Whether the server greets a connection on which nothing else is said. A slow one has the whole time of a connection for it.
 fn is_alive<V: Server>(alloc: Global, pace: Pace, server: &V) -> Result<bool, WireFault> {
-    let Some(socket) = server.connect() else {
-        return Ok(false);
+    let socket = match server.connect() {
+        Ok(socket) => socket,
+        Err(WireFault::NoConnection(_)) => return Ok(false),
+        Err(fault) => return Err(fault),
     };
     let patient = Pace {
         silence: pace.limit,

@@ -1,6 +1,6 @@
 //! What came on a connection, and whether a reaction is among it.
 
-ghost use Rattle.std.specs.Prelude.{◌≡◌, IfOk, IsTrue};
+ghost use Rattle.std.specs.Prelude.{◌≡◌, true, IfOk, IsTrue};
 ghost use Rattle.std.specs.BTreeMap.{get};
 ghost use Rattle.std.specs.List.{Any};
 ghost use Rattle.std.specs.Ordering.{nat_cmp};
@@ -8,6 +8,7 @@ ghost use Rattle.std.specs.Ordering.{nat_cmp};
 use crate::announced::Announced;
 use crate::fault::WireFault;
 use crate::reaction::{Lawful, Reaction};
+use crate::report::kind_name;
 use crate::stream_seen::{StreamSeen, begins_with, has_bytes, has_field, value_of};
 use h2frame::{FrameHead, SettingId};
 use session::Parameter;
@@ -57,8 +58,9 @@ pub struct Seen {
     pub synced: bool,
     /// Whether the time of the connection was up while the server still sent.
     pub endless: bool,
-    /// Whether DATA or HEADERS came on a stream behind the server's own end of it.
+    /// Whether DATA or HEADERS came on a stream behind the server's own end of it, and the last that did.
     pub late: bool,
+    pub late_frame: Option<FrameHead>,
     /// Whether text of HTTP/1 came in place of frames.
     pub text: bool,
     /// What the server did that no server may, whatever it was sent.
@@ -66,7 +68,7 @@ pub struct Seen {
 }
 
 impl Seen {
-    ghost use Rattle.wire.specs.Reactions.{IsLawful, Judges, has_ended, was_reset};
+    ghost use Rattle.wire.specs.Reactions.{IsLawful, Judges, has_ended, was_reset, was_shut};
 
     pub fn new(alloc: Global) -> Seen {
         Seen {
@@ -87,9 +89,17 @@ impl Seen {
             synced: false,
             endless: false,
             late: false,
+            late_frame: None,
             text: false,
             wrong: None,
         }
+    }
+
+    /// Whether the connection ended before the server said anything that could be judged.
+    pub fn was_shut(&self) -> bool
+        ensures { result ≡ was_shut self.now }
+    {
+        self.closed && !self.any_frame && !self.text && self.wrong.is_none()
     }
 
     /// Takes a parameter of the server's SETTINGS.
@@ -109,6 +119,14 @@ impl Seen {
             self.frames.push(SeenFrame { head, code })?;
         }
         Ok(())
+    }
+
+    /// Notes DATA or HEADERS on a stream that the server had ended.
+    pub fn note_late(&mut self, head: FrameHead)
+        ensures { self.new.late ≡ true }
+    {
+        self.late = true;
+        self.late_frame = Some(head);
     }
 
     /// Takes the acknowledgement of a PING.
@@ -413,6 +431,11 @@ impl Seen {
         if let Some(wrong) = self.wrong {
             push_part(text, start, wrong)?;
         }
+        if let Some(head) = self.late_frame {
+            push_part(text, start, kind_name(head.kind))?;
+            let stream = head.stream;
+            write!(text, " on stream {stream} after its end")?;
+        }
         if let Some(code) = self.goaway {
             push_part(text, start, "GOAWAY ")?;
             write!(text, "{code}")?;
@@ -425,9 +448,6 @@ impl Seen {
                     write!(text, " on stream {stream}")?;
                 }
             }
-        }
-        if self.late {
-            push_part(text, start, "frames behind the end of a stream")?;
         }
         if self.closed {
             push_part(text, start, "the end of the connection")?;
@@ -465,8 +485,8 @@ fn is_one_of(code: Option<u32>, codes: &[u32]) -> bool
     }
 }
 
-/// The stream of a reaction that is told of one, else 0.
-fn stream_of(reaction: &Reaction) -> u32 {
+/// The stream of a reaction that an answer on it brings, else 0.
+pub fn stream_of(reaction: &Reaction) -> u32 {
     match reaction {
         Reaction::Status { stream, .. }
         | Reaction::Http { stream, .. }

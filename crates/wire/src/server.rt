@@ -1,5 +1,6 @@
 //! The server under test, and how long it is waited for.
 
+use crate::fault::WireFault;
 use std::io::{Read, Write};
 use std::net::OpenStream;
 
@@ -8,8 +9,12 @@ pub trait Server {
     /// A connection to it.
     type Line: Read + Write + OpenStream + Drop;
 
-    /// A connection, where one can be had.
-    fn connect(&self) -> Option<Self::Line>;
+    /// A connection to it.
+    ///
+    /// # Errors
+    ///
+    /// `NoConnection` where none can be had.
+    fn connect(&self) -> Result<Self::Line, WireFault>;
 
     /// How many milliseconds have passed since a moment that stays the same, where the clock can be read.
     fn now(&self) -> Option<u64>;

@@ -12,11 +12,14 @@
 //! - `await REACTION`: waits for it (`reaction`). `sync`: a PING, and waits for its acknowledgement.
 //! - `quiet`: a PING, and waits a moment after its acknowledgement, whatever comes.
 //! - `crowd METHOD`: opens one call of the method more than the server's SETTINGS allow.
-//! - `many N METHOD`: opens so many calls, none of them ended. `cancel N`: RST_STREAM with CANCEL on each of the first N streams.
+//! - `many N METHOD`: opens so many calls, none of them ended; fields may stand after METHOD. `several N METHOD`: the same, of calls
+//!   so few and short that other cases go on beside them. `cancel N`: RST_STREAM with CANCEL on each of the first N streams.
 //!   A case with `crowd` or `many` is run while no other is, since a server may have no thread left for their calls.
 //!
 //! What a case rests on stands first:
 //!
+//! - `rounds N`: a try goes over so many connections, one after another, and fails at the first over which the case does. It is for
+//!   what a server does only at times.
 //! - `needs NAME at least N`, `needs NAME at most N`: where the server's setting of this name (`announced`) isn't so, the case is not
 //!   applicable. A setting that wasn't announced has its first value; where it has none, it is at least any number, and at most none.
 //! - `control REACTION and REACTION ..`: the case is first tried without its fault, over a connection of its own: lines and words that
@@ -35,7 +38,9 @@ use crate::announced::Need;
 use crate::content::{Reading, read_content};
 use crate::fault::WireFault;
 use crate::frame::{DATA, END_HEADERS, END_STREAM, HEADERS, PREFACE, kind_named};
-use crate::reaction::{Lawful, Reaction, first_word, read_lawful, read_reaction, read_stream};
+use crate::reaction::{
+    Lawful, Reaction, first_word, read_count, read_lawful, read_reaction, read_stream,
+};
 use std::alloc::Global;
 
 #[derive(Drop)]
@@ -84,6 +89,17 @@ pub fn has_control(text: &str) -> bool {
     text.lines().any(|line| line.trim().starts_with("control "))
 }
 
+/// Over how many connections a try of a case goes: one, where its lines say nothing of it.
+pub fn rounds_of(text: &str) -> Result<u64, WireFault> {
+    let said = text
+        .lines()
+        .find_map(|line| line.trim().strip_prefix("rounds "));
+    match said {
+        Some(number) => read_count(number),
+        None => Ok(1),
+    }
+}
+
 /// Reads the lines of a case.
 pub fn read_script(
     alloc: Global,
@@ -101,6 +117,7 @@ pub fn read_script(
         };
         let (word, rest) = first_word(line);
         match word {
+            "rounds" => {}
             "want" if reading.is_control => {}
             "control" if !reading.is_control => {}
             "want" | "control" => script.lawful.push(read_lawful(alloc, rest, reading)?)?,
@@ -156,7 +173,7 @@ fn read_step(
         "preface" => Ok(Step::Write(Vec::from_slice(alloc, PREFACE)?)),
         "await" => Ok(Step::Await(read_reaction(alloc, rest, reading)?)),
         "crowd" => Ok(Step::Crowd(rest)),
-        "many" => {
+        "many" | "several" => {
             let (count, method) = first_word(rest);
             let count = reading.announced.amount(count)?;
             Ok(Step::Many { count, method })

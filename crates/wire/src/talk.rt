@@ -395,7 +395,7 @@ impl<'a, V: Server> Talk<'a, V> {
         self.seen.largest = self.seen.largest.max(u64::from(head.length));
         if let Some(seen) = self.seen.streams.get_mut(&head.stream) {
             if seen.is_over() {
-                self.seen.late = true;
+                self.seen.note_late(head);
                 return Ok(());
             }
             if seen.blocks > 0 {
@@ -507,6 +507,8 @@ impl<'a, V: Server> Talk<'a, V> {
                 }
             }
         }
+        self.seen.endless = true;
+        self.give_up("a header block that isn't ended");
         Ok(())
     }
 
@@ -528,7 +530,7 @@ impl<'a, V: Server> Talk<'a, V> {
                 return seen.block(block, fields, last);
             }
         }
-        self.seen.late = true;
+        self.seen.note_late(frame.head);
         Ok(())
     }
 }

@@ -133,13 +133,13 @@ trial case_words.List = list
 trial (case_words.Run words) = run (trial_run words)
 
 -- the words that choose the cases stand by themselves, or one after its option
-abbrev pub names_by : List Text → Option Text → Option (List Text)
-names_by names None = some_texts names
-names_by [] (Some name) = Some (name ∷ [])
-names_by (first ∷ names) (Some name) = None
+abbrev pub names_by : Option Text → List Text → Option (List Text)
+names_by None names = some_texts names
+names_by (Some name) [] = Some (name ∷ [])
+names_by (Some name) (first ∷ names) = None
 
 abbrev pub names_of : List Row → Option (List Text)
-names_of rows = names_by (texts_of (codes "NAME") rows) (text_of (codes "test_case") rows)
+names_of rows = names_by (text_of (codes "test_case") rows) (texts_of (codes "NAME") rows)
 
 -- the program speaks cleartext alone
 abbrev pub is_cleartext : List Row → Bool
@@ -188,7 +188,7 @@ trial_of rows =
     if has_flag (codes "list") rows
     then then_some (is_none (option_or (text_of (codes "NAME") rows) (text_of (codes "test_case") rows))) list
     else option_and_then (λ names. option_and_then (λ told. option_map run (run_of names told rows)) (reporting.reporting_of rows))
-        (names_of rows)
+    (names_of rows)
 
 -- the numbers are not 0
 abbrev pub IsRun : CaseRun → Type 0

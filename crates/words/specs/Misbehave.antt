@@ -76,10 +76,10 @@ abbrev pub misbehaving_of : List Row → Option Misbehaving
 misbehaving_of rows =
     if has_flag (codes "list") rows
     then then_some (is_none (text_of (codes "NAME") rows) && is_none (number_of (codes "port") 65535 rows))
-        (list (has_flag (codes "verbose") rows))
+    (list (has_flag (codes "verbose") rows))
     else if has_flag (codes "verbose") rows then None
     else option_and_then (λ names. option_and_then (λ told. option_map play (run_of names told rows)) (reporting.reporting_of rows))
-        (some_texts_of (codes "NAME") rows)
+    (some_texts_of (codes "NAME") rows)
 
 -- no number is 0
 abbrev pub IsRun : MisbehaveRun → Type 0

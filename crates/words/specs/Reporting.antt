@@ -7,8 +7,8 @@ use Rattle.std.specs.Str.{bytes_eq}
 use Rattle.clap.specs.Walk.{Row, Rule, Text}
 use Rattle.clap.specs.Simple.{App, with_rule}
 use Rattle.clap.specs.declared.builder.action.ArgAction.TheVariants.{Append}
+use Rattle.results.specs.Words.{level_named}
 use Rattle.results.specs.declared.words.Level.{Level}
-use Rattle.results.specs.declared.words.Level.TheVariants.{Must, Should, Ours}
 use Rattle.words.specs.Options.{by_default, flag, has_flag, number_of, number_option, text_of, text_option, texts_of}
 use Rattle.words.specs.declared.reporting.Reporting.{Reporting}
 
@@ -71,21 +71,9 @@ reporting words = record {
 abbrev pub skipped_of : List Row → List Text
 skipped_of rows = flat_map (slice_split (λ byte. byte == 44)) (texts_of (codes "skip") rows)
 
--- the level of a word; nothing where it is no level's
-abbrev pub level_named : Text → Option Level
-level_named word =
-    if bytes_eq word (codes "must") then Some Must
-    else if bytes_eq word (codes "should") then Some Should
-    else if bytes_eq word (codes "ours") then Some Ours
-    else None
-
 -- the level, if one is named; nothing where its word is no level's
-abbrev pub level_by : Option Text → Option (Option Level)
-level_by None = Some None
-level_by (Some word) = option_map (λ level. Some level) (level_named word)
-
 abbrev pub level_of : List Row → Option (Option Level)
-level_of rows = level_by (text_of (codes "level") rows)
+level_of rows = option_map_or (λ word. option_map Some (level_named word)) (text_of (codes "level") rows) (Some None)
 
 -- `--tap` and `--json -` both want standard output
 abbrev pub wants_output_twice : List Row → Bool

@@ -90,7 +90,7 @@ abbrev pub told_of : List Row → Option Told
 told_of rows =
     if has_flag (codes "list") rows then then_some (is_none (text_of (codes "CASES") rows)) list
     else option_and_then (λ names. option_and_then (λ told. option_map run (run_of names told rows)) (reporting.reporting_of rows))
-        (some_texts_of (codes "CASES") rows)
+    (some_texts_of (codes "CASES") rows)
 
 -- the numbers are not 0
 abbrev pub IsRun : WireRun → Type 0

@@ -12,7 +12,7 @@ ghost use Rattle.words.specs.Case.{IsRun, IsTrial, acceptable_option, case_comma
 
 use crate::options::{
     LOOPBACK, amount_of, amount_option, flag, has_flag, number_option, several, small_number_of,
-    text_of, text_option, texts_of,
+    some_texts_of, text_of, text_option, texts_of,
 };
 use crate::reporting::{Reporting, reporting_of, with_reporting};
 use clap::{Arg, ArgMatches, Command};
@@ -201,22 +201,19 @@ fn with_soak<'a>(alloc: Global, command: Command<'a>) -> Result<Command<'a>, All
 }
 
 // The words that choose the cases: they stand by themselves, or one after its option.
-fn names_of<'a>(
-    alloc: Global,
-    options: &ArgMatches<'a>,
-) -> Result<Option<Vec<&'a str>>, AllocError>
+fn names_of<'a>(alloc: Global, options: &ArgMatches<'a>) -> Result<Option<Vec<&'a str>>, AllocError>
     ensures { IfOk result (λ names. option_map (λ found. map (λ name. name.now) found.items) names
         ≡ names_of (rows_of (found_of options.now))) }
 {
+    let Some(name) = text_of(options, "test_case") else {
+        return some_texts_of(alloc, options, "NAME");
+    };
     let mut names = texts_of(alloc, options, "NAME")?;
-    match text_of(options, "test_case") {
-        None => Ok((!names.is_empty()).then_some(names)),
-        Some(name) if names.is_empty() => {
-            names.push(name)?;
-            Ok(Some(names))
-        }
-        Some(_) => Ok(None),
+    if !names.is_empty() {
+        return Ok(None);
     }
+    names.push(name)?;
+    Ok(Some(names))
 }
 
 // Whether no TLS is asked for.
@@ -293,13 +290,11 @@ pub(crate) fn trial_of<'a>(
             .is_none();
         return Ok(is_alone.then_some(CaseWords::List));
     }
-    let names = names_of(alloc, options)?;
-    let reporting = reporting_of(alloc, options)?;
-    Ok(match (names, reporting) {
-        (Some(names), Some(reporting)) => match run_of(options, names, reporting) {
-            Some(run) => Some(CaseWords::Run(run)),
-            None => None,
-        },
-        _ => None,
-    })
+    let Some(names) = names_of(alloc, options)? else {
+        return Ok(None);
+    };
+    let Some(reporting) = reporting_of(alloc, options)? else {
+        return Ok(None);
+    };
+    Ok(run_of(options, names, reporting).map(|run| CaseWords::Run(run)))
 }

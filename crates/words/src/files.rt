@@ -20,10 +20,7 @@ pub struct Files<'a> {
 }
 
 // A command with these options too.
-pub(crate) fn with_files<'a>(
-    alloc: Global,
-    command: Command<'a>,
-) -> Result<Command<'a>, AllocError>
+pub(crate) fn with_files<'a>(alloc: Global, command: Command<'a>) -> Result<Command<'a>, AllocError>
     ensures { (app : App) → IsCommand app command.entry → IfOk result (IsCommand (with_files app)) }
 {
     command

@@ -21,8 +21,6 @@ mod read;
 mod reason;
 mod reporting;
 mod serve;
-#[cfg(test)]
-mod tests;
 mod wire;
 
 pub use body::MAX_CUT;

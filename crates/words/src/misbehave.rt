@@ -118,13 +118,11 @@ pub(crate) fn misbehaving_of<'a>(
     if is_verbose {
         return Ok(None);
     }
-    let names = some_texts_of(alloc, options, "NAME")?;
-    let reporting = reporting_of(alloc, options)?;
-    Ok(match (names, reporting) {
-        (Some(names), Some(reporting)) => match run_of(options, names, reporting) {
-            Some(run) => Some(MisbehaveWords::Play(run)),
-            None => None,
-        },
-        _ => None,
-    })
+    let Some(names) = some_texts_of(alloc, options, "NAME")? else {
+        return Ok(None);
+    };
+    let Some(reporting) = reporting_of(alloc, options)? else {
+        return Ok(None);
+    };
+    Ok(run_of(options, names, reporting).map(|run| MisbehaveWords::Play(run)))
 }

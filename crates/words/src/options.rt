@@ -120,11 +120,10 @@ pub(crate) fn texts_of<'a>(
     ensures { IfOk result (λ texts. map (λ text. text.now) texts.items
         ≡ texts_of name.now (rows_of (found_of options.now))) }
 {
-    let mut texts = Vec::new(alloc);
-    if let Some(given) = options.get_strs(name) {
-        texts.extend_from_slice(given)?;
+    match options.get_strs(name) {
+        Some(given) => Vec::from_slice(alloc, given),
+        None => Ok(Vec::new(alloc)),
     }
-    Ok(texts)
 }
 
 // The texts of an option that may be given several times, or of the words at a place, if there is one.
@@ -137,7 +136,10 @@ pub(crate) fn some_texts_of<'a>(
         ≡ some_texts_of name.now (rows_of (found_of options.now))) }
 {
     let texts = texts_of(alloc, options, name)?;
-    Ok((!texts.is_empty()).then_some(texts))
+    if texts.is_empty() {
+        return Ok(None);
+    }
+    Ok(Some(texts))
 }
 
 // Whether a flag was given.

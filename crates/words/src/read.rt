@@ -141,10 +141,7 @@ fn plain_command_of<'a>(name: &str, options: &ArgMatches<'a>) -> Option<Words<'a
 }
 
 // The command that a parse met.
-fn command_in<'a>(
-    alloc: Global,
-    matches: &ArgMatches<'a>,
-) -> Result<Option<Words<'a>>, AllocError>
+fn command_in<'a>(alloc: Global, matches: &ArgMatches<'a>) -> Result<Option<Words<'a>>, AllocError>
     ensures value { IfOk result (λ told. option_map meaning told
         ≡ option_and_then command_of (subcommand_rows_of matches.now)) }
     ensures in_range { IfOk result (λ told. IfSome told IsInRange) }

@@ -52,7 +52,9 @@ const FILE: &str = "a file's name";
 fn skip_option<'a>(alloc: Global) -> Arg<'a>
     ensures { IsOption skip_option result }
 {
-    text_option(alloc, "skip", "words for cases, with commas between them").action(ArgAction::Append)
+    text_option(alloc, "skip", "words for cases, with commas between them").action(
+        ArgAction::Append,
+    )
 }
 
 // `--repeat N`.
@@ -98,10 +100,7 @@ fn parts_of<'a>(alloc: Global, text: &'a str) -> Result<Vec<&'a str>, AllocError
 }
 
 // The words that choose the cases that are left out.
-fn skipped_of<'a>(
-    alloc: Global,
-    options: &ArgMatches<'a>,
-) -> Result<Vec<&'a str>, AllocError>
+fn skipped_of<'a>(alloc: Global, options: &ArgMatches<'a>) -> Result<Vec<&'a str>, AllocError>
     ensures { IfOk result (λ words. map (λ word. word.now) words.items
         ≡ skipped_of (rows_of (found_of options.now))) }
 {
@@ -144,8 +143,7 @@ pub(crate) fn reporting_of<'a>(
     ensures within { IfOk result (λ told. IfSome told (λ words. 1 ≤ words.repeat)) }
 {
     let skip = skipped_of(alloc, options)?;
-    let (Some(level), Some(repeat)) = (level_of(options), small_number_of(options, "repeat"))
-    else {
+    let (Some(level), Some(repeat)) = (level_of(options), small_number_of(options, "repeat")) else {
         return Ok(None);
     };
     if wants_output_twice(options) {

@@ -128,17 +128,17 @@ pub(crate) fn wire_of<'a>(
     ensures within { IfOk result (λ words. IfSome words IsInRange) }
 {
     if has_flag(options, "list") {
-        return Ok(text_of(options, "CASES")
-            .is_none()
-            .then_some(WireWords::List));
+        return Ok(
+            text_of(options, "CASES")
+                .is_none()
+                .then_some(WireWords::List),
+        );
     }
-    let names = some_texts_of(alloc, options, "CASES")?;
-    let reporting = reporting_of(alloc, options)?;
-    Ok(match (names, reporting) {
-        (Some(names), Some(reporting)) => match run_of(options, names, reporting) {
-            Some(run) => Some(WireWords::Run(run)),
-            None => None,
-        },
-        _ => None,
-    })
+    let Some(names) = some_texts_of(alloc, options, "CASES")? else {
+        return Ok(None);
+    };
+    let Some(reporting) = reporting_of(alloc, options)? else {
+        return Ok(None);
+    };
+    Ok(run_of(options, names, reporting).map(|run| WireWords::Run(run)))
 }

@@ -245,7 +245,9 @@ a deadline passes behind a reply
 
 nothing comes of a call behind its deadline
   must RFC 9113, 5.1 (closed): \"MUST NOT send frames other than PRIORITY on a closed stream\"
-  headers 1 04 call:FullDuplexCall grpc-timeout=50m
+  needs streams at least 16
+  rounds 6
+  several 16 FullDuplexCall grpc-timeout=10m
   await failed 1
   quiet
   want orderly

@@ -322,6 +322,7 @@ nothing comes on a stream behind the server's own RST_STREAM
   await stream 1 1 2
   quiet
   want orderly
+  want connection 1 2
 
 DATA behind the server's own end
   should RFC 9113, 5.1 (half-closed, local): \"can receive any type of frame\"
