@@ -1,7 +1,6 @@
 //! What a worker is handed, and hands back.
 
 ghost use Rattle.std.specs.Prelude.{◌≡◌, Some, slice_get};
-ghost use Rattle.std.specs.Coded.{Coded-set, coded_option};
 ghost use Rattle.lane.specs.RingLane.{out_name, shut_name};
 ghost use Rattle.callparts.specs.Numbers.{OptionalName_set, in_lane_at, out_lane_at, request_at};
 
@@ -15,7 +14,7 @@ use callbox::{GivenShut, Taker};
 pub struct Job<J: Naming> {
     pub work: Work,
     pub number: CallNumber<J>,
-    pub ghost stands: { slice_get number.seen.log number.value ≡ Some work } by { Coded-set (coded_option work-code) (slice_get number.seen.log number.value) (Some work) },
+    pub ghost stands: { slice_get number.seen.log number.value ≡ Some work },
 }
 
 /// What a worker is to do next: to answer a call, or to end, since no more come.

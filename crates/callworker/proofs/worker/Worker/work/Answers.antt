@@ -11,10 +11,10 @@ calls-init g c = record {
 
 pub calls-preserved : goal.calls-preserved
 calls-preserved g c = record {
-  tasks = c.in-Some.ensures.name ∙ c.calls.invariant.tasks;
+  tasks = c.in-Some-next_job.ensures.name ∙ c.calls.invariant.tasks;
   done = c.hand_back.ensures.name ∙ c.calls.invariant.done;
-  handed_back = one_more (λ job. job.number.value) (λ finished. finished.number.value) _ _ _ _ c.in-Some.job _
-      c.in-Some.ensures.taken c.hand_back.ensures.sent (ap (λ number. number.value) c.answer-finished.ensures.number) c.calls.invariant.handed_back;
+  handed_back = one_more (λ job. job.number.value) (λ finished. finished.number.value) _ _ _ _ c.in-Some-next_job.job _
+      c.in-Some-next_job.ensures.taken c.hand_back.ensures.sent (ap (λ number. number.value) c.answer-finished.ensures.number) c.calls.invariant.handed_back;
 }
 
 pub returns-in_default-clause-handed_back : goal.returns-in_default-clause-handed_back
