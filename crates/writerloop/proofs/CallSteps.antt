@@ -1,6 +1,6 @@
 -- Calls beside the senders of a core: in the same order, each with the lane of its number.
 use Rattle.std.proofs.Common.{◌≡◌, ◌≢◌, ◌⊎◌, ◌∙◌, ◌<◌, ◌-◌, ℕ, zero, suc, inl, inr, List, [], ◌∷◌, ◌++◌, Option, Some, map, length, get_or, set, take, ap, sym, refl, subst, arith}
-use Rattle.std.specs.Prelude.{Contains}
+use Rattle.std.specs.Prelude.{Contains, option_map}
 use Rattle.std.specs.List.{swap_remove}
 use Rattle.account.specs.declared.call.OutItem.{OutItem}
 use Rattle.std.proofs.lemmas.Bool.{cases_order}
@@ -13,6 +13,7 @@ use Rattle.callparts.specs.declared.order.Returning.{Returning}
 use Rattle.callparts.specs.declared.order.Sending.{Sending}
 use Rattle.callparts.specs.declared.register.Naming.{Ghosts}
 use Rattle.callparts.specs.Lanes.{OutSender}
+use Rattle.callparts.specs.Numbers.{IsOfLane}
 use Rattle.writerloop.specs.declared.sends.Sent.{Sent}
 use Rattle.writerloop.specs.Sent as places
 use Rattle.writerloop.specs.Sent.{Adds, HandsHome, HasNone, IsAt, IsFirstOf, SameCalls, core_keys, keys, lane_of, numbered, numbers}
@@ -28,7 +29,7 @@ map-removed f xs i d some =
 
 -- ---- a core
 
-abbrev key-of : ℕ × OutSender → ℕ × Option LaneName
+abbrev pub key-of : ℕ × OutSender → ℕ × Option LaneName
 key-of call = (call.0, Some (out_name call.1.rx))
 
 by-lanes : (core : List (ℕ × OutSender)) → core_keys core ≡ map (λ end. (end.0, Some end.2)) (lanes out_name core)
@@ -46,13 +47,13 @@ from-core id items (call ∷ core) (suc k, within, at) =
 -- the senders are ends of the same lanes
 pub keys-lanes : (core cores : List (ℕ × OutSender)) → lanes out_name cores ≡ lanes out_name core → core_keys cores ≡ core_keys core
 keys-lanes core cores same =
-    by-lanes cores ∙ (ap (λ (ends : List (ℕ × ℕ × _)). map (λ end. (end.0, Some end.2)) ends) same ∙ sym (by-lanes core))
+    by-lanes cores ∙ (ap (λ (ends : List (ℕ × ℕ × LaneName)). map (λ end. (end.0, Some end.2)) ends) same ∙ sym (by-lanes core))
 
 module _ {J : Type 0} {naming : Ghosts J} where
-  abbrev key : Sent J naming → ℕ × Option LaneName
+  abbrev pub key : Sent J naming → ℕ × Option LaneName
   key call = (call.id, lane_of call.sending.value)
 
-  abbrev number : Sent J naming → ℕ × ℕ
+  abbrev pub number : Sent J naming → ℕ × ℕ
   number call = numbered call.id call.sending.value
 
   -- and one of the calls
@@ -63,7 +64,7 @@ module _ {J : Type 0} {naming : Ghosts J} where
   from-keys id lane (call ∷ sent) (suc k, within, at) =
       let rest = from-keys id lane sent (k, omega (arith, within), at) in (rest.0, (suc rest.1.0, omega (arith, rest.1.1), rest.1.2))
 
-  same-length : (sent : List (Sent J naming)) (core : List (ℕ × OutSender)) → keys sent ≡ core_keys core → length sent ≡ length core
+  pub same-length : (sent : List (Sent J naming)) (core : List (ℕ × OutSender)) → keys sent ≡ core_keys core → length sent ≡ length core
   same-length sent core aligned = sym (length-map sent key) ∙ (ap (λ (all : List (ℕ × Option LaneName)). length all) aligned ∙ length-map core key-of)
 
   -- what stands at a place
@@ -134,3 +135,16 @@ module _ {J : Type 0} {naming : Ghosts J} where
   pub missing-first : (id : ℕ) (sender : OutSender) (calls : List (Sent J naming)) → IsFirstOf id sender calls → HasNone id calls → ⊥
   missing-first id sender [] first none = omega (arith, first.1.0)
   missing-first id sender (call ∷ calls) first none = none first.0 call first.1.0 (first.1.1 call)
+
+  -- the lane of a call whose sender is in its box is the sender's
+  pub lane-there : (sending : Sending J naming) (sender : OutSender) → sending.sender ≡ Some sender → lane_of sending ≡ Some (out_name sender.rx)
+  lane-there sending sender is = subst (λ (one : Option OutSender). IsOfLane (lane_of sending) (option_map (λ s. out_name s.rx) one)) is sending.out_lane
+
+  -- they stand beside one another still, once a call and its sender stand behind the others
+  pub aligned-more : (id : ℕ) (sending : Sending J naming) (sender : OutSender) (old new : List (Sent J naming)) (core cores : List (ℕ × OutSender)) → keys old ≡ core_keys core → Adds id sending old new
+      → cores ≡ core ++ (id, sender) ∷ [] → lane_of sending ≡ Some (out_name sender.rx) → keys new ≡ core_keys cores
+  aligned-more id sending sender old new core cores aligned adds brings lane =
+      adds.keys
+      ∙ (ap (λ (all : List (ℕ × Option LaneName)). all ++ (id, lane_of sending) ∷ []) aligned
+      ∙ (ap (λ (one : Option LaneName). core_keys core ++ (id, one) ∷ []) lane
+      ∙ (sym (map-append key-of core ((id, sender) ∷ [])) ∙ ap (λ (all : List (ℕ × OutSender)). core_keys all) (sym brings))))

@@ -7,3 +7,4 @@ pub mod SentSteps
 pub mod WrittenSteps
 pub mod SpelledLemmas
 pub mod WroteSteps
+pub mod RestSteps

@@ -118,7 +118,7 @@ module _ {J : Type 0} {naming : Ghosts J} where
   opens-append (control.InputEnded ∷ xs) ys = opens-append xs ys
   opens-append (control.Close ∷ xs) ys = opens-append xs ys
 
-  opens-none : (order : Control (Opening J naming)) → OpensNone order → opens (order ∷ []) ≡ []
+  pub opens-none : (order : Control (Opening J naming)) → OpensNone order → opens (order ∷ []) ≡ []
   opens-none (control.Open id opening) none = absurd none
   opens-none (control.Settings settings) none = refl
   opens-none (control.Ping bytes) none = refl

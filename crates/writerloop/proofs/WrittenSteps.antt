@@ -41,14 +41,14 @@ use Rattle.writerloop.specs.declared.taking.Taking.TheVariants.{Done, Ended, Una
 use Rattle.writerloop.specs.declared.writing.Writing.{Writing}
 use Rattle.writerloop.specs.Blamed.{WouldOverflow}
 use Rattle.writerloop.specs.Left.{left_by, left_in}
-use Rattle.writerloop.specs.Orders.{Gives, HasGiven, IsAmong, IsWarning, Keeps, Obeys, OpensNone, Warns, ends_input, order_in, orders_of, loses_by}
+use Rattle.writerloop.specs.Orders.{Gives, HasGiven, IsAmong, IsWarning, Keeps, Obeys, OpensNone, Warns, closes, ends_input, order_in, orders_of, loses_by}
 use Rattle.writerloop.specs.OwnOrders.{Blamed, own_order, parting, steps_of}
 use Rattle.writerloop.specs.Sent.{AreApart, HandsHome, HasAll, IsBack, handed_numbers, numbered, numbers, opens}
 use Rattle.writerloop.specs.Written.{Begins, Ends, FrameWriter, Heeds, Holds, Knows, LeadsOn, LeadsOut, LeadsOutTo, LeadsTo, Led, LedOut, Parts, PassesOver, Runs, RunsOut, Stays, StaysOn, Takes, core_of}
 use Rattle.writerloop.specs.Wrote.{BringsBy, Wrote, WritesOn, Fills}
 use Rattle.writerloop.proofs.BlamedSteps.{overflow-later, overflow-now}
 use Rattle.writerloop.proofs.CallSteps.{from-core, from-keys}
-use Rattle.writerloop.proofs.OrderSteps.{all-given, among-last, among-more, given-next, obeys-closing, obeys-frames, obeys-granted, obeys-last-word, obeys-lost, obeys-more, obeys-opening, obeys-parting, obeys-reset, obeys-returned, obeys-taking, obeys-warning, unopened}
+use Rattle.writerloop.proofs.OrderSteps.{all-given, given-next, obeys-closing, obeys-frames, obeys-granted, obeys-last-word, obeys-lost, obeys-more, obeys-opening, obeys-parting, obeys-reset, obeys-returned, obeys-taking, obeys-warning, unopened}
 use Rattle.writerloop.proofs.SentSteps.{On, apart-last, has-none, has-opened, has-passed, has-plain, has-reset, has-returned, has-still, on-frames, on-granted, on-same, on-taken}
 
 memory-going : stands.OutOfMemory ≢ stands.Going
@@ -65,10 +65,9 @@ or-swap true false c = refl
 or-swap false true c = refl
 or-swap false false c = refl
 
-ends-more : (orders : List Order) (order : Order) → (ends_input order || list_any ends_input orders) ≡ list_any ends_input (orders ++ order ∷ [])
-ends-more [] order = refl
-ends-more (one ∷ orders) order =
-    or-swap (ends_input order) (ends_input one) (list_any ends_input orders) ∙ ap (λ (ends : Bool). ends_input one || ends) (ends-more orders order)
+any-more : (is : Order → Bool) (orders : List Order) (order : Order) → (is order || list_any is orders) ≡ list_any is (orders ++ order ∷ [])
+any-more is [] order = refl
+any-more is (one ∷ orders) order = or-swap (is order) (is one) (list_any is orders) ∙ ap (λ (later : Bool). is one || later) (any-more is orders order)
 
 -- ---- orders
 
@@ -98,8 +97,34 @@ module _ {S : Type 0} where
   plain-as control.InputEnded none = tt
   plain-as control.Close none = tt
 
+  -- an order that isn't an Open opens no call
+  pub plain-other : (one : Control S) → ((id : ℕ) (opening : S) → one ≡ control.Open id opening → ⊥) → OpensNone one
+  plain-other (control.Open id opening) other = absurd (other id opening refl)
+  plain-other (control.Settings settings) other = tt
+  plain-other (control.Ping bytes) other = tt
+  plain-other (control.Probe bytes) other = tt
+  plain-other (control.Window id n) other = tt
+  plain-other (control.Refuse id fields) other = tt
+  plain-other (control.Reset id code written) other = tt
+  plain-other (control.Goaway last code) other = tt
+  plain-other control.InputEnded other = tt
+  plain-other control.Close other = tt
+
+  -- behind one that isn't a Close as many orders come as before
+  pub closes-other : (one : Control S) (closed : Bool) → (one ≡ control.Close → ⊥) → closed ≡ (closes (order_of one) || closed)
+  closes-other (control.Open id opening) closed other = refl
+  closes-other (control.Settings settings) closed other = refl
+  closes-other (control.Ping bytes) closed other = refl
+  closes-other (control.Probe bytes) closed other = refl
+  closes-other (control.Window id n) closed other = refl
+  closes-other (control.Refuse id fields) closed other = refl
+  closes-other (control.Reset id code written) closed other = refl
+  closes-other (control.Goaway last code) closed other = refl
+  closes-other control.InputEnded closed other = refl
+  closes-other control.Close closed other = absurd (other refl)
+
 -- the same order without a sender
-as-plain : {S T : Type 0} (one : Control S) (other : Control T) → order_of one ≡ order_of other → OpensNone other → OpensNone one
+pub as-plain : {S T : Type 0} (one : Control S) (other : Control T) → order_of one ≡ order_of other → OpensNone other → OpensNone one
 as-plain one other is none = plain-as one (λ id. ap (λ (order : Order). opens_stream id order) is ∙ plain-opens other id none)
 
 own-plain-by : (first : Bool) (last id k : ℕ) → opens_stream k (if first then control.Goaway last FlowControlError else control.Reset id FlowControlError true) ≡ false
@@ -353,20 +378,20 @@ module _ {J W : Type 0} {naming : Ghosts J} where
   pub knows-same : (orders : List Order) (old new : Writing J W naming) → (new.inbox.has_lost ≡ false → old.inbox.has_lost ≡ false) → SameKnown old new → Knows orders old → Knows orders new
   knows-same orders old new kept same knows = record {
     input = λ still. same.input ∙ knows.input (kept still);
-    closed = λ is. knows.closed (sym same.closed ∙ is);
+    closed = same.closed ∙ knows.closed;
   }
+
+  closed-more : (order : Order) (orders : List Order) (old new : Writing J W naming) → new.closed ≡ (closes order || old.closed) → old.closed ≡ list_any closes orders
+      → new.closed ≡ list_any closes (orders ++ order ∷ [])
+  closed-more order orders old new heeds was = heeds ∙ (ap (λ (closed : Bool). closes order || closed) was ∙ any-more closes orders order)
 
   -- the next order is taken
   pub knows-taken : (order : Order) (old new : Writing J W naming) → (new.inbox.has_lost ≡ false → old.inbox.has_lost ≡ false) → Heeds order old new → (orders : List Order) → Knows orders old
       → Knows (orders ++ order ∷ []) new
   knows-taken order old new kept heeds orders knows = record {
-    input = λ still. heeds.input ∙ (ap (λ (ended : Bool). ends_input order || ended) (knows.input (kept still)) ∙ ends-more orders order);
-    closed = λ is. by (heeds.closed is);
+    input = λ still. heeds.input ∙ (ap (λ (ended : Bool). ends_input order || ended) (knows.input (kept still)) ∙ any-more ends_input orders order);
+    closed = closed-more order orders old new heeds.closed knows.closed;
   }
-    where
-      by : (order ≡ control.Close) ⊎ (old.closed ≡ true) → IsAmong control.Close (orders ++ order ∷ [])
-      by (inl closes) = subst (λ (one : Order). IsAmong one (orders ++ order ∷ [])) closes (among-last order orders)
-      by (inr was) = among-more control.Close orders (order ∷ []) (knows.closed was)
 
 module _ {J W : Type 0} {naming : Ghosts J} (contents : W → Option (List ℕ)) (failed : W → Bool) where
   -- ---- frames
@@ -850,8 +875,8 @@ module _ {J W : Type 0} {naming : Ghosts J} (contents : W → Option (List ℕ))
 
   -- it is passed over
   pub leads-passed : (next : Control (Opening J naming)) (old new : Writing J W naming) (mid : Inbox (Opening J naming)) → Gives (Some next) old.inbox mid → mid.has_lost ≡ true → new.inbox ≡ mid
-      → PassesOver contents failed next old new → (new.closed ≡ true → (order_of next ≡ control.Close) ⊎ (old.closed ≡ true)) → LeadsOn contents failed old new
-  leads-passed next old new mid gives lost same passes closes = record {
+      → PassesOver contents failed next old new → new.closed ≡ (closes (order_of next) || old.closed) → LeadsOn contents failed old new
+  leads-passed next old new mid gives lost same passes heeds = record {
     name = ap (λ (inbox : Inbox (Opening J naming)). out_name inbox.ring) same ∙ gives.name;
     on = λ before credit led.
         let runs = passes led.0 before credit (subst (λ (was : Bool). Runs contents failed was led.0 before credit old) (sym gives.lost ∙ lost) led.2) in
@@ -859,13 +884,9 @@ module _ {J W : Type 0} {naming : Ghosts J} (contents : W → Option (List ℕ))
         (subst (λ (was : Bool). Runs contents failed was (led.0 ++ next ∷ []) before credit new) (sym (ap (λ (inbox : Inbox (Opening J naming)). inbox.has_lost) same ∙ lost)) runs)
         (record {
           input = λ kept. absurd (true≢false (sym (ap (λ (inbox : Inbox (Opening J naming)). inbox.has_lost) same ∙ lost) ∙ kept));
-          closed = λ is. by led (closes is);
+          closed = closed-more (order_of next) (orders_of led.0) old new heeds led.3.closed;
         });
   }
-    where
-      by : {before : _} {credit : _} (led : Led contents failed before credit old) → (order_of next ≡ control.Close) ⊎ (old.closed ≡ true) → IsAmong control.Close (orders_of led.0 ++ order_of next ∷ [])
-      by led (inl is) = subst (λ (one : Order). IsAmong one (orders_of led.0 ++ order_of next ∷ [])) is (among-last (order_of next) (orders_of led.0))
-      by led (inr was) = among-more control.Close (orders_of led.0) (order_of next ∷ []) (led.3.closed was)
 
   -- a GOAWAY of the writer's own, where orders were lost
   pub leads-parting : (old new : Writing J W naming) → old.inbox.has_lost ≡ true → new.inbox ≡ old.inbox → SameKnown old new → Parts contents failed old new → LeadsOn contents failed old new
@@ -915,7 +936,7 @@ module _ {J W : Type 0} {naming : Ghosts J} (contents : W → Option (List ℕ))
       },
       refl,
     ),
-    record { input = λ still. going; closed = λ is. absurd (true≢false (sym is ∙ unclosed)) },
+    record { input = λ still. going; closed = unclosed },
   )
 
 module _ {J W : Type 0} {naming : Ghosts J} where
@@ -941,7 +962,7 @@ module _ {J W : Type 0} {naming : Ghosts J} (contents : W → Option (List ℕ))
       leads-taken contents failed (control.Open id opening) old new mid gives kept (whole is ∙ ap (λ (was : Bool). record mid { has_lost = was }) (sym (ap (λ (i : Inbox (Opening J naming)). i.has_lost) (whole is))))
       (λ orders before credit runs.
       subst (λ (lost : Bool). Runs contents failed lost (orders ++ control.Open id opening ∷ []) before credit new) (sym is) (begins is orders before credit runs))
-      (record { input = known.input; closed = λ closes. inr (sym known.closed ∙ closes) })
+      (record { input = known.input; closed = known.closed })
   leads-begun true id opening old new mid is gives kept ring whole aside begins parts known =
       leads-back contents failed (control.Open id opening) old new mid gives ring (aside is) (λ still. absurd (true≢false (sym is ∙ still))) known
       (λ orders before credit runs.
@@ -953,9 +974,9 @@ module _ {J W : Type 0} {naming : Ghosts J} (contents : W → Option (List ℕ))
   pub leads-over : (result : Took) (next : Control (Opening J naming)) (old new : Writing J W naming) (mid : Inbox (Opening J naming)) → Gives (Some next) old.inbox mid → mid.has_lost ≡ true
       → (result ≡ took.One → PassesOver contents failed next old new) → (result ≡ took.One → new.inbox ≡ mid)
       → (result ≡ took.Early → (new.inbox ≡ record mid { set_aside = Some next }) × (new.frames ≡ old.frames) × SameSent old new × (new.blames ≡ old.blames) × SameKnown old new)
-      → (result ≢ took.One → result ≡ took.Early) → (new.closed ≡ true → (order_of next ≡ control.Close) ⊎ (old.closed ≡ true)) → LeadsOn contents failed old new
-  leads-over took.One next old new mid gives lost passes whole early either closes = leads-passed contents failed next old new mid gives lost (whole refl) (passes refl) closes
-  leads-over took.Early next old new mid gives lost passes whole early either closes =
+      → (result ≢ took.One → result ≡ took.Early) → new.closed ≡ (closes (order_of next) || old.closed) → LeadsOn contents failed old new
+  leads-over took.One next old new mid gives lost passes whole early either heeds = leads-passed contents failed next old new mid gives lost (whole refl) (passes refl) heeds
+  leads-over took.Early next old new mid gives lost passes whole early either heeds =
       let parts = early refl in
       leads-back contents failed next old new mid gives (ap (λ (i : Inbox (Opening J naming)). i.ring) parts.0) (ap (λ (i : Inbox (Opening J naming)). i.set_aside) parts.0)
       (λ still. absurd (true≢false (sym (ap (λ (i : Inbox (Opening J naming)). i.has_lost) parts.0 ∙ lost) ∙ still))) parts.4
@@ -965,19 +986,19 @@ module _ {J W : Type 0} {naming : Ghosts J} (contents : W → Option (List ℕ))
     where
       gives-lost : new.inbox ≡ record mid { set_aside = Some next } → old.inbox.has_lost ≡ new.inbox.has_lost
       gives-lost is = sym gives.lost ∙ sym (ap (λ (i : Inbox (Opening J naming)). i.has_lost) is)
-  leads-over took.Nothing next old new mid gives lost passes whole early either closes = absurd (no (either (λ e. cc)))
+  leads-over took.Nothing next old new mid gives lost passes whole early either heeds = absurd (no (either (λ e. cc)))
     where
       no : took.Nothing ≡ took.Early → ⊥
       no e = cc
-  leads-over (took.Ends id) next old new mid gives lost passes whole early either closes = absurd (no (either (λ e. cc)))
+  leads-over (took.Ends id) next old new mid gives lost passes whole early either heeds = absurd (no (either (λ e. cc)))
     where
       no : took.Ends id ≡ took.Early → ⊥
       no e = cc
-  leads-over took.Stops next old new mid gives lost passes whole early either closes = absurd (no (either (λ e. cc)))
+  leads-over took.Stops next old new mid gives lost passes whole early either heeds = absurd (no (either (λ e. cc)))
     where
       no : took.Stops ≡ took.Early → ⊥
       no e = cc
-  leads-over took.Lost next old new mid gives lost passes whole early either closes = absurd (no (either (λ e. cc)))
+  leads-over took.Lost next old new mid gives lost passes whole early either heeds = absurd (no (either (λ e. cc)))
     where
       no : took.Lost ≡ took.Early → ⊥
       no e = cc

@@ -39,6 +39,11 @@ abbrev pub ends_input : Order → Bool
 ends_input InputEnded = true
 ends_input _ = false
 
+-- no more orders come
+abbrev pub closes : Order → Bool
+closes Close = true
+closes _ = false
+
 -- The writer resets the stream of a call that one of these orders opened, while the peer's input goes on by them.
 abbrev pub ResetsCall : Order → List Order → Type 0
 ResetsCall order orders = (id : ℕ) × (order ≡ Reset id InternalError true) × IsAmong (Open id tt) orders × (list_any ends_input orders ≡ false)

@@ -1,5 +1,5 @@
 -- What the writer of a connection wrote: the frames of a lawful run of its core, as far as they went out.
-use Rattle.std.specs.Prelude.{◌≡◌, ◌≢◌, ◌⊎◌, ◌||◌, All, ℕ, Bool, true, false, List, [], ◌∷◌, ◌++◌, Option, Some, slice_get}
+use Rattle.std.specs.Prelude.{◌≡◌, ◌≢◌, ◌||◌, All, ℕ, Bool, true, false, List, [], ◌∷◌, ◌++◌, Option, Some, slice_get}
 use Rattle.std.specs.List.{list_any}
 use Rattle.account.specs.declared.call.OutItem.{OutItem}
 use Rattle.lane.specs.declared.ring_lane.RingLane.{RingLane}
@@ -11,7 +11,6 @@ use Rattle.lane.specs.RingLane.{got}
 use Rattle.h2frame.specs.declared.error_code.ErrorCode.{ErrorCode}
 use Rattle.h2frame.specs.declared.error_code.ErrorCode.TheVariants.{FlowControlError}
 use Rattle.outwriter.specs.declared.control.Control.{Control}
-use Rattle.outwriter.specs.declared.control.Control.TheVariants.{Close}
 use Rattle.outwriter.specs.Calls.{TellOthers, is_closed}
 use Rattle.outwriter.specs.Cores.{calls}
 use Rattle.outwriter.specs.Credit.{granted}
@@ -34,7 +33,7 @@ use Rattle.writerloop.specs.declared.steps.Rest.TheVariants as rests
 use Rattle.writerloop.specs.declared.writing.Senders.{Senders}
 use Rattle.writerloop.specs.declared.writing.Writing.{Writing}
 use Rattle.writerloop.specs.Blamed.{WouldOverflow}
-use Rattle.writerloop.specs.Orders.{HasGiven, IsAmong, Obeys, ends_input, order_in, orders_of}
+use Rattle.writerloop.specs.Orders.{HasGiven, Obeys, closes, ends_input, order_in, orders_of}
 use Rattle.writerloop.specs.Rest.{rest_calls}
 use Rattle.writerloop.specs.Sent.{AreApart, HasAll, IsTold, handed_calls, ids_of}
 use Rattle.writerloop.specs.Spelled.{IsFront, IsAll}
@@ -67,12 +66,12 @@ module _ {J W : Type 0} {naming : Ghosts J} where
   -- whether the input has ended by these orders, and that no more come
   pub record Knows (orders : List Order) (writer : Writing J W naming) : Type 0 where
     pub input : writer.inbox.has_lost ≡ false → writer.input_ended ≡ list_any ends_input orders
-    pub closed : writer.closed ≡ true → IsAmong Close orders
+    pub closed : writer.closed ≡ list_any closes orders
 
   -- the same, but for what ends by this order
   pub record Heeds (order : Order) (old new : Writing J W naming) : Type 0 where
     pub input : new.input_ended ≡ (ends_input order || old.input_ended)
-    pub closed : new.closed ≡ true → (order ≡ Close) ⊎ (old.closed ≡ true)
+    pub closed : new.closed ≡ (closes order || old.closed)
 
 module _ {J W : Type 0} {naming : Ghosts J} (contents : W → Option (List ℕ)) (failed : W → Bool) where
   -- Some run led to the writer, whose device had something before, and granted so much credit on the connection. It obeyed these orders,

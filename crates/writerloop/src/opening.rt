@@ -52,11 +52,15 @@ pub(crate) fn begin<J: Naming, W: ConnWrite>(
             sends.push_reserved(id, sending, line);
             Ok(())
         }
-        Taking::HandedBack(Control::Open(_, sender)) => {
+        Taking::HandedBack(back) => {
+            let Control::Open(_, sender) = back else {
+                unreachable!();
+            };
             sending.sender = Some(sender);
             Err(Control::Open(id, Opening { sending, line }))
         }
-        _ => unreachable!(),
+        Taking::Ended(_) => unreachable!(),
+        Taking::Unanswered(_) => unreachable!(),
     }
 }
 

@@ -65,22 +65,56 @@ pub struct Senders<J: Naming> {
 }
 
 impl<J: Naming> Senders<J> {
-    ghost use Rattle.std.specs.Prelude.{[], IfSome, OnNone};
+    ghost use Rattle.std.specs.Prelude.{[], None, IfNone, IfSome};
     ghost use Rattle.lane.specs.Ring.{put_in};
+    ghost use Rattle.writerloop.specs.Orders.{order_in};
     ghost use Rattle.writerloop.specs.Rest.{HandsOver, rest_numbers};
+    ghost use Rattle.writerloop.specs.Sent.{opens};
 
     /// The next of them.
     pub fn next(&mut self) -> Option<Returning<J>>
         ensures some { IfSome result (HandsOver self.old self.new) }
-        ensures none { OnNone result (rest_numbers self.old ≡ []) }
+        ensures none { IfNone result (rest_numbers self.old ≡ []) }
         ensures way { put_in self.new.sends.home ≡ put_in self.old.sends.home }
     {
-        if let Some(Control::Open(_, opening)) = self.aside.take() {
-            let Opening { sending, .. } = opening;
-            return Some(Returning { sending });
+        match self.next_aside() {
+            Some(returning) => Some(returning),
+            None => self.next_in_core(),
         }
-        let (_id, sender) = self.core.pop()?;
-        Some(self.sends.take_last(sender))
+    }
+
+    /// That of the order that was set aside, if it opens a call.
+    fn next_aside(&mut self) -> Option<Returning<J>>
+        ensures some { IfSome result (HandsOver self.old self.new) }
+        ensures none { IfNone result (opens (order_in self.old.aside) ≡ []) }
+        ensures aside { self.new.aside ≡ None }
+        ensures sends { self.new.sends ≡ self.old.sends }
+        ensures core { self.new.core ≡ self.old.core }
+    {
+        let order = self.aside.take()?;
+        match split(order) {
+            Ok(_plain) => None,
+            Err((_id, opening)) => {
+                let Opening { sending, .. } = opening;
+                Some(Returning { sending })
+            }
+        }
+    }
+
+    /// That of the last call whose sender the core had.
+    fn next_in_core(&mut self) -> Option<Returning<J>>
+        requires { self.old.aside ≡ None }
+        ensures some { IfSome result (HandsOver self.old self.new) }
+        ensures none { IfNone result (rest_numbers self.old ≡ []) }
+        ensures way { put_in self.new.sends.home ≡ put_in self.old.sends.home }
+    {
+        match self.core.pop() {
+            Some(last) => {
+                let (_id, sender) = last;
+                Some(self.sends.take_last(sender))
+            }
+            None => None,
+        }
     }
 
     /// The end of the way back that puts.
@@ -93,14 +127,15 @@ impl<J: Naming> Senders<J> {
 }
 
 impl<J: Naming, W: ConnWrite + Drop> Writing<J, W> {
-    ghost use Rattle.std.specs.Prelude.{◌≢◌, ◌⊎◌, ◌+◌, ℕ, nat_eq, if◌then◌else◌, true, false};
+    ghost use Rattle.std.specs.Prelude.{◌≢◌, ◌⊎◌, ◌||◌, ◌+◌, ℕ, nat_eq, if◌then◌else◌, true, false};
     ghost use Rattle.std.specs.Prelude.{List, [], length, Option, None, Some, IfNone, IfSome, OnErr, OnOk};
     ghost use Rattle.lane.specs.Ring.{put_in, taken};
     ghost use Rattle.lane.specs.RingLane.{got};
     ghost use Rattle.h2frame.specs.declared.error_code.ErrorCode.{ErrorCode as Code};
     ghost use Rattle.h2frame.specs.declared.error_code.ErrorCode.TheVariants.{FlowControlError};
-    ghost use Rattle.outwriter.specs.Cores.{open_stream, takes_credit};
+    ghost use Rattle.outwriter.specs.Cores.{calls, open_stream, takes_credit};
     ghost use Rattle.outwriter.specs.declared.control.Control.TheVariants as orders;
+    ghost use Rattle.outwriter.specs.LeftCalls.{WasLeft};
     ghost use Rattle.outwriter.specs.RunState.{is_held};
     ghost use Rattle.outwriter.specs.Steps.{Step, order_of};
     ghost use Rattle.flow.specs.Windows.{room};
@@ -110,10 +145,11 @@ impl<J: Naming, W: ConnWrite + Drop> Writing<J, W> {
     ghost use Rattle.writerloop.specs.declared.steps.Rest.TheVariants as rest;
     ghost use Rattle.writerloop.specs.declared.steps.Took.TheVariants as took;
     ghost use Rattle.writerloop.specs.declared.steps.Waiting.TheVariants as waiting;
-    ghost use Rattle.writerloop.specs.Orders.{IsWarning, OpensNone, TakesNoWindow, Warns, orders_of, waiting_of};
+    ghost use Rattle.writerloop.specs.Orders.{IsWarning, OpensNone, TakesNoWindow, Warns, closes, orders_of, waiting_of};
+    ghost use Rattle.writerloop.specs.OwnOrders.{Blamed, steps_of};
     ghost use Rattle.writerloop.specs.Sent.{SameCalls};
-    ghost use Rattle.writerloop.specs.Wrote.{Wrote};
-    ghost use Rattle.writerloop.specs.Written.{Begins, HasSent, HasWritten, Heeds, IsFlushed, Led};
+    ghost use Rattle.writerloop.specs.Wrote.{WritesOn, Wrote};
+    ghost use Rattle.writerloop.specs.Written.{Begins, HasSent, HasWritten, Heeds, IsFlushed, Led, core_of};
     ghost use Rattle.writerloop.specs.Written.{LedOut, LeadsOn, LeadsOut, LeadsTo, Parts};
     ghost use Rattle.writerloop.specs.Written.{PassesOver, Stays, Takes, rest_of, stream_at};
 
@@ -202,12 +238,30 @@ impl<J: Naming, W: ConnWrite + Drop> Writing<J, W> {
         ensures stops { result ≡ took.Stops → self.new.blames ≡ true }
     {
         self.note(&order);
-        match self.frames.take(order, last) {
+        match self.give(order, last) {
             Taking::Done => Took::One,
             Taking::Ended(id) => self.end(id),
             Taking::Unanswered(_) => self.lose(),
             Taking::HandedBack(_) => self.lose(),
         }
+    }
+
+    /// Gives the core an order that opens no call.
+    fn give(&mut self, order: Control<Sender<OutLane>>, last: StreamId) -> Taking<Sender<OutLane>>
+        requires plain { OpensNone order }
+        ensures wrote { WritesOn got W.contents W.failed (steps_of (order_of order) last result)
+            self.old.frames self.new.frames }
+        ensures blamed { (before : Option (List ℕ)) (run : List Step)
+            → Wrote got W.contents W.failed before run self.old.frames
+            → Blamed result order run }
+        ensures core { core_of self.new ≡ core_of self.old }
+        ensures sends { self.new.sends ≡ self.old.sends }
+        ensures inbox { self.new.inbox ≡ self.old.inbox }
+        ensures input { self.new.input_ended ≡ self.old.input_ended }
+        ensures closed { self.new.closed ≡ self.old.closed }
+        ensures blames { self.new.blames ≡ self.old.blames }
+    {
+        self.frames.take(order, last)
     }
 
     /// A call begins; no order was lost. Without memory its order is set aside.
@@ -242,28 +296,52 @@ impl<J: Naming, W: ConnWrite + Drop> Writing<J, W> {
         requires none_aside { self.old.inbox.set_aside ≡ None }
         ensures passes { result ≡ took.One → PassesOver W.contents W.failed order self.old self.new }
         ensures inbox { result ≡ took.One → self.new.inbox ≡ self.old.inbox }
-        ensures waits { result ≡ took.Early → (self.new ≡ record
-            self.old { inbox = self.new.inbox; sends = self.new.sends; aligned = self.new.aligned })
-            × (self.new.inbox ≡ record self.old.inbox { set_aside = Some order }) }
+
+        // Or it waits, and nothing else changes.
+        ensures waits { result ≡ took.Early → self.new.inbox
+            ≡ record self.old.inbox { set_aside = Some order } }
         ensures same { result ≡ took.Early → (self.new.sends.calls ≡ self.old.sends.calls)
             × (put_in self.new.sends.home ≡ put_in self.old.sends.home) }
+        ensures frames { result ≡ took.Early → self.new.frames ≡ self.old.frames }
+        ensures open { result ≡ took.Early → self.new.closed ≡ self.old.closed }
         ensures either { result ≢ took.One → result ≡ took.Early }
-        ensures heeds { self.new.closed ≡ true → (order ≡ orders.Close) ⊎ (self.old.closed ≡ true) }
-        ensures closes { order ≡ orders.Close → self.new.closed ≡ true }
+        ensures heeds { self.new.closed ≡ (closes (order_of order) || self.old.closed) }
+        ensures input { self.new.input_ended ≡ self.old.input_ended }
+        ensures blames { self.new.blames ≡ self.old.blames }
     {
         match order {
-            Control::Open(id, opening) => {
-                if let Err(opening) = self.sends.turn_back(opening) {
-                    self.inbox.set_aside = Some(Control::Open(id, opening));
-                    return Took::Early;
-                }
-            }
+            Control::Open(id, opening) => self.turn_back(id, opening),
             Control::Close => {
                 self.close(last);
+                Took::One
             }
-            _ => {}
+            _ => Took::One,
         }
-        Took::One
+    }
+
+    /// The sender of a call whose order is lost goes back. Where there is no place for it the order waits.
+    fn turn_back(&mut self, id: StreamId, opening: Opening<J>) -> Took
+        ensures passes { result ≡ took.One
+            → PassesOver W.contents W.failed (orders.Open id opening) self.old self.new }
+        ensures inbox { result ≡ took.One → self.new.inbox ≡ self.old.inbox }
+        ensures waits { result ≡ took.Early → self.new.inbox
+            ≡ record self.old.inbox { set_aside = Some (orders.Open id opening) } }
+        ensures way { result ≡ took.Early
+            → put_in self.new.sends.home ≡ put_in self.old.sends.home }
+        ensures either { result ≢ took.One → result ≡ took.Early }
+        ensures calls { self.new.sends.calls ≡ self.old.sends.calls }
+        ensures frames { self.new.frames ≡ self.old.frames }
+        ensures input { self.new.input_ended ≡ self.old.input_ended }
+        ensures closed { self.new.closed ≡ self.old.closed }
+        ensures blames { self.new.blames ≡ self.old.blames }
+    {
+        match self.sends.turn_back(opening) {
+            Ok(()) => Took::One,
+            Err(opening) => {
+                self.inbox.set_aside = Some(Control::Open(id, opening));
+                Took::Early
+            }
+        }
     }
 
     /// No more orders come, behind one that was lost. Whether the core took that.
@@ -272,9 +350,10 @@ impl<J: Naming, W: ConnWrite + Drop> Writing<J, W> {
         ensures inbox { self.new.inbox ≡ self.old.inbox }
         ensures input { self.new.input_ended ≡ self.old.input_ended }
         ensures closed { self.new.closed ≡ true }
+        ensures blames { self.new.blames ≡ self.old.blames }
     {
         self.closed = true;
-        let taking = self.frames.take(Control::Close, last);
+        let taking = self.give(Control::Close, last);
         matches!(taking, Taking::Done)
     }
 
@@ -344,7 +423,7 @@ impl<J: Naming, W: ConnWrite + Drop> Writing<J, W> {
         ensures closed { self.new.closed ≡ self.old.closed }
     {
         let code = ErrorCode::InternalError;
-        let taking = self.frames.take(Control::Goaway { last, code }, last);
+        let taking = self.give(Control::Goaway { last, code }, last);
         matches!(taking, Taking::Done)
     }
 
@@ -400,15 +479,37 @@ impl<J: Naming, W: ConnWrite + Drop> Writing<J, W> {
         ensures inbox { self.new.inbox ≡ self.old.inbox }
         ensures input { self.new.input_ended ≡ self.old.input_ended }
     {
-        let Some(id) = self.frames.left_at(place) else {
+        let Some(id) = self.left_at(place) else {
             return false;
         };
         if self.sends.is_through(id) {
             return false;
         }
+        self.reset(id)
+    }
+
+    /// The stream of the call whose sender stands at this place, where it gave last that the call was left.
+    fn left_at(&mut self, place: usize) -> Option<StreamId>
+        ensures left { IfSome result (λ id. WasLeft id (calls got (core_of self.new))) }
+        ensures leads { LeadsOn W.contents W.failed self.old self.new }
+        ensures inbox { self.new.inbox ≡ self.old.inbox }
+        ensures input { self.new.input_ended ≡ self.old.input_ended }
+    {
+        self.frames.left_at(place)
+    }
+
+    /// Resets the stream of a call that was left. Whether there was memory for that.
+    fn reset(&mut self, id: StreamId) -> bool
+        requires kept { self.old.inbox.has_lost ≡ false }
+        requires going { self.old.input_ended ≡ false }
+        requires left { WasLeft id (calls got (core_of self.old)) }
+        ensures leads { LeadsOn W.contents W.failed self.old self.new }
+        ensures inbox { self.new.inbox ≡ self.old.inbox }
+        ensures input { self.new.input_ended ≡ self.old.input_ended }
+    {
         let code = ErrorCode::InternalError;
         let written = true;
-        let taking = self.frames.take(Control::Reset { id, code, written }, 0);
+        let taking = self.give(Control::Reset { id, code, written }, 0);
         let Taking::Done = taking else {
             return false;
         };
@@ -464,7 +565,7 @@ impl<J: Naming, W: ConnWrite + Drop> Writing<J, W> {
         ensures leads { LeadsOn W.contents W.failed self.old self.new }
         ensures inbox { self.new.inbox ≡ self.old.inbox }
     {
-        let taking = self.frames.take(warning, GREATEST_STREAM);
+        let taking = self.give(warning, GREATEST_STREAM);
         matches!(taking, Taking::Done)
     }
 

@@ -1,6 +1,10 @@
-use Rattle.std.proofs.Common.{refl, Some}
+use Rattle.std.proofs.Common.{◌∙◌, Some, refl, sym}
+use Rattle.writerloop.proofs.CallSteps.{keys-lanes}
 use Rattle.writerloop.proofs.WrittenSteps.{fills-on, fills-over, fills-stopped, leads-out, leads-still, goes-frames}
 use Rattle.writerloop.proofs.writing.Writing.fill.Goals as goal
+
+pub invariant_of-self : goal.invariant_of-self
+invariant_of-self g c = record { aligned = c.args.self.now.aligned ∙ sym (keys-lanes _ _ c.fill.ensures.senders) }
 
 pub returns-clause-leads : goal.returns-clause-leads
 returns-clause-leads g c =

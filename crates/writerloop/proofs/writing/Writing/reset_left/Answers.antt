@@ -1,9 +1,9 @@
-use Rattle.std.proofs.Common.{◌∙◌, ap}
+use Rattle.std.proofs.Common.{◌∙◌, ap, rules}
 use Rattle.writerloop.proofs.WrittenSteps.{leads-then}
 use Rattle.writerloop.proofs.writing.Writing.reset_left.Goals as goal
 
 pub calls-init : goal.calls-init
-calls-init g c = record { leads = c.look.ensures.stays.leads; kept = ?kept; going = ?going }
+calls-init g c = record { leads = c.look.ensures.stays.leads; kept = search rules; going = search rules }
 
 pub calls-preserved : goal.calls-preserved
 calls-preserved g c = record {

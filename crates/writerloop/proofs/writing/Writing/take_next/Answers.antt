@@ -27,12 +27,10 @@ pub returns-then-self-clause-leads : goal.returns-then-self-clause-leads
 returns-then-self-clause-leads g c =
     leads-over g.W.ConnWrite.contents g.W.ConnWrite.failed c.pass_over.result c.in-Some.order c.args.self.now c.pass_over.new.self c.next.new.self
     (subst (λ (next : Option (Control _)). Gives next c.args.self.now.inbox c.next.new.self) c.in-Some.is c.next.ensures.gives) c.if-self.true c.pass_over.ensures.passes c.pass_over.ensures.inbox
-    (λ early.
-    let waits = c.pass_over.ensures.waits early in
-    let same = c.pass_over.ensures.same early in (
-      waits.1,
-      ap (λ w. w.frames) waits.0,
-      record { numbers = ap (λ calls. numbers calls.items) same.0; way = same.1 },
-      ap (λ w. w.blames) waits.0,
-      record { input = ap (λ w. w.input_ended) waits.0; closed = ap (λ w. w.closed) waits.0 },
-    )) c.pass_over.ensures.either ?closes
+    (λ early. (
+      c.pass_over.ensures.waits early,
+      c.pass_over.ensures.frames early,
+      record { numbers = ap (λ calls. numbers calls.items) (c.pass_over.ensures.same early).0; way = (c.pass_over.ensures.same early).1 },
+      c.pass_over.ensures.blames,
+      record { input = c.pass_over.ensures.input; closed = c.pass_over.ensures.open early },
+    )) c.pass_over.ensures.either c.pass_over.ensures.heeds

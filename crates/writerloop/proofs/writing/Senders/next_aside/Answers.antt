@@ -1,0 +1,17 @@
+use Rattle.std.proofs.Common.{◌≡◌, ◌∙◌, [], Some, ap, refl, rules, subst, sym}
+use Rattle.writerloop.specs.Orders.{order_in}
+use Rattle.writerloop.specs.Sent.{opens}
+use Rattle.writerloop.proofs.RestSteps.{hands-aside}
+use Rattle.writerloop.proofs.SentSteps.{opens-none}
+use Rattle.writerloop.proofs.WrittenSteps.{as-plain}
+use Rattle.writerloop.proofs.writing.Senders.next_aside.Goals as goal
+
+pub returns-in-Ok-clause-none : goal.returns-in-Ok-clause-none
+returns-in-Ok-clause-none g c =
+    let is : c.args.self.now.aside ≡ Some c.in_ok-order.order = search rules in
+    subst (λ aside. opens (order_in aside) ≡ []) (sym is) (opens-none c.in_ok-order.order (as-plain c.in_ok-order.order c.in-Ok._plain (sym c.in-Ok.ensures.same) c.in-Ok.ensures.plain))
+
+pub returns-in-Err-clause-some : goal.returns-in-Err-clause-some
+returns-in-Err-clause-some g c =
+    let is : c.args.self.now.aside ≡ Some c.in_ok-order.order = search rules in
+    hands-aside c.in-Err._id c.in-Err.opening _ c.args.self.now _ (is ∙ ap (λ order. Some order) c.in-Err.ensures.opens) refl refl refl refl
