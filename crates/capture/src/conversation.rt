@@ -1,6 +1,6 @@
 //! A connection of TCP whose sides sent bytes, as the records of a capture.
 
-ghost use Rattle.std.specs.Prelude.{◌≡◌, ◌+◌, ◌%◌, ◌^◌, ◌<◌, ◌≤◌, List, [], length, take, drop, IfOk, OnErr};
+ghost use Rattle.std.specs.Prelude.{◌≡◌, ◌+◌, ◌%◌, ◌^◌, ◌<◌, ◌≤◌, ◌++◌, List, [], length, take, drop, IfOk, OnErr};
 ghost use Rattle.capture.specs.declared.packet.Packet.{Packet as PacketOf};
 ghost use Rattle.capture.specs.Conversations.{AreSent, advanced, closing, opened, opening, segment_of};
 ghost use Rattle.capture.specs.Format.{AreRecords, IsRecord};
@@ -35,6 +35,7 @@ pub struct Conversation {
 
 impl Conversation {
     /// The client opens it: three records of segments without bytes.
+    #[tactic(auto, using(crate::proofs::Steps::three_records))]
     pub fn open(
         alloc: Global,
         path: Path,
@@ -50,9 +51,10 @@ impl Conversation {
         };
         let asked = start.advanced(Side::Client, 1);
         let opened = asked.advanced(Side::Server, 1);
-        let mut text = start.segment(alloc, time, Side::Client, SYN, b"")?;
-        text.extend_from_slice(&asked.segment(alloc, time, Side::Server, SYN_ACK, b"")?)?;
-        text.extend_from_slice(&opened.segment(alloc, time, Side::Client, ACK, b"")?)?;
+        let first = start.segment(alloc, time, Side::Client, SYN, b"")?;
+        let second = asked.segment(alloc, time, Side::Server, SYN_ACK, b"")?;
+        let third = opened.segment(alloc, time, Side::Client, ACK, b"")?;
+        let text = three(first, &second, &third)?;
         Ok((opened, text))
     }
 
@@ -74,7 +76,8 @@ impl Conversation {
         let mut rest = bytes;
         while !rest.is_empty() {
             let (part, behind) = parted(rest);
-            text.extend_from_slice(&now.segment(alloc, time, side, PSH_ACK, part)?)?;
+            let first = now.segment(alloc, time, side, PSH_ACK, part)?;
+            text.extend_from_slice(&first)?;
             now = now.advanced(side, part.len());
             rest = behind;
         }
@@ -83,14 +86,16 @@ impl Conversation {
     }
 
     /// The client closes it, and then the server: three records of segments without bytes.
+    #[tactic(auto, using(crate::proofs::Steps::three_records))]
     pub fn close(self, alloc: Global, time: Time) -> Result<Vec<u8>, AllocError>
         ensures { IfOk result (λ text. AreRecords text.items (closing self time)) }
     {
         let asked = self.advanced(Side::Client, 1);
         let closed = asked.advanced(Side::Server, 1);
-        let mut text = self.segment(alloc, time, Side::Client, FIN_ACK, b"")?;
-        text.extend_from_slice(&asked.segment(alloc, time, Side::Server, FIN_ACK, b"")?)?;
-        text.extend_from_slice(&closed.segment(alloc, time, Side::Client, ACK, b"")?)?;
+        let first = self.segment(alloc, time, Side::Client, FIN_ACK, b"")?;
+        let second = asked.segment(alloc, time, Side::Server, FIN_ACK, b"")?;
+        let third = closed.segment(alloc, time, Side::Client, ACK, b"")?;
+        let text = three(first, &second, &third)?;
         Ok(text)
     }
 
@@ -139,12 +144,26 @@ impl Conversation {
     }
 }
 
+/// Three texts after one another.
+fn three(first: Vec<u8>, second: &[u8], third: &[u8]) -> Result<Vec<u8>, AllocError>
+    ensures { IfOk result (λ text. text.items ≡ (first.items ++ second.now) ++ third.now) }
+{
+    let mut text = first;
+    text.extend_from_slice(second)?;
+    text.extend_from_slice(third)?;
+    Ok(text)
+}
+
 /// The first 65,000 bytes, or all where there are fewer, and what is behind them.
+#[tactic(auto, using(std::proofs::lemmas::List::take_all, std::proofs::lemmas::List::drop_all))]
 fn parted(bytes: &[u8]) -> (&[u8], &[u8])
     ensures front { result.0.now ≡ take 65000 bytes.now }
     ensures behind { result.1.now ≡ drop 65000 bytes.now }
     ensures short { length result.0.now ≤ 65000 }
     ensures shorter { 0 < length bytes.now → length result.1.now < length bytes.now }
 {
-    bytes.split_at(bytes.len().min(MOST_PAYLOAD))
+    if bytes.len() <= MOST_PAYLOAD {
+        return (bytes, b"");
+    }
+    bytes.split_at(MOST_PAYLOAD)
 }

@@ -31,8 +31,9 @@ pub(crate) fn record_of(
 {
     let segment = segment(alloc, head, payload)?;
     let packet = packet(alloc, &head.path.hosts, &segment)?;
-    let record_head = record_head(time, packet.len() as u32);
-    let text = joined(alloc, &record_head, b"", b"", &packet)?;
+    let bytes = packet.as_slice();
+    let front = record_head(time, bytes.len() as u32);
+    let text = joined(alloc, &front, b"", b"", bytes)?;
     Ok(text)
 }
 
@@ -76,11 +77,13 @@ fn segment(alloc: Global, head: &SegmentHead, payload: &[u8]) -> Result<Vec<u8>,
     ensures checked { IfOk result (λ text. IsChecked head.now.path.hosts text.items) }
     ensures size { IfOk result (λ text. length text.items ≡ 20 + length payload.now) }
 {
-    let sum = pseudo_sum(&head.path.hosts, 20 + payload.len())
-        + word_sum(&segment_head(head, 0))
-        + word_sum(payload);
-    let head = segment_head(head, checksum(sum));
-    let text = joined(alloc, &head, b"", b"", payload)?;
+    let pseudo = pseudo_sum(&head.path.hosts, 20 + payload.len());
+    let blank = segment_head(head, 0);
+    let of_head = word_sum(&blank);
+    let of_payload = word_sum(payload);
+    let sum = checksum(pseudo + of_head + of_payload);
+    let front = segment_head(head, sum);
+    let text = joined(alloc, &front, b"", b"", payload)?;
     Ok(text)
 }
 
@@ -134,9 +137,13 @@ fn v4_packet(
     ensures size { IfOk result (λ text. length text.items ≡ 20 + length segment.now) }
 {
     let size = (20 + segment.len()) as u16;
-    let sum = word_sum(&v4_head(size, 0)) + word_sum(from) + word_sum(to);
-    let head = v4_head(size, checksum(sum));
-    let text = joined(alloc, &head, from, to, segment)?;
+    let blank = v4_head(size, 0);
+    let of_head = word_sum(&blank);
+    let of_source = word_sum(from);
+    let of_destination = word_sum(to);
+    let sum = checksum(of_head + of_source + of_destination);
+    let front = v4_head(size, sum);
+    let text = joined(alloc, &front, from, to, segment)?;
     Ok(text)
 }
 
@@ -160,8 +167,8 @@ fn v6_packet(
     ensures packet { IfOk result (λ text. IsV6 text.items from.now to.now segment.now) }
     ensures size { IfOk result (λ text. length text.items ≡ 40 + length segment.now) }
 {
-    let head = v6_head(segment.len() as u16);
-    let text = joined(alloc, &head, from, to, segment)?;
+    let front = v6_head(segment.len() as u16);
+    let text = joined(alloc, &front, from, to, segment)?;
     Ok(text)
 }
 

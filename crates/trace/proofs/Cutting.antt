@@ -159,3 +159,11 @@ one_cut first next last bytes rest left (item ∷ items) (thing ∷ others) (tex
 pub frame_is_read : (text : List ℕ) (frame : FrameOf) (fault : Option FrameFault) → IsSpelling text frame fault → (payload : List ℕ) × Spells InFrames text (Frame frame.head payload)
 frame_is_read text frame fault (skipped, fits, e, is) =
     (payload_text frame.head skipped frame.content, ((skipped.reserved, fits.reserved, fits.head, e), fits.payload))
+
+-- ---- the preface
+
+pub preface_first : (bytes : List ℕ) → take 24 bytes ≡ preface → bytes ≡ preface ++ drop 24 bytes
+preface_first bytes e = sym (take-append-drop 24 bytes) ∙ ap (λ (front : List ℕ). front ++ drop 24 bytes) e
+
+pub preface_taken : (bytes rest : List ℕ) → bytes ≡ preface ++ rest → (take 24 bytes ≡ preface) × (24 ≤ length bytes)
+preface_taken bytes rest e = (ap (λ (b : List ℕ). take 24 b) e, omega (arith, ap length e))

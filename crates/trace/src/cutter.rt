@@ -1,9 +1,9 @@
 //! Cutting the bytes of one side into its preface and frames, in whatever pieces they come (RFC 9113, sections 3.4 and 4.1).
 
-ghost use Rattle.std.specs.Prelude.{◌≡◌, ◌<◌, ◌≤◌, ◌^◌, ◌++◌, [], length, drop, IfOk, IfNone, IfSome, OnOk};
+ghost use Rattle.std.specs.Prelude.{◌≡◌, ◌<◌, ◌≤◌, ◌^◌, ◌++◌, ℕ, List, [], false, length, drop, IfOk, IfNone, IfSome, IsTrue, OnOk};
 ghost use Rattle.h2frame.specs.FrameList.{BeginsWith};
 ghost use Rattle.trace.specs.declared.item.Stage.TheVariants as stages;
-ghost use Rattle.trace.specs.Cuts.{Cut, IsUnfinished, Takes};
+ghost use Rattle.trace.specs.Cuts.{Cut, IsUnfinished, Takes, preface};
 
 use crate::item::{Item, Stage};
 use bytes::{Bytes, BytesMut};
@@ -102,11 +102,22 @@ fn first_preface(kept: &mut BytesMut) -> Option<Item>
     ensures none { IfNone result (IsUnfinished stages.BeforePreface kept.old.items) }
     ensures kept { IfNone result (kept.new.items ≡ kept.old.items) }
 {
-    if !kept.as_slice().starts_with(PREFACE) {
+    if !begins_with_preface(kept.as_slice()) {
         return None;
     }
     kept.advance(PREFACE.len());
     Some(Item::Preface)
+}
+
+fn begins_with_preface(bytes: &[u8]) -> bool
+    ensures yes { IsTrue result → bytes.now ≡ preface ++ drop 24 bytes.now }
+    ensures no { result ≡ false → (rest : List ℕ) → bytes.now ≡ preface ++ rest → ⊥ }
+    ensures long { IsTrue result → 24 ≤ length bytes.now }
+{
+    if bytes.len() < PREFACE.len() {
+        return false;
+    }
+    &bytes[..PREFACE.len()] == PREFACE
 }
 
 fn first_frame(kept: &mut BytesMut) -> Result<Option<Item>, AllocError>

@@ -11,6 +11,7 @@ use crate::line::Line;
 use crate::messages::Messages;
 use crate::told::Told;
 use crate::windows::{Moved, Windows};
+use bytes::Bytes;
 use callhead::read_status;
 use h2frame::{Flags, FrameFault, FrameHead, FrameKind, SettingId, StreamId};
 use indexmap::IndexMap;
@@ -106,17 +107,12 @@ impl Trace {
 
     /// The connection has ended: a line for what each side has left over, where there is any.
     pub fn end(self, time: u64) -> Result<Vec<Line>, AllocError> {
-        let Trace {
-            alloc,
-            client,
-            server,
-            ..
-        } = self;
-        let mut lines = Vec::new(alloc);
-        if let Some(rest) = client.cutter.end()? {
+        let mut lines = Vec::new(self.alloc);
+        let Trace { client, server, .. } = self;
+        if let Some(rest) = client.end()? {
             lines.push(Line::rest(time, Side::Client, rest))?;
         }
-        if let Some(rest) = server.cutter.end()? {
+        if let Some(rest) = server.end()? {
             lines.push(Line::rest(time, Side::Server, rest))?;
         }
         Ok(lines)
@@ -160,8 +156,9 @@ impl Trace {
 
     fn frame(&mut self, side: Side, head: &FrameHead, payload: &[u8]) -> Result<Told, AllocError> {
         // A side may take longer frames than 16,384 bytes, and say so.
-        if let Some(fault @ (FrameFault::WrongStream | FrameFault::BadLength)) = head.fault() {
-            return Ok(Told::Fault(fault));
+        match head.fault() {
+            None | Some(FrameFault::TooLong) => {}
+            Some(fault) => return Ok(Told::Fault(fault)),
         }
         match head.kind {
             FrameKind::Data => self.data(side, head, payload),
@@ -319,6 +316,12 @@ impl Sender {
             blocks: Blocks::new(alloc),
             windows: Windows::FIRST,
         }
+    }
+
+    /// What is left of its bytes.
+    fn end(self) -> Result<Option<Bytes>, AllocError> {
+        let Sender { cutter, .. } = self;
+        cutter.end()
     }
 }
 

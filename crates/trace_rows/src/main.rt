@@ -14,7 +14,6 @@ use anyhow::{Context, Result, bail};
 use capture::{Conversation, FILE_HEAD, Hosts, Packet, Path, Side as Sender, Time, read};
 use std::alloc::Global;
 use std::env;
-use std::io;
 use std::rt::Env;
 use trace::{Form, Shown, Side, Trace};
 
@@ -141,10 +140,22 @@ fn print_packet(rt: &(impl Print + AllocGlobal), packet: &Packet) -> Result<()> 
     Ok(())
 }
 
+fn read_input(rt: &HostRuntime) -> Result<String> {
+    let mut text = String::new(rt.alloc());
+    for _ in 0..u64::MAX {
+        let mut line = String::new(rt.alloc());
+        if rt.read_line(&mut line)? == 0 {
+            break;
+        }
+        text.push_str(line.as_str())?;
+    }
+    Ok(text)
+}
+
 fn main(rt: HostRuntime) -> Result<()> {
     let alloc = rt.alloc();
     let words: Vec<String> = env::args(&rt)?.skip(1).collect(alloc)?;
-    let text = io::read_to_string(alloc, io::stdin(&rt).lock())?;
+    let text = read_input(&rt)?;
     let word = words.first().map(String::as_str).unwrap_or("short");
     if word == "read" {
         let bytes = hex::decode(alloc, text.trim())?;
