@@ -57,7 +57,7 @@ def answers(client):
         sent.append(frame(1, 5, stream, encoder.encode([("grpc-status", str(number % 17)), ("grpc-message", 'a "b"')])))
         sent.append(frame(8, 0, stream, struct.pack(">I", 5)))
     sent.append(frame(8, 0, 0, struct.pack(">I", 70000)))
-    sent.append(frame(7, 0, 0, struct.pack(">II", streams[-1], 11) + b"too_many_pings"))
+    sent.append(frame(7, 0, 0, struct.pack(">II", max(streams, default=0), 11) + b"too_many_pings"))
     return b"".join(sent)
 
 

@@ -1,11 +1,12 @@
 //! A connection of TCP whose sides sent bytes, as the records of a capture.
 
-ghost use Rattle.std.specs.Prelude.{◌≡◌, ◌+◌, ◌%◌, ◌^◌, ◌<◌, ◌≤◌, ◌++◌, List, [], length, take, drop, IfOk, OnErr};
+ghost use Rattle.std.specs.Prelude.{◌≡◌, ◌+◌, ◌%◌, ◌^◌, ◌<◌, ◌≤◌, ◌++◌, List, [], length, take, drop, Some, IsNone, IfOk, OnErr};
 ghost use Rattle.capture.specs.declared.packet.Packet.{Packet as PacketOf};
-ghost use Rattle.capture.specs.Conversations.{AreSent, advanced, closing, opened, opening, segment_of};
+ghost use Rattle.capture.specs.Conversations.{AreSent, advanced, back, closing, opened, opening, segment_of};
 ghost use Rattle.capture.specs.Format.{AreRecords, IsRecord};
+ghost use Rattle.capture.specs.declared.conversation.Side.TheVariants as sides;
 
-use crate::packet::{Path, SegmentFlags, SegmentHead, Time};
+use crate::packet::{Packet, Path, SegmentFlags, SegmentHead, Time};
 use crate::writing::{MOST_PAYLOAD, record_of};
 use std::alloc::{AllocError, Global};
 
@@ -142,6 +143,22 @@ impl Conversation {
         }
         next
     }
+}
+
+/// Which side of the connection with this path, from its client to its server, sent a packet, if one did.
+pub fn side_of(path: &Path, packet: &Packet) -> Option<Side>
+    ensures client { result ≡ Some sides.Client → packet.now.head.path ≡ path.now }
+    ensures server { result ≡ Some sides.Server → packet.now.head.path ≡ back path.now }
+    ensures other { IsNone result → packet.now.head.path ≡ path.now → ⊥ }
+    ensures neither { IsNone result → packet.now.head.path ≡ back path.now → ⊥ }
+{
+    if packet.head.path == *path {
+        return Some(Side::Client);
+    }
+    if packet.head.path == path.back() {
+        return Some(Side::Server);
+    }
+    None
 }
 
 /// Three texts after one another.

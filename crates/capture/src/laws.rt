@@ -16,3 +16,9 @@ pub fn joins()
         AreRecords text packets → AreRecords more others
         → AreRecords (text ++ more) (packets ++ others) }
 {}
+
+/// A file whose head is followed by records has their packets.
+pub fn is_capture()
+    ensures { (head text : List ℕ) (packets : List PacketOf) →
+        IsFileHead head → AreRecords text packets → IsCapture (head ++ text) packets }
+{}

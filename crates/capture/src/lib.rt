@@ -17,8 +17,8 @@ mod packet;
 mod reading;
 mod writing;
 
-pub use conversation::{Conversation, Side};
-pub use laws::{joins, one_capture};
+pub use conversation::{Conversation, Side, side_of};
+pub use laws::{is_capture, joins, one_capture};
 pub use packet::{Hosts, Packet, Path, SegmentFlags, SegmentHead, Time};
 pub use reading::{CaptureFault, read};
-pub use writing::{FILE_HEAD, MOST_PAYLOAD};
+pub use writing::{MOST_PAYLOAD, file_head};

@@ -11,12 +11,13 @@ ghost use Rattle.capture.specs.Format.{AreRecords, IsCapture, IsRecord, IsPacket
 use crate::checksum::{is_all_ones, word_sum};
 use crate::fields::{be16_at, be32_at, le32_at, v4_address, v6_address};
 use crate::packet::{Hosts, Packet, Path, SegmentFlags, SegmentHead, Time};
-use crate::writing::{FILE_HEAD, pseudo_sum};
+use crate::writing::pseudo_sum;
 use bytes::Bytes;
 use std::alloc::{AllocError, AllocFailed, Global};
 use thiserror::Error;
 
-/// The bytes before a record's packet, before the segment in a packet of either version, and before a segment's payload.
+/// The bytes before a file's first record, before a record's packet, before the segment in a packet of either version, and before a segment's payload.
+const FILE_HEAD: usize = 24;
 const RECORD_HEAD: usize = 16;
 const V4_HEAD: usize = 20;
 const V6_HEAD: usize = 40;
@@ -62,7 +63,7 @@ pub fn read(alloc: Global, bytes: &[u8]) -> Result<Vec<Packet>, CaptureFault>
         → MatchResult result (λ read. read.items ≡ packets)
         (λ fault. fault ≡ OutOfMemory) }
 {
-    let Some((head, records)) = bytes.split_at_checked(FILE_HEAD.len()) else {
+    let Some((head, records)) = bytes.split_at_checked(FILE_HEAD) else {
         return Err(CaptureFault::Head);
     };
     if !is_file_head(head) {

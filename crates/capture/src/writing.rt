@@ -2,7 +2,7 @@
 
 ghost use Rattle.std.specs.Prelude.{◌≡◌, ◌+◌, ◌<◌, ◌≤◌, ◌^◌, ◌++◌, length, IfOk};
 ghost use Rattle.capture.specs.Checksum.{pseudo_sum};
-ghost use Rattle.capture.specs.Format.{IsRecord, IsPacket, IsV4, IsV6, IsSegment, IsChecked};
+ghost use Rattle.capture.specs.Format.{IsFileHead, IsRecord, IsPacket, IsV4, IsV6, IsSegment, IsChecked};
 ghost use Rattle.capture.specs.Writing.{segment_head, v4_head, v6_head, record_head};
 
 use crate::checksum::{checksum, word_sum};
@@ -14,9 +14,14 @@ pub const MOST_PAYLOAD: usize = 65_000;
 
 /// What a file begins with: the magic number, the version, two unused fields, the most bytes that are kept of a packet, and that packets
 /// begin with the head of IP.
-pub const FILE_HEAD: [u8; 24] = [
-    0xd4, 0xc3, 0xb2, 0xa1, 2, 0, 4, 0, 0, 0, 0, 0, 0, 0, 0, 0, 0, 0, 4, 0, 101, 0, 0, 0,
-];
+#[tactic(auto, unfolding(crate::specs::Fields::le32_at))]
+pub fn file_head() -> [u8; 24]
+    ensures { IsFileHead result }
+{
+    [
+        0xd4, 0xc3, 0xb2, 0xa1, 2, 0, 4, 0, 0, 0, 0, 0, 0, 0, 0, 0, 0, 0, 4, 0, 101, 0, 0, 0,
+    ]
+}
 
 /// The record of a packet.
 pub(crate) fn record_of(

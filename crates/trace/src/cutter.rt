@@ -64,7 +64,8 @@ impl Cutter {
             return Ok(None);
         }
         let mut kept = kept;
-        let rest = kept.freeze_to(kept.len())?;
+        let length = kept.len();
+        let rest = kept.freeze_to(length)?;
         Ok(Some(rest))
     }
 }

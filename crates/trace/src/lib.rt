@@ -6,7 +6,7 @@
 //! were cut into pieces.
 //!
 //! Read `item` for what bytes are cut into, `cutter` for the cutting; `content`, `blocks`, `messages` and `windows` for what is
-//! known of a connection, `spelling` for how fields are spelled, `told` and `trace` for what a frame comes to; `names`, `text` and
+//! known of a connection, `spelling` for how fields are spelled, `told` and `tracing` for what a frame comes to; `names`, `text` and
 //! `line` for how it is written.
 #![tactic(auto)]
 
@@ -21,7 +21,7 @@ mod names;
 mod spelling;
 mod text;
 mod told;
-mod trace;
+mod tracing;
 mod windows;
 
 pub use cutter::Cutter;
@@ -30,5 +30,5 @@ pub use laws::{joins, one_cut, reads_frames};
 pub use line::{Form, Line, Shown};
 pub use messages::{Part, Prefix};
 pub use told::Told;
-pub use trace::{Side, Trace};
+pub use tracing::{Side, Trace};
 pub use windows::Change;

@@ -7,7 +7,7 @@ use crate::names::{FlagNames, SettingName};
 use crate::spelling::Spelling;
 use crate::text::{Digits, Quoted, front_of};
 use crate::told::Told;
-use crate::trace::{Side, number_at};
+use crate::tracing::{Side, number_at};
 use crate::windows::Change;
 use bytes::Bytes;
 use figures::{ErrorName, Grouped, KindName, byte_count};
@@ -64,7 +64,7 @@ impl fmt::Display for Shown<'_> {
             item,
             told,
         } = self.line;
-        let (seconds, micros) = (time / SECOND, time % SECOND);
+        let (seconds, micros) = (*time / SECOND, *time % SECOND);
         write!(f, "{seconds}.{micros:06} {side}")?;
         match item {
             Item::Preface => write!(f, " preface, 24 bytes"),

@@ -104,14 +104,14 @@ impl Messages {
         if self.prefixed == 0 {
             self.begun = self.begun.saturating_add(1);
         }
-        let mut count = 0;
+        let mut count: usize = 0;
         for byte in bytes {
             if self.prefixed >= PREFIX {
                 break;
             }
             self.prefix[self.prefixed] = *byte;
             self.prefixed += 1;
-            count += 1;
+            count = count.saturating_add(1);
         }
         if self.prefixed == PREFIX {
             self.prefixed = 0;

@@ -1,7 +1,7 @@
 //! The names of flags, settings and spellings.
 
 use crate::spelling::Spelling;
-use crate::trace::Side;
+use crate::tracing::Side;
 use h2frame::{Flags, FrameHead, FrameKind, SettingId};
 use std::fmt;
 

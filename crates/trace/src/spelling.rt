@@ -79,10 +79,11 @@ fn integer(prefix_bits: u32, bytes: &[u8]) -> Option<(u32, &[u8])> {
         6 => 0x3f,
         _ => 0x7f,
     };
-    let mut number = u64::from(*first & most);
-    if number < u64::from(most) {
-        return Some((number as u32, rest));
+    let front = *first & most;
+    if front < most {
+        return Some((u32::from(front), rest));
     }
+    let mut number = u64::from(front);
     let mut worth: u64 = 1;
     let mut rest = rest;
     for _ in 0..5 {

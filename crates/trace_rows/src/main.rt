@@ -11,7 +11,7 @@
 #![tactic(auto)]
 
 use anyhow::{Context, Result, bail};
-use capture::{Conversation, FILE_HEAD, Hosts, Packet, Path, Side as Sender, Time, read};
+use capture::{Conversation, Hosts, Packet, Path, Side as Sender, Time, file_head, read, side_of};
 use std::alloc::Global;
 use std::env;
 use std::rt::Env;
@@ -103,7 +103,7 @@ fn print_capture(rt: &(impl Print + AllocGlobal), pieces: &[Piece], hosts: Hosts
         from_port: 40_000,
         to_port: 50_051,
     };
-    let mut file = Vec::from_slice(alloc, &FILE_HEAD)?;
+    let mut file = Vec::from_slice(alloc, &file_head())?;
     let mut last = Time {
         seconds: 0,
         micros: 0,
@@ -124,16 +124,16 @@ fn print_capture(rt: &(impl Print + AllocGlobal), pieces: &[Piece], hosts: Hosts
     Ok(())
 }
 
-fn print_packet(rt: &(impl Print + AllocGlobal), packet: &Packet) -> Result<()> {
+fn print_packet(rt: &(impl Print + AllocGlobal), path: &Path, packet: &Packet) -> Result<()> {
     if packet.payload.is_empty() {
         return Ok(());
     }
     let Time { seconds, micros } = packet.time;
     let time = u64::from(seconds) * SECOND + u64::from(micros);
-    let side = if packet.head.path.from_port == 40_000 {
-        "client"
-    } else {
-        "server"
+    let side = match side_of(path, packet) {
+        Some(Sender::Client) => "client",
+        Some(Sender::Server) => "server",
+        None => bail!("of another connection"),
     };
     let digits = hex::encode(rt.alloc(), packet.payload.as_slice())?;
     println!(rt; "{time} {side} {digits}")?;
@@ -159,8 +159,12 @@ fn main(rt: HostRuntime) -> Result<()> {
     let word = words.first().map(String::as_str).unwrap_or("short");
     if word == "read" {
         let bytes = hex::decode(alloc, text.trim())?;
-        for packet in &read(alloc, bytes.as_slice())? {
-            print_packet(&rt, packet)?;
+        let packets = read(alloc, bytes.as_slice())?;
+        let Some(first) = packets.first() else {
+            return Ok(());
+        };
+        for packet in &packets {
+            print_packet(&rt, &first.head.path, packet)?;
         }
         return Ok(());
     }
