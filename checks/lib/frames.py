@@ -165,10 +165,21 @@ def by_tshark(name, capture, client, server):
     return len(found["client"]) + len(found["server"])
 
 
-def main(program):
+def captured(program, name, text, client, server, by_others):
+    """A capture is read back, and tshark finds the frames in it, which are counted."""
+    total = 0
+    for word in ("capture", "capture6"):
+        digits = run(program, [word], text)
+        want(run(program, ["read"], digits) == "".join(part + "\n" for line in text.splitlines() for part in split(line)), f"{name}: {word} isn't read back")
+        if by_others and shutil.which("tshark"):
+            total += by_tshark(f"{name} {word}", bytes.fromhex(digits), client, server)
+    return total
+
+
+def main(program, names):
     total = shown = 0
     for file in sorted(os.listdir(RECORDINGS)):
-        if not file.endswith(".hex"):
+        if not file.endswith(".hex") or names and file[:-4] not in names:
             continue
         name = file[:-4]
         with open(os.path.join(RECORDINGS, file)) as digits:
@@ -186,12 +197,8 @@ def main(program):
                 texts.add((side, "\n".join(line.split(" ", 1)[1] for line in mine if not re.search(" (DATA|WINDOW_UPDATE|SETTINGS)", line))))
             want(run(program, ["short"], text) == run(program, ["cut", "5"], text), f"{name}: another text in pieces of 5")
             shown += len(lines)
+            total += captured(program, name, text, client_frames, server_frames, seed == 1)
         want(len(texts) == 2, f"{name}: another text where the pieces are others")
-        for word in ("capture", "capture6"):
-            capture = run(program, [word], text)
-            want(run(program, ["read"], capture) == "".join(line + "\n" for line in text.splitlines() for line in split(line)), f"{name}: {word} isn't read back")
-            if shutil.which("tshark"):
-                total += by_tshark(f"{name} {word}", bytes.fromhex(capture), client_frames, server_frames)
     print(f"frames: {shown} lines, {total} frames by tshark, {wrong} wrong")
     return 1 if wrong else 0
 
@@ -203,4 +210,4 @@ def split(line):
 
 
 if __name__ == "__main__":
-    sys.exit(main(sys.argv[1]))
+    sys.exit(main(sys.argv[1], sys.argv[2:]))

@@ -55,7 +55,7 @@ is_checked hosts head checksum payload small ones =
     let words = segment_words head checksum payload small in
     let size = head_length head checksum payload in
     let same : pseudo_sum hosts (20 + length payload) + word_sum (segment_head head 0) + word_sum payload + checksum
-        ≡ pseudo_sum hosts (length (segment_head head checksum ++ payload)) + word_sum (segment_head head checksum ++ payload) = omega (arith, words, size) in
+    ≡ pseudo_sum hosts (length (segment_head head checksum ++ payload)) + word_sum (segment_head head checksum ++ payload) = omega (arith, words, size) in
     subst IsAllOnes same ones
 
 -- ---- a packet of IPv4
@@ -79,7 +79,7 @@ plain_v4 : (size checksum a b c d e f g h : ℕ) (segment : List ℕ) → size <
 unfolding v4_head be16_at
 plain_v4 size checksum a b c d e f g h segment small long fits ones =
     let words = v4_words (slice_index (to_be_bytes w16 size) 0) (slice_index (to_be_bytes w16 size) 1) (slice_index (to_be_bytes w16 checksum) 0) (slice_index (to_be_bytes w16 checksum) 1) a b c d e f g h
-        ∙ ap (λ (n : ℕ). word_sum (v4_head size 0) + word_sum (a ∷ b ∷ c ∷ d ∷ []) + word_sum (e ∷ f ∷ g ∷ h ∷ []) + n) (word_of checksum fits) in
+    ∙ ap (λ (n : ℕ). word_sum (v4_head size 0) + word_sum (a ∷ b ∷ c ∷ d ∷ []) + word_sum (e ∷ f ∷ g ∷ h ∷ []) + n) (word_of checksum fits) in
     let total = from_be_bytes-to_be_bytes_2 size small in
     record {
       version = refl;
@@ -100,10 +100,10 @@ is_v4 size checksum from to segment small long fits source destination ones =
     let f = four from source in
     let t = four to destination in
     subst (λ (x : List ℕ). IsV4 (v4_head size checksum ++ (x ++ (to ++ segment))) x to segment) (sym f)
-      (subst (λ (y : List ℕ). IsV4 (v4_head size checksum ++ (_ ++ (y ++ segment))) _ y segment) (sym t)
-        (plain_v4 size checksum _ _ _ _ _ _ _ _ segment small long fits
-          (subst (λ (x : List ℕ). IsAllOnes (word_sum (v4_head size 0) + word_sum x + word_sum (slice_index to 0 ∷ slice_index to 1 ∷ slice_index to 2 ∷ slice_index to 3 ∷ []) + checksum)) f
-            (subst (λ (y : List ℕ). IsAllOnes (word_sum (v4_head size 0) + word_sum from + word_sum y + checksum)) t ones))))
+    (subst (λ (y : List ℕ). IsV4 (v4_head size checksum ++ (_ ++ (y ++ segment))) _ y segment) (sym t)
+    (plain_v4 size checksum _ _ _ _ _ _ _ _ segment small long fits
+    (subst (λ (x : List ℕ). IsAllOnes (word_sum (v4_head size 0) + word_sum x + word_sum (slice_index to 0 ∷ slice_index to 1 ∷ slice_index to 2 ∷ slice_index to 3 ∷ []) + checksum)) f
+    (subst (λ (y : List ℕ). IsAllOnes (word_sum (v4_head size 0) + word_sum from + word_sum y + checksum)) t ones))))
 
 -- ---- a packet of IPv6
 

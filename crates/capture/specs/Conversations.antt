@@ -20,12 +20,16 @@ back path = record { hosts = hosts_back path.hosts; from_port = path.to_port; to
 -- flags of a segment (section 3.1)
 abbrev pub fin_ack : ℕ
 fin_ack = 0x11
+
 abbrev pub syn : ℕ
 syn = 0x02
+
 abbrev pub syn_ack : ℕ
 syn_ack = 0x12
+
 abbrev pub ack : ℕ
 ack = 0x10
+
 abbrev pub psh_ack : ℕ
 psh_ack = 0x18
 

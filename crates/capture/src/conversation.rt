@@ -11,9 +11,13 @@ use crate::writing::{MOST_PAYLOAD, record_of};
 use std::alloc::{AllocError, Global};
 
 const FIN_ACK: u8 = 0x11;
+
 const SYN: u8 = 0x02;
+
 const SYN_ACK: u8 = 0x12;
+
 const ACK: u8 = 0x10;
+
 const PSH_ACK: u8 = 0x18;
 
 /// A side of a connection.

@@ -18,9 +18,13 @@ use thiserror::Error;
 
 /// The bytes before a file's first record, before a record's packet, before the segment in a packet of either version, and before a segment's payload.
 const FILE_HEAD: usize = 24;
+
 const RECORD_HEAD: usize = 16;
+
 const V4_HEAD: usize = 20;
+
 const V6_HEAD: usize = 40;
+
 const SEGMENT_HEAD: usize = 20;
 
 /// The protocol TCP.

@@ -96,13 +96,33 @@ fn segment(alloc: Global, head: &SegmentHead, payload: &[u8]) -> Result<Vec<u8>,
 fn segment_head(head: &SegmentHead, checksum: u16) -> [u8; 20]
     ensures { result ≡ segment_head head.now checksum }
 {
-    let (from, to) = (head.path.from_port.to_be_bytes(), head.path.to_port.to_be_bytes());
+    let (from, to) = (
+        head.path.from_port.to_be_bytes(),
+        head.path.to_port.to_be_bytes(),
+    );
     let (sequence, acknowledged) = (head.sequence.to_be_bytes(), head.acknowledged.to_be_bytes());
     let checksum = checksum.to_be_bytes();
     [
-        from[0], from[1], to[0], to[1], sequence[0], sequence[1], sequence[2], sequence[3],
-        acknowledged[0], acknowledged[1], acknowledged[2], acknowledged[3], 0x50, head.flags.bits,
-        0xff, 0xff, checksum[0], checksum[1], 0, 0,
+        from[0],
+        from[1],
+        to[0],
+        to[1],
+        sequence[0],
+        sequence[1],
+        sequence[2],
+        sequence[3],
+        acknowledged[0],
+        acknowledged[1],
+        acknowledged[2],
+        acknowledged[3],
+        0x50,
+        head.flags.bits,
+        0xff,
+        0xff,
+        checksum[0],
+        checksum[1],
+        0,
+        0,
     ]
 }
 
@@ -158,7 +178,18 @@ fn v4_head(size: u16, checksum: u16) -> [u8; 12]
 {
     let (size, checksum) = (size.to_be_bytes(), checksum.to_be_bytes());
     [
-        0x45, 0, size[0], size[1], 0, 0, 0x40, 0, 64, 6, checksum[0], checksum[1],
+        0x45,
+        0,
+        size[0],
+        size[1],
+        0,
+        0,
+        0x40,
+        0,
+        64,
+        6,
+        checksum[0],
+        checksum[1],
     ]
 }
 
