@@ -71,6 +71,7 @@ impl Cutter {
 }
 
 /// Takes the whole items off the front of what is kept.
+#[tactic(auto, using(crate::proofs::Cutting::cut_push, crate::proofs::Cutting::taken_is_shorter))]
 fn items_of(stage: &mut Stage, kept: &mut BytesMut) -> Result<Vec<Item>, AllocError>
     ensures cut { IfOk result (λ cut.
         Cut stage.old kept.old.items cut.items stage.new kept.new.items) }
@@ -97,6 +98,7 @@ fn first_item(stage: Stage, kept: &mut BytesMut) -> Result<Option<Item>, AllocEr
     }
 }
 
+#[tactic(auto, using(crate::proofs::Cutting::first_preface, crate::proofs::Cutting::no_preface))]
 fn first_preface(kept: &mut BytesMut) -> Option<Item>
     ensures some { IfSome result
         (λ item. Takes stages.BeforePreface kept.old.items item kept.new.items) }
@@ -110,6 +112,7 @@ fn first_preface(kept: &mut BytesMut) -> Option<Item>
     Some(Item::Preface)
 }
 
+#[tactic(auto, using(crate::proofs::Cutting::preface_first, crate::proofs::Cutting::preface_taken))]
 fn begins_with_preface(bytes: &[u8]) -> bool
     ensures yes { IsTrue result → bytes.now ≡ preface ++ drop 24 bytes.now }
     ensures no { result ≡ false → (rest : List ℕ) → bytes.now ≡ preface ++ rest → ⊥ }
@@ -121,6 +124,7 @@ fn begins_with_preface(bytes: &[u8]) -> bool
     &bytes[..PREFACE.len()] == PREFACE
 }
 
+#[tactic(auto, using(crate::proofs::Cutting::first_frame, crate::proofs::Cutting::short_is_unfinished, crate::proofs::Cutting::begun_is_unfinished))]
 fn first_frame(kept: &mut BytesMut) -> Result<Option<Item>, AllocError>
     ensures some { IfOk result (λ found. IfSome found
         (λ item. Takes stages.InFrames kept.old.items item kept.new.items)) }
@@ -141,7 +145,7 @@ fn first_frame(kept: &mut BytesMut) -> Result<Option<Item>, AllocError>
 }
 
 /// The head that the first nine bytes spell, where they are there.
-#[tactic(auto, unfolding(h2frame::specs::Reading::head_at))]
+#[tactic(auto, using(h2frame::proofs::Heads::begins), unfolding(h2frame::specs::Reading::head_at))]
 fn head_of(bytes: &[u8]) -> Option<FrameHead>
     ensures some { IfSome result (λ head. BeginsWith bytes.now head (drop 9 bytes.now)) }
     ensures long { IfSome result (λ head. 9 ≤ length bytes.now) }

@@ -80,6 +80,11 @@ impl fmt::Display for Shown<'_> {
                 let (kind, flags) = (KindName(head.kind), FlagNames(*head));
                 let count = byte_count(payload.len());
                 write!(f, " {kind}{flags}, {count}")?;
+                if let Told::Fault(fault) = told {
+                    let bytes = self.bytes(payload.as_slice());
+                    write_fault(f, *fault)?;
+                    return write!(f, ": {bytes}");
+                }
                 self.payload(f, head, payload.as_slice())?;
                 self.told(f, told)
             }

@@ -1,7 +1,10 @@
 //! A connection as its frames tell it.
 
-ghost use Rattle.std.specs.Prelude.{◌≡◌, IfOk};
-ghost use Rattle.trace.specs.Lines.{items_of};
+ghost use Rattle.std.specs.Prelude.{◌≡◌, ◌++◌, [], IfOk, OnOk};
+ghost use Rattle.trace.specs.declared.item.Stage.TheVariants as stages;
+ghost use Rattle.trace.specs.declared.tracing.Side.TheVariants as sides;
+ghost use Rattle.trace.specs.Cuts.{IsUnfinished};
+ghost use Rattle.trace.specs.Lines.{IsTold, items_of, pending_of, rest_of};
 
 use crate::blocks::Blocks;
 use crate::content::{content_of, promise_of};
@@ -11,7 +14,6 @@ use crate::line::Line;
 use crate::messages::Messages;
 use crate::told::Told;
 use crate::windows::{Moved, Windows};
-use bytes::Bytes;
 use callhead::read_status;
 use h2frame::{Flags, FrameFault, FrameHead, FrameKind, SettingId, StreamId};
 use indexmap::IndexMap;
@@ -27,7 +29,6 @@ pub enum Side {
 /// What is known of what one side sends.
 #[derive(Drop)]
 struct Sender {
-    cutter: Cutter,
     blocks: Blocks,
     /// What it may send.
     windows: Windows,
@@ -83,6 +84,15 @@ impl Side {
 #[derive(Drop)]
 pub struct Trace {
     alloc: Global,
+    client: Cutter,
+    server: Cutter,
+    known: Known,
+}
+
+/// What is known of a connection by the frames so far.
+#[derive(Drop)]
+struct Known {
+    alloc: Global,
     client: Sender,
     server: Sender,
     streams: IndexMap<StreamId, Stream>,
@@ -90,25 +100,57 @@ pub struct Trace {
 
 impl Trace {
     /// Nothing was sent. It takes no memory yet.
-    pub fn new(alloc: Global) -> Trace {
+    pub fn new(alloc: Global) -> Trace
+        ensures client { pending_of result sides.Client
+            ≡ record { stage = stages.BeforePreface; bytes = [] } }
+        ensures server { pending_of result sides.Server
+            ≡ record { stage = stages.InFrames; bytes = [] } }
+    {
         Trace {
             alloc,
-            client: Sender::new(alloc, Stage::BeforePreface),
-            server: Sender::new(alloc, Stage::InFrames),
-            streams: IndexMap::new(alloc),
+            client: Cutter::new(alloc, Stage::BeforePreface),
+            server: Cutter::new(alloc, Stage::InFrames),
+            known: Known {
+                alloc,
+                client: Sender::new(alloc),
+                server: Sender::new(alloc),
+                streams: IndexMap::new(alloc),
+            },
         }
     }
 
     /// A side sends these bytes, so many microseconds after the connection began: a line for each frame that is whole by them.
-    pub fn sent(&mut self, time: u64, side: Side, bytes: &[u8]) -> Result<Vec<Line>, AllocError> {
-        let items = self.sender(side).cutter.cut(bytes)?;
-        self.tell_all(time, side, items)
+    pub fn sent(&mut self, time: u64, side: Side, bytes: &[u8]) -> Result<Vec<Line>, AllocError>
+        // Each byte that the side sent is in one line, in order, or waits for more.
+        ensures cut { IfOk result (λ lines. IsTold self.old self.new side bytes.now lines.items) }
+
+        // No whole frame waits.
+        ensures all { OnOk result (IsUnfinished
+            (pending_of self.new side).stage (pending_of self.new side).bytes) }
+        ensures client { side ≡ sides.Server
+            → pending_of self.new sides.Client ≡ pending_of self.old sides.Client }
+        ensures server { side ≡ sides.Client
+            → pending_of self.new sides.Server ≡ pending_of self.old sides.Server }
+    {
+        let items = match side {
+            Side::Client => self.client.cut(bytes)?,
+            Side::Server => self.server.cut(bytes)?,
+        };
+        self.known.tell_all(time, side, items)
     }
 
     /// The connection has ended: a line for what each side has left over, where there is any.
-    pub fn end(self, time: u64) -> Result<Vec<Line>, AllocError> {
-        let mut lines = Vec::new(self.alloc);
-        let Trace { client, server, .. } = self;
+    pub fn end(self, time: u64) -> Result<Vec<Line>, AllocError>
+        ensures { IfOk result (λ lines. items_of lines.items
+            ≡ rest_of (pending_of self sides.Client) ++ rest_of (pending_of self sides.Server)) }
+    {
+        let Trace {
+            alloc,
+            client,
+            server,
+            ..
+        } = self;
+        let mut lines = Vec::new(alloc);
         if let Some(rest) = client.end()? {
             lines.push(Line::rest(time, Side::Client, rest))?;
         }
@@ -117,7 +159,9 @@ impl Trace {
         }
         Ok(lines)
     }
+}
 
+impl Known {
     fn sender(&mut self, side: Side) -> &mut Sender {
         match side {
             Side::Client => &mut self.client,
@@ -310,18 +354,11 @@ impl Trace {
 }
 
 impl Sender {
-    fn new(alloc: Global, stage: Stage) -> Sender {
+    fn new(alloc: Global) -> Sender {
         Sender {
-            cutter: Cutter::new(alloc, stage),
             blocks: Blocks::new(alloc),
             windows: Windows::FIRST,
         }
-    }
-
-    /// What is left of its bytes.
-    fn end(self) -> Result<Option<Bytes>, AllocError> {
-        let Sender { cutter, .. } = self;
-        cutter.end()
     }
 }
 
