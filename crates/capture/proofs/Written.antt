@@ -42,7 +42,16 @@ segment_words : (head : SegmentHead) (checksum : ℕ) (payload : List ℕ) → c
     → word_sum (segment_head head checksum ++ payload) ≡ word_sum (segment_head head 0) + checksum + word_sum payload
 unfolding segment_head
 segment_words head checksum payload small =
-    twenty_words _ _ _ _ _ _ _ _ _ _ _ _ _ _ _ _ _ _ payload ∙ ap (λ (n : ℕ). word_sum (segment_head head 0) + n + word_sum payload) (word_of checksum small)
+    let from = to_be_bytes w16 head.path.from_port in
+    let to = to_be_bytes w16 head.path.to_port in
+    let sequence = to_be_bytes w32 head.sequence in
+    let acknowledged = to_be_bytes w32 head.acknowledged in
+    let sum = to_be_bytes w16 checksum in
+    twenty_words (slice_index from 0) (slice_index from 1) (slice_index to 0) (slice_index to 1)
+      (slice_index sequence 0) (slice_index sequence 1) (slice_index sequence 2) (slice_index sequence 3)
+      (slice_index acknowledged 0) (slice_index acknowledged 1) (slice_index acknowledged 2) (slice_index acknowledged 3)
+      0x50 head.flags.bits 0xff 0xff (slice_index sum 0) (slice_index sum 1) payload
+    ∙ ap (λ (n : ℕ). word_sum (segment_head head 0) + n + word_sum payload) (word_of checksum small)
 
 head_length : (head : SegmentHead) (checksum : ℕ) (payload : List ℕ) → length (segment_head head checksum ++ payload) ≡ 20 + length payload
 unfolding segment_head
@@ -99,11 +108,16 @@ pub is_v4 : (size checksum : ℕ) (from to segment : List ℕ) → size < 2 ^ 16
 is_v4 size checksum from to segment small long fits source destination ones =
     let f = four from source in
     let t = four to destination in
-    subst (λ (x : List ℕ). IsV4 (v4_head size checksum ++ (x ++ (to ++ segment))) x to segment) (sym f)
-    (subst (λ (y : List ℕ). IsV4 (v4_head size checksum ++ (_ ++ (y ++ segment))) _ y segment) (sym t)
-    (plain_v4 size checksum _ _ _ _ _ _ _ _ segment small long fits
-    (subst (λ (x : List ℕ). IsAllOnes (word_sum (v4_head size 0) + word_sum x + word_sum (slice_index to 0 ∷ slice_index to 1 ∷ slice_index to 2 ∷ slice_index to 3 ∷ []) + checksum)) f
-    (subst (λ (y : List ℕ). IsAllOnes (word_sum (v4_head size 0) + word_sum from + word_sum y + checksum)) t ones))))
+    let fs : List ℕ = slice_index from 0 ∷ slice_index from 1 ∷ slice_index from 2 ∷ slice_index from 3 ∷ [] in
+    let ts : List ℕ = slice_index to 0 ∷ slice_index to 1 ∷ slice_index to 2 ∷ slice_index to 3 ∷ [] in
+    let front = v4_head size checksum in
+    let blank = word_sum (v4_head size 0) in
+    let half = subst (λ (x : List ℕ). IsAllOnes (blank + word_sum x + word_sum to + checksum)) f ones in
+    let whole = subst (λ (y : List ℕ). IsAllOnes (blank + word_sum fs + word_sum y + checksum)) t half in
+    let plain = plain_v4 size checksum (slice_index from 0) (slice_index from 1) (slice_index from 2) (slice_index from 3)
+          (slice_index to 0) (slice_index to 1) (slice_index to 2) (slice_index to 3) segment small long fits whole in
+    let one = subst (λ (y : List ℕ). IsV4 (front ++ (fs ++ (y ++ segment))) fs y segment) (sym t) plain in
+    subst (λ (x : List ℕ). IsV4 (front ++ (x ++ (to ++ segment))) x to segment) (sym f) one
 
 -- ---- a packet of IPv6
 
