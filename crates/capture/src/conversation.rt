@@ -132,7 +132,7 @@ impl Conversation {
                 flags,
             },
         };
-        record_of(alloc, time, &head, payload)
+        record_of(alloc, time, head, payload)
     }
 
     /// A side has sent so many bytes more, or SYN, or FIN.

@@ -27,12 +27,12 @@ pub fn file_head() -> [u8; 24]
 pub(crate) fn record_of(
     alloc: Global,
     time: Time,
-    head: &SegmentHead,
+    head: SegmentHead,
     payload: &[u8],
 ) -> Result<Vec<u8>, AllocError>
     requires { length payload.now ≤ 65000 }
     ensures { IfOk result (λ text. IsRecord text.items
-        (record { time = time; head = head.now; payload = payload.now })) }
+        (record { time = time; head = head; payload = payload.now })) }
 {
     let segment = segment(alloc, head, payload)?;
     let packet = packet(alloc, &head.path.hosts, &segment)?;
@@ -76,10 +76,10 @@ fn record_head(time: Time, size: u32) -> [u8; 16]
 }
 
 /// A segment, with its checksum.
-fn segment(alloc: Global, head: &SegmentHead, payload: &[u8]) -> Result<Vec<u8>, AllocError>
+fn segment(alloc: Global, head: SegmentHead, payload: &[u8]) -> Result<Vec<u8>, AllocError>
     requires { length payload.now ≤ 65000 }
-    ensures segment { IfOk result (λ text. IsSegment text.items head.now payload.now) }
-    ensures checked { IfOk result (λ text. IsChecked head.now.path.hosts text.items) }
+    ensures segment { IfOk result (λ text. IsSegment text.items head payload.now) }
+    ensures checked { IfOk result (λ text. IsChecked head.path.hosts text.items) }
     ensures size { IfOk result (λ text. length text.items ≡ 20 + length payload.now) }
 {
     let pseudo = pseudo_sum(&head.path.hosts, 20 + payload.len());
@@ -93,8 +93,8 @@ fn segment(alloc: Global, head: &SegmentHead, payload: &[u8]) -> Result<Vec<u8>,
 }
 
 #[tactic(auto, unfolding(crate::specs::Writing::segment_head))]
-fn segment_head(head: &SegmentHead, checksum: u16) -> [u8; 20]
-    ensures { result ≡ segment_head head.now checksum }
+fn segment_head(head: SegmentHead, checksum: u16) -> [u8; 20]
+    ensures { result ≡ segment_head head checksum }
 {
     let (from, to) = (
         head.path.from_port.to_be_bytes(),

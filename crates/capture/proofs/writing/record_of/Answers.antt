@@ -7,7 +7,7 @@ use Rattle.capture.proofs.writing.record_of.Goals as goal
 
 pub returns : goal.returns
 returns c =
-    let head = c.args.head.now in
+    let head = c.args.head in
     let payload = c.args.payload.now in
     let time = c.args.time in
     let segment = c.in_ok-segment.segment.items in

@@ -7,7 +7,7 @@ use Rattle.capture.proofs.writing.segment.Goals as goal
 
 pub returns-clause-segment : goal.returns-clause-segment
 returns-clause-segment c =
-    let head = c.args.head.now in
+    let head = c.args.head in
     let payload = c.args.payload.now in
     let sum = c.checksum-sum.result in
     let text : c.in_ok-text.text.items ≡ segment_head head sum ++ payload =
@@ -17,7 +17,7 @@ returns-clause-segment c =
 
 pub returns-clause-checked : goal.returns-clause-checked
 returns-clause-checked c =
-    let head = c.args.head.now in
+    let head = c.args.head in
     let payload = c.args.payload.now in
     let sum = c.checksum-sum.result in
     let text : c.in_ok-text.text.items ≡ segment_head head sum ++ payload =
