@@ -176,7 +176,6 @@ fn three(first: Vec<u8>, second: &[u8], third: &[u8]) -> Result<Vec<u8>, AllocEr
 }
 
 /// The first 65,000 bytes, or all where there are fewer, and what is behind them.
-#[tactic(auto, using(std::proofs::lemmas::List::take_all, std::proofs::lemmas::List::drop_all))]
 fn parted(bytes: &[u8]) -> (&[u8], &[u8])
     ensures front { result.0.now ≡ take 65000 bytes.now }
     ensures behind { result.1.now ≡ drop 65000 bytes.now }
