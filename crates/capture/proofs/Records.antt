@@ -76,7 +76,9 @@ one_hosts packet (V6 a b) (V4 c d) segment other x y = absurd (omega (arith, x.v
 
 same_path : (a b : Path) → a.hosts ≡ b.hosts → a.from_port ≡ b.from_port → a.to_port ≡ b.to_port → a ≡ b
 same_path a b hosts from to =
-    let e : (record { hosts = a.hosts; from_port = a.from_port; to_port = a.to_port } : Path) ≡ record { hosts = b.hosts; from_port = b.from_port; to_port = b.to_port } = cc (hosts, from, to) in e
+    let left : Path = record { hosts = a.hosts; from_port = a.from_port; to_port = a.to_port } in
+    let right : Path = record { hosts = b.hosts; from_port = b.from_port; to_port = b.to_port } in
+    let e : left ≡ right = cc (hosts, from, to) in e
 
 one_head : (text : List ℕ) (head other : SegmentHead) (payload more : List ℕ) → head.path.hosts ≡ other.path.hosts → IsSegment text head payload → IsSegment text other more → (head ≡ other) × (payload ≡ more)
 one_head text head other payload more hosts x y =
@@ -84,8 +86,9 @@ one_head text head other payload more hosts x y =
     let sequence : head.sequence ≡ other.sequence = sym x.sequence ∙ y.sequence in
     let acknowledged : head.acknowledged ≡ other.acknowledged = sym x.acknowledged ∙ y.acknowledged in
     let bits : head.flags.bits ≡ other.flags.bits = sym x.flags ∙ y.flags in
-    let e : (record { path = head.path; sequence = head.sequence; acknowledged = head.acknowledged; flags = record { bits = head.flags.bits } } : SegmentHead)
-        ≡ record { path = other.path; sequence = other.sequence; acknowledged = other.acknowledged; flags = record { bits = other.flags.bits } } = cc (path, sequence, acknowledged, bits) in
+    let left : SegmentHead = record { path = head.path; sequence = head.sequence; acknowledged = head.acknowledged; flags = record { bits = head.flags.bits } } in
+    let right : SegmentHead = record { path = other.path; sequence = other.sequence; acknowledged = other.acknowledged; flags = record { bits = other.flags.bits } } in
+    let e : left ≡ right = cc (path, sequence, acknowledged, bits) in
     (e, sym x.content ∙ y.content)
 
 -- a record is one packet's alone
@@ -96,8 +99,9 @@ one_record text packet other x y =
     let head = one_head y.segment packet.head other.head packet.payload other.payload hosts.0 segment y.is_segment in
     let seconds : packet.time.seconds ≡ other.time.seconds = sym x.seconds ∙ y.seconds in
     let micros : packet.time.micros ≡ other.time.micros = sym x.micros ∙ y.micros in
-    let e : (record { time = record { seconds = packet.time.seconds; micros = packet.time.micros }; head = packet.head; payload = packet.payload } : Packet)
-        ≡ record { time = record { seconds = other.time.seconds; micros = other.time.micros }; head = other.head; payload = other.payload } = cc (seconds, micros, head.0, head.1) in e
+    let left : Packet = record { time = record { seconds = packet.time.seconds; micros = packet.time.micros }; head = packet.head; payload = packet.payload } in
+    let right : Packet = record { time = record { seconds = other.time.seconds; micros = other.time.micros }; head = other.head; payload = other.payload } in
+    let e : left ≡ right = cc (seconds, micros, head.0, head.1) in e
 
 -- ---- lists of records
 
