@@ -73,13 +73,16 @@ ending_plain : (outcome : Outcome) → AllPlain (ending_list outcome)
 ending_plain outcome = (text_plain _, (text_plain _, (text_plain _, (number_plain _, (refl, (refl, (refl, tt)))))))
 
 traffic_plain : (outcome : Outcome) → AllPlain (traffic_list outcome)
-traffic_plain outcome = (hex_plain _, (hex_plain _, (number_plain _, (number_plain _, (texts_plain _, tt)))))
+traffic_plain outcome = (hex_plain _, (hex_plain _, (number_plain _, (number_plain _, (texts_plain (map string_bytes outcome.frames.items), tt)))))
 
 pub outcome_plain : (outcome : Outcome) → has_float (outcome_data outcome) ≡ false
 outcome_plain outcome =
-    with_all_plain (traffic_list outcome) _ (traffic_plain outcome)
-    (with_all_plain (ending_list outcome) _ (ending_plain outcome)
-    (with_all_plain (rule_list outcome.rule) _ (rule_plain outcome.rule)
+    let subject = with_all (subject_list outcome) no_members in
+    let rule = with_all (rule_list outcome.rule) subject in
+    let ending = with_all (ending_list outcome) rule in
+    with_all_plain (traffic_list outcome) ending (traffic_plain outcome)
+    (with_all_plain (ending_list outcome) rule (ending_plain outcome)
+    (with_all_plain (rule_list outcome.rule) subject (rule_plain outcome.rule)
     (with_all_plain (subject_list outcome) no_members (subject_plain outcome) refl)))
 
 -- a line whose value is this one

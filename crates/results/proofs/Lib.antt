@@ -3,4 +3,5 @@ pub mod JsonLemmas
 pub mod KnownLemmas
 pub mod PatternLemmas
 pub mod PlaceLemmas
+pub mod SummaryLemmas
 pub mod TextLemmas

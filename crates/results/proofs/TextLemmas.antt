@@ -1,5 +1,5 @@
 -- Texts that a loop builds, a piece for each element.
-use Rattle.std.proofs.Common.{◌≡◌, ◌∙◌, ◌++◌, ◌+◌, ◌<◌, ap, sym, IfOk, Ok, Err, List, ℕ, Result, [], ◌∷◌, length, take, slice_index_or}
+use Rattle.std.proofs.Common.{◌≡◌, ◌∙◌, ◌++◌, ◌+◌, ◌<◌, ap, sym, IfOk, OnOk, Ok, Err, List, ℕ, Result, [], ◌∷◌, length, take, slice_index_or}
 use Rattle.std.specs.List.{flat_map}
 use Rattle.std.proofs.lemmas.List.{append_assoc, append-nil, take_more}
 
@@ -20,3 +20,8 @@ text_more f xs i d start mid new below before piece =
 pub text_equal : {X E : Type 0} (r : Result X E) (text : X → List ℕ) (one other : List ℕ) → IfOk r (λ x. text x ≡ one) → one ≡ other → IfOk r (λ x. text x ≡ other)
 text_equal (Ok x) text one other told same = told ∙ same
 text_equal (Err e) text one other told same = told
+
+-- a text that was added to, told in another way
+pub added_equal : {X E : Type 0} (r : Result X E) (now one other : List ℕ) → OnOk r (now ≡ one) → one ≡ other → OnOk r (now ≡ other)
+added_equal (Ok x) now one other told same = told ∙ same
+added_equal (Err e) now one other told same = told

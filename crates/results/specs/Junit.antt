@@ -18,6 +18,10 @@ use Rattle.results.specs.declared.words.Verdict.{Verdict}
 abbrev pub is_skipped : Outcome → Bool
 is_skipped outcome = not (fails_the_run outcome) && not (same_verdict outcome.verdict Verdict.Ok)
 
+-- it isn't simply ok
+unfoldable pub is_told : Outcome → Bool
+is_told outcome = fails_the_run outcome || is_skipped outcome
+
 -- milliseconds as seconds with three places
 abbrev pub seconds : ℕ → List ℕ
 seconds milliseconds =
@@ -83,7 +87,7 @@ case_attributes outcome =
 -- a case; one that is ok has nothing inside
 abbrev pub case_text : Outcome → List ℕ
 case_text outcome =
-    (if fails_the_run outcome || is_skipped outcome
+    (if is_told outcome
     then element (codes "testcase") (case_attributes outcome) (inside outcome)
     else empty_element (codes "testcase") (case_attributes outcome)) ++ codes "\n"
 

@@ -1,5 +1,5 @@
 -- How many cases of a run ended in which way, and the line that says so.
-use Rattle.std.specs.Prelude.{ℕ, ◌&&◌, ◌==◌, Bool, true, false, List, [], ◌∷◌, ◌++◌, Option, Some, None, if◌then◌else◌, codes, count_by, length}
+use Rattle.std.specs.Prelude.{◌≡◌, ◌≤◌, ℕ, ◌+◌, ◌&&◌, ◌==◌, Bool, true, false, List, [], ◌∷◌, ◌++◌, Option, Some, None, if◌then◌else◌, codes, count_by, length}
 use Rattle.std.specs.Fmt.{decimal}
 use Rattle.results.specs.Standings.{fails_the_run, standing_of}
 use Rattle.results.specs.Words.{suite_word}
@@ -57,6 +57,16 @@ summary_of outcomes = record {
   failing = count_by fails_the_run outcomes;
 }
 
+-- each case is counted once: by its verdict, as known or as mended
+abbrev pub CountsOnce : Summary → Type 0
+CountsOnce summary =
+    summary.ok + summary.failed + summary.unsteady + summary.not_tested + summary.not_applicable + summary.known + summary.mended
+    ≡ summary.cases
+
+-- and each failure at one level at most
+abbrev pub CountsLevels : Summary → Type 0
+CountsLevels summary = summary.failed_must + summary.failed_should + summary.failed_ours ≤ summary.failed
+
 -- `, COUNT WHAT`, where the count isn't 0
 abbrev pub counted : ℕ → List ℕ → List ℕ
 counted count what = if count == 0 then [] else codes ", " ++ decimal count ++ codes " " ++ what
@@ -71,11 +81,16 @@ levels_text summary =
     else codes " (" ++ decimal summary.failed_must ++ codes " must, " ++ decimal summary.failed_should ++ codes " should, "
     ++ decimal summary.failed_ours ++ codes " ours)"
 
+-- only cases of `wire` have other levels than must
+abbrev pub levels_of : Suite → Summary → List ℕ
+levels_of Suite.Wire summary = levels_text summary
+levels_of suite summary = []
+
 -- how many there are, are ok, and failed
 abbrev pub first_counts : Suite → Summary → List ℕ
 first_counts suite summary =
     suite_word suite ++ codes ": " ++ decimal summary.cases ++ case_noun summary.cases
-    ++ decimal summary.ok ++ codes " ok, " ++ decimal summary.failed ++ codes " failed" ++ levels_text summary
+    ++ decimal summary.ok ++ codes " ok, " ++ decimal summary.failed ++ codes " failed" ++ levels_of suite summary
 
 abbrev pub other_counts : Summary → List ℕ
 other_counts summary =

@@ -5,7 +5,7 @@
 ghost use Rattle.std.specs.Prelude.{◌≡◌, ◌++◌, IfOk, OnOk, count_by, string_bytes};
 ghost use Rattle.std.specs.List.{flat_map};
 ghost use Rattle.results.specs.Causes.{details_of};
-ghost use Rattle.results.specs.Junit.{case_attributes, case_text, counts, document, inside, is_skipped, known_message, level_note, message_of, plain_message, seconds, type_by};
+ghost use Rattle.results.specs.Junit.{case_attributes, case_text, counts, document, inside, is_skipped, is_told, known_message, level_note, message_of, plain_message, seconds, type_by};
 ghost use Rattle.results.specs.Standings.{standing_of};
 ghost use Rattle.results.specs.Xml.{attributes, xml_text};
 
@@ -32,6 +32,14 @@ fn is_skipped(outcome: &Outcome) -> bool
     ensures { result ≡ is_skipped outcome.now }
 {
     !outcome.fails_the_run() && outcome.verdict != Verdict::Ok
+}
+
+/// Whether an outcome isn't simply ok.
+#[tactic(auto, unfolding(crate::specs::Junit::is_told))]
+fn is_told(outcome: &Outcome) -> bool
+    ensures { result ≡ is_told outcome.now }
+{
+    outcome.fails_the_run() || is_skipped(outcome)
 }
 
 /// How many outcomes are skipped.
@@ -166,7 +174,7 @@ fn push_case(alloc: Global, xml: &mut String, outcome: &Outcome) -> Result<(), A
     ensures { OnOk result (string_bytes xml.new ≡ string_bytes xml.old ++ case_text outcome.now) }
 {
     let attributes = case_attributes(alloc, outcome)?;
-    if outcome.fails_the_run() || is_skipped(outcome) {
+    if is_told(outcome) {
         let inside = inside_text(alloc, outcome)?;
         writeln!(xml, "<testcase{attributes}>{inside}</testcase>")
     } else {

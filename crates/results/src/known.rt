@@ -175,8 +175,15 @@ pub fn read_known<'a>(alloc: Global, text: &'a str) -> Result<Vec<Known>, KnownF
     ensures good { IfOk result (λ all. AreGood (map entry all.items)) }
     ensures refused { IfErr result (Explains (lines text.now)) }
 {
-    let all_lines: Vec<&'a str> = text.lines().collect(alloc)?;
+    let all_lines = lines_of(alloc, text)?;
     read_lines(alloc, all_lines.as_slice())
+}
+
+/// The lines of a text, without their ends.
+fn lines_of<'a>(alloc: Global, text: &'a str) -> Result<Vec<&'a str>, AllocError>
+    ensures { IfOk result (λ all. map (λ line. line.now) all.items ≡ lines text.now) }
+{
+    text.lines().collect(alloc)
 }
 
 /// The known failures of some lines.

@@ -1,7 +1,7 @@
 //! How many cases ended in which way.
 
 ghost use Rattle.std.specs.Prelude.{◌≡◌, ◌++◌, OnOk, count_by, string_bytes};
-ghost use Rattle.results.specs.Summaries.{counted, fails_at, first_counts, is_found, levels_text, other_counts, stands, summary_line};
+ghost use Rattle.results.specs.Summaries.{CountsLevels, CountsOnce, counted, fails_at, first_counts, is_found, levels_of, levels_text, other_counts, stands, summary_line};
 ghost use Rattle.results.specs.Summaries as whole;
 
 use crate::outcome::Outcome;
@@ -66,7 +66,9 @@ fn failures(outcomes: &[Outcome], level: Level) -> usize
 
 /// The summary of a run.
 pub fn summary_of(outcomes: &[Outcome]) -> Summary
-    ensures { result ≡ whole.summary_of outcomes.now }
+    ensures exact { result ≡ whole.summary_of outcomes.now }
+    ensures once { CountsOnce result }
+    ensures levels { CountsLevels result }
 {
     Summary {
         cases: outcomes.len(),
@@ -114,6 +116,17 @@ fn push_levels(text: &mut String, summary: &Summary) -> Result<(), AllocError>
     )
 }
 
+/// Adds how many failed at which level, where the suite has cases of several.
+fn push_levels_of(text: &mut String, suite: Suite, summary: &Summary) -> Result<(), AllocError>
+    ensures { OnOk result (string_bytes text.new
+        ≡ string_bytes text.old ++ levels_of suite summary.now) }
+{
+    match suite {
+        Suite::Wire => push_levels(text, summary),
+        _ => Ok(()),
+    }
+}
+
 /// Adds how many cases there are, are ok, and failed.
 fn push_first(text: &mut String, suite: Suite, summary: &Summary) -> Result<(), AllocError>
     ensures { OnOk result (string_bytes text.new
@@ -128,7 +141,7 @@ fn push_first(text: &mut String, suite: Suite, summary: &Summary) -> Result<(), 
     } = *summary;
     let noun = if cases == 1 { "case" } else { "cases" };
     write!(text, "{name}: {cases} {noun}, {ok} ok, {failed} failed")?;
-    push_levels(text, summary)
+    push_levels_of(text, suite, summary)
 }
 
 /// Adds how many cases are neither ok nor failed.
@@ -144,7 +157,7 @@ fn push_others(text: &mut String, summary: &Summary) -> Result<(), AllocError>
 }
 
 /// Adds the last line of a run: `wire: 407 cases, 390 ok, 3 failed (1 must, 2 should, 0 ours), 1 unsteady, 13 not applicable in
-/// 12345 ms`. How many are ok and failed is always told, and else what isn't 0; levels, where a failed case has one.
+/// 12345 ms`. How many are ok and failed is always told, and else what isn't 0; levels, where a case of `wire` failed.
 pub fn push_summary(
     text: &mut String,
     suite: Suite,
