@@ -1,6 +1,7 @@
 """What the checks that speak HTTP/2 by hand share: frames (RFC 9113), literal header fields (RFC 7541), messages of a call
 (gRPC over HTTP/2), fields of Protocol Buffers, and a socket that gives frames."""
 import os
+import re
 import socket
 import struct
 import subprocess
@@ -272,6 +273,12 @@ def program():
     if not os.access(path, os.X_OK):
         sys.exit(f"{os.path.basename(sys.argv[0])}: {path} is not built")
     return path
+
+
+def without_sum(printed):
+    """What a run of cases printed, without its last line, which sums up."""
+    *lines, last = printed.splitlines(keepends=True) or [""]
+    return "".join(lines) if re.fullmatch(r"[a-z]+: \d+ cases?, \d+ ok, \d+ failed.* in \d+ ms\n", last) else f"no sum: {printed}"
 
 
 def has_hpack():

@@ -25,7 +25,8 @@ def outcomes_of(words):
     for word in words:
         name, path = word.split("=", 1)
         with open(path, encoding="utf-8") as file:
-            servers.setdefault(name, {}).update({it["case"]: it for it in json.load(file)})
+            found = [json.loads(line) for line in file]
+        servers.setdefault(name, {}).update({it["name"]: it for it in found if "summary" not in it})
     return servers
 
 
@@ -48,6 +49,11 @@ def spans(numbers):
     return ",".join(str(first) if first == last else f"{first}-{last}" for first, last in found)
 
 
+def sentence_of(outcome):
+    """What a case rests on: the standard and the section, and the sentence where there is one."""
+    return outcome["rule"] + (f": {outcome['sentence']}" if outcome["sentence"] else "")
+
+
 def rows_of(servers):
     """The table's rows: those cases together that have the same level, sentence and verdicts, where not each verdict is ok."""
     cases = list(dict.fromkeys(case for outcomes in servers.values() for case in outcomes))
@@ -56,7 +62,7 @@ def rows_of(servers):
         known = next(outcomes[case] for outcomes in servers.values() if case in outcomes)
         verdicts = tuple(outcomes.get(case, {}).get("verdict") for outcomes in servers.values())
         if known["level"] != "ours" and {"failed", "unsteady"} & set(verdicts):
-            rows.setdefault((known["level"], known["rule"], verdicts), []).append(case)
+            rows.setdefault((known["level"], sentence_of(known), verdicts), []).append(case)
     return rows
 
 
@@ -86,8 +92,8 @@ def faults_of(outcomes):
             continue
         sent = it["sent"]
         cut = f" and {len(sent) // 2 - SHOWN} bytes more" if len(sent) > 2 * SHOWN else ""
-        lines += [f"{case} {it['title']}", f"  {it['level']} {it['rule']}", f"  wanted {it['wanted']}", f"  came {it['came']}"]
-        lines += [f"  sent {sent[:2 * SHOWN]}{cut}", *(f"  read {frame}" for frame in it["read"]), ""]
+        lines += [f"{case} {it['title']}", f"  {it['level']} {sentence_of(it)}", f"  wanted {it['wanted']}", f"  came {it['came']}"]
+        lines += [f"  sent {sent[:2 * SHOWN]}{cut}", *(f"  read {frame}" for frame in it["frames"]), ""]
     return "\n".join(lines)
 
 

@@ -17,7 +17,25 @@ pub struct Failure {
     pub note: String,
 }
 
+/// What a failure's note says.
+#[derive(Clone, Copy)]
+pub struct Said<'a> {
+    /// What came.
+    pub came: &'a str,
+    /// What was wanted, where it says that.
+    pub wanted: &'a str,
+    /// The sections of the standard, where it names some.
+    pub rule: &'a str,
+}
+
 impl Failure {
+    /// The parts of the note.
+    pub fn said(&self) -> Said<'_> {
+        let (told, rule) = rule_of(self.note.as_str());
+        let (came, wanted) = told.split_once(", wanted ").unwrap_or((told, ""));
+        Said { came, wanted, rule }
+    }
+
     /// That there is no connection, for this reason.
     pub fn unconnected(alloc: Global, why: &str) -> Failure
         ensures { result.fault ≡ StreamFailed }
@@ -40,5 +58,16 @@ impl Failure {
             fault: fault.case_fault(),
             note,
         }
+    }
+}
+
+/// A note without the sections that it ends with in parentheses, and these.
+fn rule_of(note: &str) -> (&str, &str) {
+    let Some((told, sections)) = note.rsplit_once(" (") else {
+        return (note, "");
+    };
+    match sections.strip_suffix(")") {
+        Some(rule) if rule.starts_with("RFC ") || rule.starts_with("gRPC") => (told, rule),
+        _ => (note, ""),
     }
 }

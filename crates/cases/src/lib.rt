@@ -46,9 +46,9 @@ mod violation;
 
 pub use case::Case;
 pub use credit::Windows;
-pub use failure::Failure;
+pub use failure::{Failure, Said};
 pub use fault::CaseFault;
 pub use line::{Limit, Line, Pace, TICK, Timed};
-pub use report::{Outcome, ReportFault, have_passed, print_line, run_all};
+pub use report::{Outcome, ReportFault, have_passed, print_line, push_line, run_all};
 pub use runs::run_case;
 pub use soak::{Channel, Soak, SoakSizes};

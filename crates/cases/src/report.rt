@@ -62,7 +62,7 @@ impl<T: Drop> From<AllocFailed<T>> for ReportFault {
 }
 
 /// Appends the line of the case with this name.
-fn push_line(
+pub fn push_line(
     text: &mut Vec<u8>,
     name: &str,
     answer: Result<(), CaseFault>,

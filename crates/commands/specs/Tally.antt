@@ -1,5 +1,5 @@
 -- A case that is run several times: what came of its runs, and the line that tells it.
-use Rattle.std.specs.Prelude.{◌≡◌, ℕ, ◌+◌, Bool, is_none, List, [], ◌∷◌, ◌++◌, min, Option, Some, None, Result, Ok, Err, codes}
+use Rattle.std.specs.Prelude.{◌≡◌, ℕ, ◌+◌, List, [], ◌∷◌, ◌++◌, min, Option, Some, None, Result, Ok, Err, codes}
 use Rattle.std.specs.Option.{option_or}
 use Rattle.std.specs.Fmt.{decimal}
 use Rattle.cases.specs.Faults.{code_of}
@@ -13,9 +13,6 @@ no_run = record { passed = 0; fault = None }
 abbrev pub Counts : Tally → Result (Unit {0}) CaseFault → Tally → Type 0
 Counts before (Ok done) after = after ≡ record before { passed = min (before.passed + 1) 65535 }
 Counts before (Err fault) after = after ≡ record before { fault = option_or before.fault (Some fault) }
-
-abbrev pub has_passed : Tally → Bool
-has_passed tally = is_none tally.fault
 
 -- ` ok`, or ` failed CODE`
 abbrev pub ending_of : Option CaseFault → List ℕ

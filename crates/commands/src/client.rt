@@ -1,45 +1,35 @@
 //! The commands that run test cases: `case` against a server, and the client's part of `self`.
 
-ghost use Rattle.std.specs.Prelude.{◌≡◌, ◌≢◌, Err, List, codes, false, map, IfOk, OnOk};
+ghost use Rattle.std.specs.Prelude.{◌≡◌, List, codes, map, IfOk, OnOk, Err};
 ghost use Rattle.std.specs.Io.KnownBytes.{Appends};
-ghost use Rattle.cases.specs.Names.{IsNoName};
-ghost use Rattle.cases.specs.Report.{all_cases, have_passed, line_of, lines_of};
+ghost use Rattle.cases.specs.Report.{all_cases, line_of, lines_of};
 ghost use Rattle.cases.specs.declared.fault.CaseFault.TheVariants.{UnknownCase};
-ghost use Rattle.cases.specs.declared.report.Outcome.{Outcome};
-ghost use Rattle.commands.specs.Case.{IsUnknown};
-ghost use Rattle.commands.specs.declared.client.Verdict.TheVariants as verdict;
+ghost use Rattle.cases.specs.declared.report.Outcome.{Outcome as Ended};
 
-use crate::connecting::{Place, connect};
+use crate::attempt::{Target, attempt, fault_of, outcome_by, outcome_of, try_case};
+use crate::connecting::Place;
 use crate::load::load_case;
 use crate::soak::run_soak;
-use crate::tally::{Tally, print_tally};
-use cases::{
-    Case, CaseFault, Failure, Limit, ReportFault, Soak, Timed, Windows, have_passed, print_line,
-    run_all,
-};
+use crate::tally::{Tally, push_tally};
+use crate::trial::{TrialFault, Verdict, choice_of, refuse_choice};
+use cases::{Case, CaseFault, ReportFault, Soak, Windows, print_line, push_line, run_all};
 use device::{ConnWrite, write_all};
+use results::{ChoiceFault, Entry, Level, Outcome, Suite, chosen};
+use sinks::{Run, Sinks};
 use std::alloc::Global;
 use std::io::Write;
 use std::net::{Net, TcpListener, TcpStream};
+use std::rt::Files;
 use std::thread::Threads;
-use std::time::{Clock, Duration};
+use std::time::Clock;
 use words::{CaseRun, CaseWords};
 
 /// How many seconds a case may take, where nothing else is said.
 pub const PATIENCE: u16 = 10;
 
-/// The server that cases are run against, and how.
-#[derive(Clone, Copy, Debug, PartialEq, Eq)]
-pub struct Target<'a> {
-    pub place: Place<'a>,
-    /// How many seconds a case may take; at least 1.
-    pub patience: u16,
-    pub windows: Windows,
-}
-
 impl<'a> Target<'a> {
     /// The one that words name, with windows held.
-    fn of(words: CaseRun<'a>) -> Target<'a> {
+    fn of(words: &CaseRun<'a>) -> Target<'a> {
         Target {
             place: Place::new(words.host, words.port),
             patience: words.patience,
@@ -48,59 +38,49 @@ impl<'a> Target<'a> {
     }
 }
 
-/// What came of the cases that words name.
-#[derive(Clone, Copy, Debug, PartialEq, Eq)]
-pub enum Verdict {
-    /// None failed.
-    Passed,
-    Failed,
-    /// They name none.
-    UnknownCase,
-}
-
-impl From<bool> for Verdict {
-    fn from(has_passed: bool) -> Verdict {
-        if has_passed {
-            Verdict::Passed
-        } else {
-            Verdict::Failed
-        }
-    }
-}
-
-/// Lists the names of cases, or runs the case that the words name, or all of them, as often and as
-/// many at a time as they say, and prints a line of each.
-pub fn run_case<R, W>(rt: R, words: CaseWords<'_>, output: &mut W) -> Result<Verdict, ReportFault>
+/// Lists the names of cases, or runs those that the words choose, as often and as many at a time as they say, and tells what came
+/// of each. Where `is_shown`, standard error is a terminal, and shows how far it is.
+pub fn run_case<R, W>(
+    rt: R,
+    words: CaseWords<'_>,
+    is_shown: bool,
+    output: &mut W,
+) -> Result<Verdict, TrialFault>
 where
-    R: Net<Stream = TcpStream, Listener = TcpListener> + Eprint + AllocGlobal,
+    R: Net<Stream = TcpStream, Listener = TcpListener> + Files + Eprint + AllocGlobal,
     R: Clock + Threads + Copy + Send + Sync + Drop + 'static,
     W: ConnWrite,
 {
-    match words {
+    let words = match words {
         CaseWords::List => {
             print_names(rt.alloc(), output)?;
-            Ok(Verdict::Passed)
+            return Ok(Verdict::Passed);
         }
-        CaseWords::Run(words) if words.name == "all" => {
-            Ok(Verdict::from(run_each(rt, words, output)?))
-        }
-        CaseWords::Run(words) => run_named(rt, words.name, words, output),
+        CaseWords::Run(words) => words,
+    };
+    let choice = choice_of(words.names.as_slice(), &words.reporting);
+    let alloc = rt.alloc();
+    let entries = entries_of(alloc)?;
+    match chosen(alloc, entries.as_slice(), choice) {
+        Ok(places) => run_chosen(rt, places.as_slice(), &words, is_shown, output),
+        Err(ChoiceFault::NoCase(name)) => refuse_name(&rt, alloc, name, output),
+        Err(fault) => refuse_choice(&rt, fault),
     }
 }
 
 /// Prints the names that there are, one a line.
-fn print_names<W: ConnWrite>(alloc: Global, output: &mut W) -> Result<(), ReportFault> {
+fn print_names<W: ConnWrite>(alloc: Global, output: &mut W) -> Result<(), TrialFault> {
     let mut text = Vec::new(alloc);
     for name in NAMES {
         if writeln!(text, "{name}").is_err() {
-            return Err(ReportFault::OutOfMemory);
+            return Err(TrialFault::OutOfMemory);
         }
     }
     write_all(output, text.as_slice())?;
     Ok(())
 }
 
-/// The names of cases and of soaks.
+/// The names of cases and of soaks: first those that `all` means.
 const NAMES: [&str; 17] = [
     "empty_unary",
     "large_unary",
@@ -121,153 +101,193 @@ const NAMES: [&str; 17] = [
     "channel_soak",
 ];
 
-/// Runs each of the fourteen cases as the words say, prints a line of each, and answers whether no
-/// run failed.
-fn run_each<R, W>(rt: R, words: CaseRun<'_>, output: &mut W) -> Result<bool, ReportFault>
+/// What can be chosen, in the order of the names.
+fn entries_of(alloc: Global) -> Result<Vec<Entry<'static>>, TrialFault> {
+    let mut entries = Vec::new(alloc);
+    for (place, name) in NAMES.iter().enumerate() {
+        entries.push(Entry {
+            name,
+            level: Some(Level::Must),
+            is_in_all: place < Case::ALL.len(),
+        })?;
+    }
+    Ok(entries)
+}
+
+/// Runs the cases at these places of the names, and tells what came of each.
+fn run_chosen<R, W>(
+    rt: R,
+    places: &[usize],
+    words: &CaseRun<'_>,
+    is_shown: bool,
+    output: &mut W,
+) -> Result<Verdict, TrialFault>
 where
-    R: Net<Stream = TcpStream, Listener = TcpListener> + Eprint + AllocGlobal,
+    R: Net<Stream = TcpStream, Listener = TcpListener> + Files + Eprint + AllocGlobal,
     R: Clock + Threads + Copy + Send + Sync + Drop + 'static,
     W: ConnWrite,
 {
-    if words.times == 1 && words.streams.is_none() {
-        return run_all_cases(&rt, rt.alloc(), Target::of(words), output);
+    let run = Run {
+        suite: Suite::Case,
+        reporting: &words.reporting,
+        names: &NAMES,
+        chosen: places.len(),
+        is_shown,
+    };
+    let mut sinks = Sinks::open(rt, rt.alloc(), run)?;
+    'runs: for _ in 0..words.reporting.repeat {
+        for place in places {
+            let Some(name) = NAMES.get(*place) else {
+                continue;
+            };
+            run_named(rt, name, words, &mut sinks, output)?;
+            if sinks.is_over() {
+                break 'runs;
+            }
+        }
     }
-    let mut have_passed = true;
-    for case in Case::ALL {
-        let has_passed = run_known(rt, case, words, output)?;
-        have_passed = have_passed && has_passed;
-    }
-    Ok(have_passed)
+    Ok(Verdict::from(sinks.close(output)?))
 }
 
-/// Runs the case or the soak of this name, as the words say. Of a name that there isn't, a line on
-/// standard error has those that there are.
+/// Runs the case or the soak of this name, as the words say, and tells what came of it.
 fn run_named<R, W>(
     rt: R,
     name: &str,
-    words: CaseRun<'_>,
+    words: &CaseRun<'_>,
+    sinks: &mut Sinks<'_, R>,
     output: &mut W,
-) -> Result<Verdict, ReportFault>
+) -> Result<(), TrialFault>
 where
-    R: Net<Stream = TcpStream, Listener = TcpListener> + Eprint + AllocGlobal,
+    R: Net<Stream = TcpStream, Listener = TcpListener> + Files + Eprint + AllocGlobal,
     R: Clock + Threads + Copy + Send + Sync + Drop + 'static,
     W: ConnWrite,
-    ensures unknown { IsUnknown name.now
-        → IfOk result (λ answer. (answer ≡ verdict.UnknownCase)
-        × Appends (W.contents output.old) (W.contents output.new)
-        (line_of name.now (Err UnknownCase))) }
 {
-    if let Some(soak) = Soak::named(name) {
-        return Ok(Verdict::from(run_soak(rt, soak, words, output)?));
-    }
-    if let Some(case) = Case::named(name) {
-        return Ok(Verdict::from(run_known(rt, case, words, output)?));
-    }
-    print_line(rt.alloc(), name, Err(CaseFault::UnknownCase), output)?;
-    tell_names(&rt, name);
-    Ok(Verdict::UnknownCase)
+    let alloc = rt.alloc();
+    let mut lines = Vec::new(alloc);
+    let outcome = match (Soak::named(name), Case::named(name)) {
+        (Some(soak), _) => {
+            sinks.hide();
+            run_soak(rt, soak, words, &mut lines)?
+        }
+        (None, Some(case)) => match words.streams {
+            Some(streams) => {
+                sinks.hide();
+                load_case(rt, case, words, streams, &mut lines)?
+            }
+            None if words.times > 1 => run_often(&rt, alloc, name, words, sinks, &mut lines)?,
+            None => run_once(&rt, alloc, name, words, sinks, &mut lines)?,
+        },
+        (None, None) => return Ok(()),
+    };
+    tell(sinks, outcome, lines.as_slice(), output)
 }
 
-/// Tells the names that there are, where there isn't this one.
-fn tell_names<R: Eprint>(rt: &R, name: &str) {
+/// Tells what came of a case, in every place where results go.
+fn tell<R, W>(
+    sinks: &mut Sinks<'_, R>,
+    mut outcome: Outcome,
+    lines: &[u8],
+    output: &mut W,
+) -> Result<(), TrialFault>
+where
+    R: Files + Clock + Eprint + AllocGlobal + Drop,
+    W: ConnWrite,
+{
+    sinks.ended(&mut outcome, output)?;
+    sinks.tell(outcome, lines, output)?;
+    Ok(())
+}
+
+/// Runs a case once.
+fn run_once<R: Net + Files + Clock + Eprint + AllocGlobal + Drop>(
+    rt: &R,
+    alloc: Global,
+    name: &str,
+    words: &CaseRun<'_>,
+    sinks: &Sinks<'_, R>,
+    lines: &mut Vec<u8>,
+) -> Result<Outcome, TrialFault> {
+    let attempt = attempt(rt, name, Target::of(words));
+    if let Some(failure) = &attempt.failure {
+        sinks.note(name, failure.note.as_str());
+    }
+    let answer = match fault_of(&attempt.failure) {
+        None => Ok(()),
+        Some(fault) => Err(fault),
+    };
+    push_line(lines, name, answer)?;
+    Ok(outcome_of(alloc, name, attempt)?)
+}
+
+/// Runs a case so many times: what came of it is what came of the first run that failed, if one did.
+fn run_often<R: Net + Files + Clock + Eprint + AllocGlobal + Drop>(
+    rt: &R,
+    alloc: Global,
+    name: &str,
+    words: &CaseRun<'_>,
+    sinks: &Sinks<'_, R>,
+    lines: &mut Vec<u8>,
+) -> Result<Outcome, TrialFault> {
+    let mut tally = Tally::new();
+    let mut milliseconds = 0u64;
+    let mut first: Option<Outcome> = None;
+    for _ in 0..words.times {
+        let attempt = attempt(rt, name, Target::of(words));
+        milliseconds = milliseconds.saturating_add(attempt.milliseconds);
+        match &attempt.failure {
+            None => tally.count(Ok(())),
+            Some(failure) => {
+                sinks.note(name, failure.note.as_str());
+                tally.count(Err(failure.fault));
+                if first.is_none() {
+                    first = Some(outcome_of(alloc, name, attempt)?);
+                }
+            }
+        }
+    }
+    push_tally(lines, name, tally, words.times)?;
+    let mut outcome = match first {
+        Some(outcome) => outcome,
+        None => outcome_by(alloc, Suite::Case, name, None)?,
+    };
+    outcome.milliseconds = milliseconds;
+    outcome.tries = u32::from(words.times);
+    outcome.passed = u32::from(tally.passed);
+    Ok(outcome)
+}
+
+/// Says that there is no case of this name, and which there are.
+fn refuse_name<R: Eprint, W: ConnWrite>(
+    rt: &R,
+    alloc: Global,
+    name: &str,
+    output: &mut W,
+) -> Result<Verdict, TrialFault>
+    ensures { OnOk result
+        (Appends (W.contents output.old) (W.contents output.new)
+        (line_of name.now (Err UnknownCase))) }
+{
+    print_line(alloc, name, Err(CaseFault::UnknownCase), output)?;
     // The exit status tells of it even where nothing can be said here.
     let _said = eprint!(rt; "interop: there is no case {name}: all");
     for known in NAMES {
         let _said = eprint!(rt; ", {known}");
     }
     let _said = eprintln!(rt; "");
+    Ok(Verdict::UnknownCase)
 }
 
-/// Runs a case as the words say, prints its lines, and answers whether no run failed.
-fn run_known<R, W>(
-    rt: R,
-    case: Case,
-    words: CaseRun<'_>,
-    output: &mut W,
-) -> Result<bool, ReportFault>
-where
-    R: Net<Stream = TcpStream, Listener = TcpListener> + Eprint + AllocGlobal,
-    R: Clock + Threads + Copy + Send + Sync + Drop + 'static,
-    W: ConnWrite,
-{
-    if let Some(streams) = words.streams {
-        return load_case(rt, case, words, streams, output);
-    }
-    let (alloc, name, target) = (rt.alloc(), case.name(), Target::of(words));
-    if words.times > 1 {
-        return run_often(&rt, alloc, name, words.times, target, output);
-    }
-    let answer = try_case(&rt, name, target);
-    print_line(alloc, name, answer, output)?;
-    Ok(answer.is_ok())
-}
-
-/// Runs the fourteen cases, prints a line of each, and answers whether none failed.
+/// Runs the fourteen cases, prints a line of each, and answers what came of each.
 pub fn run_all_cases<R: Net + Clock + Eprint + AllocGlobal, W: ConnWrite>(
     rt: &R,
     alloc: Global,
     target: Target<'_>,
     output: &mut W,
-) -> Result<bool, ReportFault>
-    ensures lines { IfOk result (λ passed. (outcomes : List Outcome)
-        × (map (λ outcome. outcome.case) outcomes ≡ all_cases)
-        × Appends (W.contents output.old) (W.contents output.new) (lines_of outcomes)
-        × (passed ≡ have_passed outcomes)) }
+) -> Result<Vec<cases::Outcome>, ReportFault>
+    ensures order { IfOk result
+        (λ outcomes. map (λ outcome. outcome.case) outcomes.items ≡ all_cases) }
+    ensures lines { IfOk result (λ outcomes.
+        Appends (W.contents output.old) (W.contents output.new) (lines_of outcomes.items)) }
 {
-    let outcomes = run_all(alloc, |case| try_case(rt, case.name(), target), output)?;
-    Ok(have_passed(outcomes.as_slice()))
-}
-
-/// Runs a case so many times, prints a line of it, and answers whether no run failed.
-fn run_often<R: Net + Clock + Eprint + AllocGlobal, W: ConnWrite>(
-    rt: &R,
-    alloc: Global,
-    name: &str,
-    times: u16,
-    target: Target<'_>,
-    output: &mut W,
-) -> Result<bool, ReportFault> {
-    let mut tally = Tally::new();
-    for _ in 0..times {
-        tally.count(try_case(rt, name, target));
-    }
-    print_tally(alloc, name, tally, times, output)?;
-    Ok(tally.has_passed())
-}
-
-/// Runs a case over a connection of its own. Where it fails, a line on standard error says why.
-pub(crate) fn try_case<R: Net + Clock + Eprint + AllocGlobal>(
-    rt: &R,
-    name: &str,
-    target: Target<'_>,
-) -> Result<(), CaseFault>
-    ensures unknown { IsNoName name.now → result ≡ Err UnknownCase }
-{
-    if Case::named(name).is_none() {
-        return Err(CaseFault::UnknownCase);
-    }
-    match connect_and_run(rt, name, target) {
-        Ok(()) => Ok(()),
-        Err(failure) => {
-            let Failure { fault, note } = failure;
-            // The line that is printed tells of the fault even where nothing can be said here.
-            let _said = eprintln!(rt; "{name}: {note}");
-            Err(fault)
-        }
-    }
-}
-
-/// Runs a case over a connection that it makes: the time for both is one.
-fn connect_and_run<R: Net + Clock + AllocGlobal>(
-    rt: &R,
-    name: &str,
-    target: Target<'_>,
-) -> Result<(), Failure> {
-    let alloc = rt.alloc();
-    let whole = Duration::from_secs(u64::from(target.patience));
-    let Ok(limit) = Limit::begin(rt, whole) else {
-        return Err(Failure::unconnected(alloc, "the clock can't be read"));
-    };
-    let stream = connect(rt, alloc, target.place, limit)?;
-    cases::run_case(alloc, name, Timed::new(rt, stream, limit), target.windows)
+    run_all(alloc, |case| try_case(rt, case.name(), target), output)
 }

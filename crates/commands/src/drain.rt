@@ -3,12 +3,15 @@
 //! The caller's thread is the client. Once it has read the first reply it stops the server, whose connection is drained by a thread of
 //! its own, and goes on behind that. Another takes that connection, and reads it; others write it and answer its call.
 
-ghost use Rattle.std.specs.Prelude.{◌≡◌, ◌++◌, List, Result, is_ok, IfOk, OnOk};
+ghost use Rattle.std.specs.Prelude.{◌≡◌, ◌++◌, ℕ, List, Result, is_ok, IfOk, OnOk};
 ghost use Rattle.std.specs.Io.KnownBytes.{Appends};
 ghost use Rattle.cases.specs.declared.fault.CaseFault.{CaseFault as Fault};
 ghost use Rattle.commands.specs.Drain.{drain_report, goaway_line, goaway_lines};
+ghost use Rattle.commands.specs.Summing.{summed_drain, verdict_of};
 ghost use Rattle.commands.specs.declared.drain.Goaway.{Goaway as Seen};
+ghost use Rattle.results.specs.declared.outcome.Outcome.{Outcome};
 
+use crate::attempt::{outcome_by, passed_since, print_summary};
 use crate::client::PATIENCE;
 use crate::connecting::set_ticks;
 use crate::log::Log;
@@ -18,13 +21,14 @@ use cases::{CaseFault, Failure, Limit, ReportFault, Timed, Windows, print_line};
 use device::{ConnWrite, write_all};
 use h2frame::{Frame, FrameKind, FrameReader, StreamId};
 use handlers::Methods;
+use results::Suite;
 use std::alloc::{AllocError, Global};
 use std::io;
 use std::io::{Read, Write};
 use std::net::{Net, TcpListener, TcpStream};
 use std::sync::{Arc, Wait};
 use std::thread::Threads;
-use std::time::{Clock, Duration};
+use std::time::{Clock, Duration, Instant};
 use words::LOOPBACK;
 
 /// What the client runs: one call, of four messages, each with its reply.
@@ -55,7 +59,7 @@ struct Watched<R> {
 }
 
 /// Serves one connection to the port that is listened on, runs a case over it, and drains it behind the first reply. It prints the
-/// GOAWAYs that the client read, and the case's line, and answers whether the case passed.
+/// GOAWAYs that the client read, the case's line, and one that sums up, and answers whether the case passed.
 pub fn run_drain<R, W>(
     rt: R,
     methods: Arc<Methods>,
@@ -68,7 +72,10 @@ where
     R: Net<Stream = TcpStream, Listener = TcpListener> + Print + Eprint + AllocGlobal,
     R: Threads + Wait + Clock + Copy + Send + Sync + Drop + 'static,
     ensures { IfOk result (λ passed. (goaways : List Seen) × (answer : Result (Unit {0}) Fault)
-        × Appends (W.contents output.old) (W.contents output.new) (drain_report goaways answer)
+        × (outcome : Outcome) × (milliseconds : ℕ)
+        × (outcome.verdict ≡ verdict_of answer)
+        × Appends (W.contents output.old) (W.contents output.new)
+        (summed_drain goaways answer outcome milliseconds)
         × (passed ≡ is_ok answer)) }
 {
     let alloc = rt.alloc();
@@ -83,9 +90,18 @@ where
         stop: Some(Arc::try_clone(&stop)?),
     };
     let serving = serve_apart(rt, alloc, listener, service)?;
+    let begun = Instant::now(&rt);
     let (answer, goaways) = run_client(rt, alloc, stream, stop);
     serving.join(&rt);
     print_drain(alloc, goaways.as_slice(), answer, output)?;
+    let outcome = outcome_by(alloc, Suite::Drain, CASE, answer.err())?;
+    print_summary(
+        alloc,
+        Suite::Drain,
+        &[outcome],
+        passed_since(&rt, begun),
+        output,
+    )?;
     Ok(answer.is_ok())
 }
 

@@ -1,9 +1,12 @@
 //! The port that is listened on.
 
+use sinks::write_whole;
+use std::alloc::Global;
 use std::io;
 use std::io::ErrorKind;
-use std::net::{Net, TcpListener, ToSocketAddrs};
-use words::{LOOPBACK, Port};
+use std::net::{Net, SocketAddr, TcpListener, ToSocketAddrs};
+use std::rt::Files;
+use words::{LOOPBACK, Port, ServeWords};
 
 /// Listens on the port of a host's address; of a name's addresses it is the first where that can be. Where it can't, a line on
 /// standard error names the port and says why.
@@ -22,6 +25,30 @@ pub fn listen<R: Net + Eprint>(rt: &R, host: &str, port: Port) -> io::Result<Tcp
         };
     }
     listening
+}
+
+/// Writes the files that tell that the port is listened on, so that a script can wait for them: first the port's number, then the
+/// address, each in a line. Where one can't be written, a line on standard error says why.
+pub(crate) fn tell_ready<R: Files + Eprint>(
+    rt: &R,
+    alloc: Global,
+    address: SocketAddr,
+    words: ServeWords<'_>,
+) -> io::Result<()> {
+    if let Some(file) = words.files.port {
+        let port = address.port();
+        let text = format!(in alloc; "{port}\n")?;
+        write_whole(rt, alloc, file, text.as_str()).map_err(|_| unready())?;
+    }
+    if let Some(file) = words.files.ready {
+        let text = format!(in alloc; "{address}\n")?;
+        write_whole(rt, alloc, file, text.as_str()).map_err(|_| unready())?;
+    }
+    Ok(())
+}
+
+fn unready() -> io::Error {
+    io::Error::new(ErrorKind::Other, "a file can't be written")
 }
 
 /// The port, as sockets name it: 0 is one that the system chooses.

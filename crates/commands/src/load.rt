@@ -4,11 +4,12 @@
 ghost use Rattle.std.specs.Prelude.{◌≡◌, ◌≤◌};
 ghost use Rattle.commands.specs.Times.{rank_of};
 
-use crate::client::{Target, try_case};
+use crate::attempt::{Target, outcome_by, passed_since, try_case};
 use crate::connecting::Place;
-use crate::tally::{Tally, print_tally};
-use cases::{Case, CaseFault, ReportFault, Windows};
-use device::{ConnWrite, write_all};
+use crate::tally::{Tally, push_tally};
+use crate::trial::TrialFault;
+use cases::{Case, CaseFault, Windows};
+use results::{Outcome, Suite};
 use std::alloc::{AllocError, Global};
 use std::net::{Net, TcpListener, TcpStream};
 use std::sync::Arc;
@@ -34,19 +35,18 @@ struct Trial {
     patience: u16,
 }
 
-/// Runs a case as often as the words say, so many at a time. It prints a line of it and one of its
-/// times: within which half of the runs ended, and 99 of 100. It answers whether no run failed.
-pub(crate) fn load_case<R, W>(
+/// Runs a case as often as the words say, so many at a time. Its lines are that of the case, and one of its times: within which
+/// half of the runs ended, and 99 of 100.
+pub(crate) fn load_case<R>(
     rt: R,
     case: Case,
-    words: CaseRun<'_>,
+    words: &CaseRun<'_>,
     streams: u16,
-    output: &mut W,
-) -> Result<bool, ReportFault>
+    lines: &mut Vec<u8>,
+) -> Result<Outcome, TrialFault>
 where
     R: Net<Stream = TcpStream, Listener = TcpListener> + Eprint + AllocGlobal,
     R: Clock + Threads + Copy + Send + Sync + Drop + 'static,
-    W: ConnWrite,
 {
     let alloc = rt.alloc();
     let trial = Trial {
@@ -55,6 +55,7 @@ where
         port: words.port,
         patience: words.patience,
     };
+    let begun = Instant::now(&rt);
     let runs = all_runs(rt, alloc, trial, words.times, streams)?;
     let mut tally = Tally::new();
     for run in runs.as_slice() {
@@ -63,9 +64,13 @@ where
             Some(fault) => Err(fault),
         });
     }
-    print_tally(alloc, case.name(), tally, words.times, output)?;
-    print_times(alloc, runs.as_slice(), words.times, output)?;
-    Ok(tally.has_passed())
+    push_tally(lines, case.name(), tally, words.times)?;
+    push_times(alloc, runs.as_slice(), words.times, lines)?;
+    let mut outcome = outcome_by(alloc, Suite::Case, case.name(), tally.fault)?;
+    outcome.tries = u32::from(words.times);
+    outcome.passed = u32::from(tally.passed);
+    outcome.milliseconds = passed_since(&rt, begun);
+    Ok(outcome)
 }
 
 /// What came of so many runs, so many at a time: each thread makes one after another.
@@ -138,13 +143,13 @@ fn try_once<R: Net + Eprint + AllocGlobal + Clock>(rt: &R, name: &str, target: T
     Run { fault, took }
 }
 
-/// Prints within which time half of the runs ended, and 99 of 100.
-fn print_times<W: ConnWrite>(
+/// Appends the line of the times within which half of the runs ended, and 99 of 100.
+fn push_times(
     alloc: Global,
     runs: &[Run],
     count: u16,
-    output: &mut W,
-) -> Result<(), ReportFault> {
+    lines: &mut Vec<u8>,
+) -> Result<(), AllocError> {
     let mut times = Vec::new(alloc);
     for run in runs {
         times.push(run.took)?;
@@ -159,8 +164,7 @@ fn print_times<W: ConnWrite>(
         .copied()
         .unwrap_or(0);
     let text = format!(in alloc; "  p50 {median} us, p99 {most} us\n")?;
-    write_all(output, text.as_bytes())?;
-    Ok(())
+    lines.extend_from_slice(text.as_bytes())
 }
 
 /// The index of the least of so many times, in their order, within which so many of 100 are.

@@ -1,28 +1,33 @@
 //! The commands `serve`, the interop test server, and `self`, the test cases against it in the same process.
 
-ghost use Rattle.std.specs.Prelude.{◌≡◌, List, map, IfOk};
+ghost use Rattle.std.specs.Prelude.{◌≡◌, ℕ, List, map, IfOk};
 ghost use Rattle.std.specs.Io.KnownBytes.{Appends};
-ghost use Rattle.cases.specs.Report.{all_cases, have_passed, lines_of};
-ghost use Rattle.cases.specs.declared.report.Outcome.{Outcome};
+ghost use Rattle.cases.specs.Report.{all_cases, have_passed};
+ghost use Rattle.cases.specs.declared.report.Outcome.{Outcome as Ended};
+ghost use Rattle.commands.specs.Summing.{self_report, verdict_on};
+ghost use Rattle.results.specs.declared.outcome.Outcome.{Outcome};
 
-use crate::client::{PATIENCE, Target, run_all_cases};
+use crate::attempt::{Target, outcomes_of, passed_since, print_summary};
+use crate::client::{PATIENCE, run_all_cases};
 use crate::connecting::Place;
-use crate::listening::listen;
+use crate::listening::{listen, tell_ready};
 use crate::log::Log;
 use crate::port::{Reports, Service, serve_apart, serve_port};
 use crate::reporter::Reporter;
 use crate::stopping::{Connection, Stop};
 use crate::times::Times;
-use cases::{ReportFault, Windows};
+use cases::{ReportFault, Windows, have_passed};
 use connlog::json;
 use device::{ConnRead, ConnWrite, Marked};
 use handlers::Methods;
+use results::Suite;
 use std::alloc::Global;
 use std::io::StdinLock;
 use std::net::{Net, SocketAddr, TcpListener, TcpStream};
+use std::rt::Files;
 use std::sync::{Arc, Wait};
 use std::thread::Threads;
-use std::time::{Clock, Duration};
+use std::time::{Clock, Duration, Instant};
 use std::{io, thread};
 use words::{LOOPBACK, LogForm, ServeWords};
 
@@ -37,7 +42,7 @@ const PAUSE: u64 = 100;
 pub fn serve<R>(rt: R, methods: Arc<Methods>, words: ServeWords<'_>) -> io::Result<bool>
 where
     R: Net<Stream = TcpStream, Listener = TcpListener> + Input<Reader = StdinLock<'static>>,
-    R: Print + Eprint + AllocGlobal,
+    R: Files + Print + Eprint + AllocGlobal,
     R: Threads + Wait + Clock + Copy + Send + Sync + Drop + 'static,
 {
     let alloc = rt.alloc();
@@ -45,6 +50,7 @@ where
     let address = listener.local_addr()?;
     let times = words.log.map(|form| Times::begin(&rt, form, words.time));
     say_listening(&rt, alloc, address, times)?;
+    tell_ready(&rt, alloc, address, words)?;
     let stop = stop_of(rt, alloc, words)?;
     let Some(times) = times else {
         let reports = if words.has_report {
@@ -184,8 +190,8 @@ where
     Ok(left)
 }
 
-/// Serves the port that is listened on in a thread of its own, runs the fourteen cases against it, prints a line of each,
-/// and answers whether none failed. The server's thread goes on until the program ends.
+/// Serves the port that is listened on in a thread of its own, runs the fourteen cases against it, prints a line of each and one
+/// that sums up, and answers whether none failed. The server's thread goes on until the program ends.
 pub fn run_self<R, W>(
     rt: R,
     methods: Arc<Methods>,
@@ -197,10 +203,13 @@ where
     W: ConnWrite,
     R: Net<Stream = TcpStream, Listener = TcpListener> + Print + Eprint + AllocGlobal,
     R: Threads + Wait + Clock + Copy + Send + Sync + Drop + 'static,
-    ensures { IfOk result (λ passed. (outcomes : List Outcome)
-        × (map (λ outcome. outcome.case) outcomes ≡ all_cases)
-        × Appends (W.contents output.old) (W.contents output.new) (lines_of outcomes)
-        × (passed ≡ have_passed outcomes)) }
+    ensures { IfOk result (λ passed. (ended : List Ended) × (outcomes : List Outcome)
+        × (milliseconds : ℕ)
+        × (map (λ one. one.case) ended ≡ all_cases)
+        × (map (λ outcome. outcome.verdict) outcomes ≡ map verdict_on ended)
+        × Appends (W.contents output.old) (W.contents output.new)
+        (self_report ended outcomes milliseconds)
+        × (passed ≡ have_passed ended)) }
 {
     let alloc = rt.alloc();
     let service: Service<Log> = Service {
@@ -215,5 +224,16 @@ where
         patience: PATIENCE,
         windows: Windows::Held,
     };
-    run_all_cases(&rt, alloc, target, output)
+    let begun = Instant::now(&rt);
+    let ended = run_all_cases(&rt, alloc, target, output)?;
+    let outcomes = outcomes_of(alloc, Suite::SelfTest, ended.as_slice())?;
+    let milliseconds = passed_since(&rt, begun);
+    print_summary(
+        alloc,
+        Suite::SelfTest,
+        outcomes.as_slice(),
+        milliseconds,
+        output,
+    )?;
+    Ok(have_passed(ended.as_slice()))
 }

@@ -1,11 +1,13 @@
 //! `case rpc_soak` and `case channel_soak`: calls one after another, over one connection or over
 //! one each, and how long they took (gRPC, "Interoperability Test Case Descriptions").
 
+use crate::attempt::{milliseconds_of, outcome_by};
 use crate::connecting::{Place, connect};
 use crate::load::nearest_rank;
-use cases::{CaseFault, Channel, Failure, Limit, ReportFault, Soak, SoakSizes, Timed, print_line};
-use device::{ConnWrite, write_all};
-use std::alloc::Global;
+use crate::trial::TrialFault;
+use cases::{CaseFault, Channel, Failure, Limit, Soak, SoakSizes, Timed, push_line};
+use results::{Outcome, Suite};
+use std::alloc::{AllocError, Global};
 use std::net::{Net, TcpStream};
 use std::thread;
 use std::time::{Clock, Duration};
@@ -30,21 +32,20 @@ struct Plan<'a> {
 }
 
 /// Runs a soak as the words say. Standard error has a line of each call, as gRPC's clients print
-/// it; the output has the soak's line, and one that sums up. It answers whether the soak passed.
-pub(crate) fn run_soak<R, W>(
+/// it; its lines are that of the soak, and one that sums up.
+pub(crate) fn run_soak<R>(
     rt: R,
     soak: Soak,
-    run: CaseRun<'_>,
-    output: &mut W,
-) -> Result<bool, ReportFault>
+    run: &CaseRun<'_>,
+    lines: &mut Vec<u8>,
+) -> Result<Outcome, TrialFault>
 where
     R: Net<Stream = TcpStream> + Clock + Eprint + AllocGlobal + Copy + Drop,
-    W: ConnWrite,
 {
     let alloc = rt.alloc();
     let words = run.soak;
     let Ok(limit) = Limit::begin(&rt, whole(words)) else {
-        return Err(ReportFault::OutOfMemory);
+        return Err(TrialFault::Failed);
     };
     let plan = Plan {
         soak,
@@ -58,9 +59,15 @@ where
     };
     let (iterations, closing) = iterate(rt, alloc, &plan)?;
     let answer = verdict(iterations.as_slice(), closing, words);
-    print_line(alloc, soak.name(), answer, output)?;
-    print_sum(alloc, iterations.as_slice(), words, output)?;
-    Ok(answer.is_ok())
+    let sum = sum_of(alloc, iterations.as_slice(), words)?;
+    push_line(lines, soak.name(), answer)?;
+    lines.extend_from_slice(b"  ")?;
+    lines.extend_from_slice(sum.as_bytes())?;
+    lines.push(b'\n')?;
+    let mut outcome = outcome_by(alloc, Suite::Case, soak.name(), answer.err())?;
+    outcome.milliseconds = milliseconds_of(limit.spent(&rt));
+    outcome.came = Some(sum);
+    Ok(outcome)
 }
 
 /// How long a soak may take.
@@ -77,7 +84,7 @@ fn iterate<R>(
     rt: R,
     alloc: Global,
     plan: &Plan<'_>,
-) -> Result<(Vec<Iteration>, Option<CaseFault>), ReportFault>
+) -> Result<(Vec<Iteration>, Option<CaseFault>), AllocError>
 where
     R: Net<Stream = TcpStream> + Clock + Eprint + Copy + Drop,
 {
@@ -258,14 +265,9 @@ fn failures(iterations: &[Iteration]) -> u64 {
         .count() as u64
 }
 
-/// Prints how many calls there were and failed, and within which time half of them ended, 90 and 99
+/// How many calls there were and failed, and within which time half of them ended, 90 and 99
 /// of 100, and all.
-fn print_sum<W: ConnWrite>(
-    alloc: Global,
-    iterations: &[Iteration],
-    words: SoakWords,
-    output: &mut W,
-) -> Result<(), ReportFault> {
+fn sum_of(alloc: Global, iterations: &[Iteration], words: SoakWords) -> Result<String, AllocError> {
     let mut times = Vec::new(alloc);
     for iteration in iterations {
         times.push(iteration.took)?;
@@ -282,7 +284,5 @@ fn print_sum<W: ConnWrite>(
         "{count} of {wanted} iterations, {failed} failed (at most {most})"
     )?;
     let times = format!(in alloc; "p50 {p50} us, p90 {p90} us, p99 {p99} us, worst {worst} us")?;
-    let text = format!(in alloc; "  {calls}, {times}\n")?;
-    write_all(output, text.as_bytes())?;
-    Ok(())
+    format!(in alloc; "{calls}, {times}")
 }

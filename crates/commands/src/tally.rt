@@ -1,13 +1,10 @@
 //! A case that is run several times: a line tells how often it passed.
 
-ghost use Rattle.std.specs.Prelude.{◌≡◌, ◌++◌, OnOk, IsErrOf, true};
-ghost use Rattle.std.specs.Io.KnownBytes.{Appends};
-ghost use Rattle.cases.specs.declared.report.ReportFault.TheVariants.{WriteFailed};
-ghost use Rattle.commands.specs.Tally.{Counts, count_of, has_passed, no_run, outcome_of, tally_line};
+ghost use Rattle.std.specs.Prelude.{◌≡◌, ◌++◌, OnOk};
+ghost use Rattle.commands.specs.Tally.{Counts, count_of, no_run, outcome_of, tally_line};
 
-use cases::{CaseFault, ReportFault};
-use device::{ConnWrite, write_all};
-use std::alloc::{AllocError, Global};
+use cases::CaseFault;
+use std::alloc::AllocError;
 use std::io::Write;
 
 /// What came of the runs of a case.
@@ -39,17 +36,15 @@ impl Tally {
             Err(fault) => self.fault = self.fault.or(Some(fault)),
         }
     }
-
-    /// Whether no run failed.
-    pub fn has_passed(&self) -> bool
-        ensures { result ≡ has_passed self.now }
-    {
-        self.fault.is_none()
-    }
 }
 
-/// Appends the line of a case that was run so many times.
-fn push_tally(text: &mut Vec<u8>, name: &str, tally: Tally, times: u16) -> Result<(), AllocError>
+/// Appends the line of a case that was run so many times: how many of the runs passed, and the fault of the first that failed.
+pub fn push_tally(
+    text: &mut Vec<u8>,
+    name: &str,
+    tally: Tally,
+    times: u16,
+) -> Result<(), AllocError>
     ensures { OnOk result (text.new.items ≡ text.old.items ++ tally_line name.now tally times) }
 {
     push_outcome(text, name, tally.fault)?;
@@ -74,23 +69,4 @@ fn push_count(text: &mut Vec<u8>, passed: u16, times: u16) -> Result<(), AllocEr
     ensures { OnOk result (text.new.items ≡ text.old.items ++ count_of passed times) }
 {
     writeln!(text, " ({passed} of {times})").map_err(|_| AllocError)
-}
-
-/// Prints the line of a case that was run so many times: how many of the runs passed, and the fault of the first that failed.
-pub fn print_tally<W: ConnWrite>(
-    alloc: Global,
-    name: &str,
-    tally: Tally,
-    times: u16,
-    output: &mut W,
-) -> Result<(), ReportFault>
-    ensures line { OnOk result
-        (Appends (W.contents output.old) (W.contents output.new)
-        (tally_line name.now tally times)) }
-    ensures write_failed { IsErrOf result WriteFailed → W.failed output.new ≡ true }
-{
-    let mut text = Vec::new(alloc);
-    push_tally(&mut text, name, tally, times)?;
-    write_all(output, text.as_slice())?;
-    Ok(())
 }

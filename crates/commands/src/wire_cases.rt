@@ -1,23 +1,31 @@
 //! `interop wire`: wire cases against a server, several side by side.
 
 use crate::connecting::{Place, connect};
+use crate::desk::{Desk, Round};
 use crate::stopping::LOOK;
+use crate::trial::{TrialFault, Verdict, choice_of, refuse_choice};
 use cases::Limit;
 use device::ConnWrite;
 use lane::Bell;
+use results::{ChoiceFault, Entry, Suite, chosen};
+use sinks::{Run, Sinks};
 use std::alloc::Global;
 use std::net::{Net, TcpListener, TcpStream};
 use std::rt::Files;
 use std::sync::atomic::{AtomicBool, AtomicU64, Ordering};
 use std::sync::{Arc, Mutex, Wait};
+use std::thread;
 use std::thread::Threads;
 use std::time::{Clock, Duration, Instant};
-use std::{fs, thread};
-use wire::{
-    Case, Choice, Options, Outcome, Pace, Server, Verdict, WireFault, chosen, hex_name, hex_of,
-    list, must_failures, push_json, run_case, tell, tell_counts, tell_lost,
-};
+use wire::{Case, Ended, Pace, Server, WireFault, every_case, list, run_case};
 use words::{WireRun, WireWords};
+
+/// The words that choose cases.
+const KNOWN: &str = "all, a group (start, conn, hpack, stream, flow, control, grpc), or some of \
+    wire --list, as grpc/4, grpc/4-6 or 'grpc/1*'";
+
+/// Why nothing more is run of a server that a case has ended.
+const NO_ANSWER: &str = "the server answers no more";
 
 /// Milliseconds in a second.
 const SECOND: u64 = 1_000;
@@ -74,67 +82,151 @@ struct Board<R> {
 /// What came of cases that run side by side.
 #[derive(Drop)]
 struct Found {
-    /// By the places of the cases, until it is told of.
-    outcomes: Vec<Option<Result<Outcome, WireFault>>>,
-    /// How many of the cases nothing came of yet.
-    left: usize,
-    /// Whether some case couldn't be run to its end: the thread that ran it runs no more.
-    has_stopped: bool,
+    /// By the places of the cases, until it is taken.
+    answers: Vec<Option<Result<Ended, WireFault>>>,
 }
 
-/// What there is to tell of a run.
-#[derive(Drop)]
-struct Told {
-    outcomes: Vec<Outcome>,
-    /// Why there was no connection to the server any more, if that ended the run.
-    lost: Option<String>,
-}
-
-/// Lists the wire cases, or runs those that the words choose and prints a line of each. It answers whether none of level must
-/// failed, and the server answered to the end. What the words name as the file for outcomes is written where a case was judged.
+/// Lists the wire cases, or runs those that the words choose, and tells what came of each: `Failed`, where one failed the run, or
+/// the server answers no more. Where `is_shown`, standard error is a terminal, and shows how far it is.
 ///
 /// # Errors
 ///
-/// `UnknownCase` where the words choose no case: no connection is made. `NoConnection` where there was none for a case: it has no
-/// verdict, and nothing is told of those behind it. `WriteFailed` where a line or a file can't be written; of a file standard error
-/// says why.
-pub fn run_wire<R, W>(rt: &R, words: WireWords<'_>, output: &mut W) -> Result<bool, WireFault>
+/// `BadKnown` where the file of known failures is none; `Failed` where a line or a file can't be written or read, or where there
+/// was no connection for a case: it isn't tested, and nothing is told of those after it. Standard error says why.
+pub fn run_wire<R, W>(
+    rt: R,
+    words: WireWords<'_>,
+    is_shown: bool,
+    output: &mut W,
+) -> Result<Verdict, TrialFault>
 where
     R: Net<Stream = TcpStream, Listener = TcpListener> + Files + Eprint + AllocGlobal,
     R: Clock + Threads + Wait + Copy + Send + Sync + Drop + 'static,
     W: ConnWrite,
 {
+    let alloc = rt.alloc();
     let words = match words {
         WireWords::List => {
-            list(rt.alloc(), output)?;
-            return Ok(true);
+            list(alloc, output)?;
+            return Ok(Verdict::Passed);
         }
         WireWords::Run(words) => words,
     };
-    let Told { outcomes, lost } = run_chosen(*rt, words, output)?;
-    if let Some(file) = words.json {
-        write_outcomes(rt, file, outcomes.as_slice())?;
+    let cases = every_case(alloc)?;
+    let names = names_of(alloc, cases.as_slice())?;
+    let entries = entries_of(alloc, cases.as_slice(), names.as_slice())?;
+    let choice = choice_of(words.names.as_slice(), &words.reporting);
+    let places = match chosen(alloc, entries.as_slice(), choice) {
+        Ok(places) => places,
+        Err(ChoiceFault::NoCase(name)) => return Ok(refuse_name(&rt, name)),
+        Err(fault) => return refuse_choice(&rt, fault),
+    };
+    let mut texts = Vec::new(alloc);
+    for name in names.as_slice() {
+        texts.push(name.as_str())?;
     }
-    match lost {
-        Some(why) => Err(WireFault::NoConnection(why)),
-        None => Ok(has_passed(outcomes.as_slice())),
+    let run = Run {
+        suite: Suite::Wire,
+        reporting: &words.reporting,
+        names: texts.as_slice(),
+        chosen: places.len(),
+        is_shown,
+    };
+    let mut sinks = Sinks::open(rt, alloc, run)?;
+    for _ in 0..words.reporting.repeat {
+        let chosen = picked(alloc, cases.as_slice(), places.as_slice())?;
+        match run_round(rt, alloc, chosen, &words, &mut sinks, output)? {
+            Round::Done => {}
+            Round::Enough => break,
+            Round::Dead => {
+                sinks.bail_out(NO_ANSWER, output)?;
+                sinks.close(output)?;
+                return Ok(Verdict::Failed);
+            }
+            Round::Lost(why) => return lose(&rt, why.as_str(), &mut sinks, output),
+        }
     }
+    Ok(Verdict::from(sinks.close(output)?))
 }
 
-/// Whether no case of level must failed, and the server answered to the end.
-fn has_passed(outcomes: &[Outcome]) -> bool {
-    must_failures(outcomes) == 0 && outcomes.iter().all(|outcome| outcome.is_alive)
-}
-
-/// Runs the cases that the words choose, and prints a line of each, in their order.
-fn run_chosen<R, W>(rt: R, words: WireRun<'_>, output: &mut W) -> Result<Told, WireFault>
+/// Ends a run for which there is no connection to the server any more, and says why.
+fn lose<R, W>(
+    rt: &R,
+    why: &str,
+    sinks: &mut Sinks<'_, R>,
+    output: &mut W,
+) -> Result<Verdict, TrialFault>
 where
-    R: Net<Stream = TcpStream, Listener = TcpListener> + AllocGlobal,
+    R: Files + Clock + Eprint + AllocGlobal + Drop,
+    W: ConnWrite,
+{
+    sinks.bail_out(why, output)?;
+    sinks.close(output)?;
+    // The exit status tells of it even where nothing can be said here.
+    let _said = eprintln!(rt; "interop: {why}");
+    Err(TrialFault::Failed)
+}
+
+/// Says that there is no case of this name, and which there are.
+fn refuse_name(rt: &impl Eprint, name: &str) -> Verdict {
+    // The exit status tells of it even where nothing can be said here.
+    let _said = eprintln!(rt; "interop: there is no wire case {name}: {KNOWN}");
+    Verdict::UnknownCase
+}
+
+/// The names of cases.
+fn names_of(alloc: Global, cases: &[Case]) -> Result<Vec<String>, TrialFault> {
+    let mut names = Vec::new(alloc);
+    for case in cases {
+        names.push(case.name(alloc)?)?;
+    }
+    Ok(names)
+}
+
+/// What can be chosen: cases of these names.
+fn entries_of<'a>(
+    alloc: Global,
+    cases: &[Case],
+    names: &'a [String],
+) -> Result<Vec<Entry<'a>>, TrialFault> {
+    let mut entries = Vec::new(alloc);
+    for (case, name) in cases.iter().zip(names) {
+        entries.push(Entry {
+            name: name.as_str(),
+            level: Some(case.level),
+            is_in_all: true,
+        })?;
+    }
+    Ok(entries)
+}
+
+/// The cases at these places.
+fn picked(alloc: Global, cases: &[Case], places: &[usize]) -> Result<Vec<Case>, TrialFault> {
+    let mut picked = Vec::new(alloc);
+    for place in places {
+        if let Some(case) = cases.get(*place) {
+            picked.push(*case)?;
+        }
+    }
+    Ok(picked)
+}
+
+/// Runs cases, each once, and tells what came of each.
+fn run_round<R, W>(
+    rt: R,
+    alloc: Global,
+    cases: Vec<Case>,
+    words: &WireRun<'_>,
+    sinks: &mut Sinks<'_, R>,
+    output: &mut W,
+) -> Result<Round, TrialFault>
+where
+    R: Net<Stream = TcpStream, Listener = TcpListener> + Files + Eprint + AllocGlobal,
     R: Clock + Threads + Wait + Copy + Send + Sync + Drop + 'static,
     W: ConnWrite,
 {
-    let alloc = rt.alloc();
-    let board = Arc::new(alloc, board_of(rt, alloc, words)?)?;
+    let mut desk = Desk::new(alloc, cases.as_slice(), words.is_verbose)?;
+    let board = Arc::new(alloc, board_of(rt, alloc, cases, words)?)?;
     let mut threads = Vec::new(alloc);
     for _ in board.cases.as_slice().iter().take(usize::from(words.jobs)) {
         let shared = Arc::try_clone(&board)?;
@@ -144,34 +236,30 @@ where
         threads.push(thread)?;
     }
     if threads.is_empty() {
-        return Err(WireFault::OutOfMemory);
+        return Err(TrialFault::OutOfMemory);
     }
-    let options = Options {
-        verbose: words.is_verbose,
-    };
-    let told = board.tell_all(&rt, alloc, options, output);
+    let told = board.tell_all(&rt, alloc, &mut desk, sinks, output);
     board.is_over.store(true, Ordering::SeqCst);
     for thread in threads {
         thread.join(&rt);
     }
-    told
+    told?;
+    Ok(desk.round())
 }
 
-/// The cases that the words choose, none of them run.
+/// These cases, none of them run.
 fn board_of<R: Net<Stream = TcpStream> + Clock + AllocGlobal + Drop>(
     rt: R,
     alloc: Global,
-    words: WireRun<'_>,
-) -> Result<Board<R>, WireFault> {
-    let choice = Choice::read(words.cases).ok_or(WireFault::UnknownCase)?;
-    let cases = chosen(alloc, choice)?;
-    let mut outcomes = Vec::new(alloc);
-    for _ in cases.as_slice() {
-        outcomes.push(None)?;
-    }
-    let left = cases.iter().filter(|case| !case.opens_many()).count();
+    cases: Vec<Case>,
+    words: &WireRun<'_>,
+) -> Result<Board<R>, TrialFault> {
     let silence = u64::from(words.silence);
-    let begun = Instant::now(&rt).map_err(|_| WireFault::ClockFailed)?;
+    let begun = Instant::now(&rt).map_err(|_| TrialFault::Failed)?;
+    let mut answers = Vec::new(alloc);
+    for _ in cases.as_slice() {
+        answers.push(None)?;
+    }
     Ok(Board {
         cases,
         target: Target {
@@ -188,18 +276,13 @@ fn board_of<R: Net<Stream = TcpStream> + Clock + AllocGlobal + Drop>(
         },
         next: AtomicU64::new(0),
         is_over: AtomicBool::new(false),
-        found: Mutex::new(Found {
-            outcomes,
-            left,
-            has_stopped: false,
-        }),
+        found: Mutex::new(Found { answers }),
         bell: Bell::new(),
     })
 }
 
 impl<R: Net<Stream = TcpStream> + Clock + AllocGlobal + Drop> Board<R> {
-    /// Runs one case after another, each the next that no other thread has begun, but those that no other is to run beside; up to one
-    /// that can't be run to its end.
+    /// Runs one case after another, each the next that no other thread has begun, but those that no other is to run beside.
     fn work(&self, rt: &impl Wait, alloc: Global) {
         for _ in self.cases.as_slice() {
             let place = self.next.fetch_add(1, Ordering::SeqCst) as usize;
@@ -210,100 +293,55 @@ impl<R: Net<Stream = TcpStream> + Clock + AllocGlobal + Drop> Board<R> {
                 return;
             }
             if !case.opens_many() {
-                let outcome = run_case(alloc, *case, self.pace, &self.target);
-                let has_stopped = outcome.is_err();
-                self.put(rt, place, outcome);
-                if has_stopped {
-                    return;
-                }
+                let answer = run_case(alloc, *case, self.pace, &self.target);
+                self.found.lock(rt).put(place, answer);
+                self.bell.ring();
             }
         }
     }
 
-    /// Prints a line of each case, in their order, and the counts at the end. Where the server answers no more after a case, or there
-    /// is no connection for one, nothing more is told of.
-    ///
-    /// # Errors
-    ///
-    /// `NoConnection` where there was no connection for the first case.
-    fn tell_all<W: ConnWrite>(
+    /// Takes what came of each case as it ends, and of those that no other runs beside, which are run last.
+    fn tell_all<S, W>(
         &self,
-        rt: &impl Wait,
+        rt: &S,
         alloc: Global,
-        options: Options,
+        desk: &mut Desk,
+        sinks: &mut Sinks<'_, R>,
         output: &mut W,
-    ) -> Result<Told, WireFault> {
-        let mut outcomes = Vec::new(alloc);
-        let mut lost = None;
+    ) -> Result<(), TrialFault>
+    where
+        S: Wait,
+        R: Files + Eprint + AllocGlobal,
+        W: ConnWrite,
+    {
+        for case in self.cases.as_slice() {
+            if desk.is_over() {
+                break;
+            }
+            if !case.opens_many() {
+                let (place, answer) = self.wait_for_next(rt);
+                desk.take(place, answer, sinks, output)?;
+            }
+        }
         for (place, case) in self.cases.as_slice().iter().enumerate() {
-            match self.outcome_at(rt, alloc, place, case) {
-                Ok(outcome) => {
-                    tell(alloc, &outcome, options, output)?;
-                    let is_alive = outcome.is_alive;
-                    outcomes.push(outcome)?;
-                    if !is_alive {
-                        break;
-                    }
-                }
-                Err(WireFault::NoConnection(why)) => {
-                    if outcomes.is_empty() {
-                        return Err(WireFault::NoConnection(why));
-                    }
-                    tell_lost(alloc, case, why.as_str(), output)?;
-                    lost = Some(why);
-                    break;
-                }
-                Err(fault) => return Err(fault),
+            if desk.is_over() {
+                break;
+            }
+            if case.opens_many() {
+                let answer = run_case(alloc, *case, self.pace, &self.target);
+                desk.take(place, answer, sinks, output)?;
             }
         }
-        tell_counts(alloc, outcomes.as_slice(), output)?;
-        Ok(Told { outcomes, lost })
+        desk.tell_rest(self.cases.as_slice(), sinks, output)
     }
 
-    /// What came of the case at a place, once it has: one that opens many calls is run here, when no thread runs a case any more.
-    fn outcome_at(
-        &self,
-        rt: &impl Wait,
-        alloc: Global,
-        place: usize,
-        case: &Case,
-    ) -> Result<Outcome, WireFault> {
-        if !case.opens_many() {
-            return self.wait_for(rt, place);
-        }
-        self.wait_for_others(rt)?;
-        run_case(alloc, *case, self.pace, &self.target)
-    }
-
-    /// Puts down what came of the case at a place.
-    fn put(&self, rt: &impl Wait, place: usize, outcome: Result<Outcome, WireFault>) {
-        self.found.lock(rt).put(place, outcome);
-        self.bell.ring();
-    }
-
-    /// Waits until no thread runs a case.
-    ///
-    /// # Errors
-    ///
-    /// Why one couldn't be run to its end: then not all are run.
-    fn wait_for_others(&self, rt: &impl Wait) -> Result<(), WireFault> {
+    /// What came of the next case that ends, and its place.
+    fn wait_for_next(&self, rt: &impl Wait) -> (usize, Result<Ended, WireFault>) {
         for _ in rt.forever() {
             let mark = self.bell.mark();
-            if self.found.lock(rt).are_all_run()? {
-                return Ok(());
-            }
-            self.bell.wait_past(rt, mark, Duration::from_secs(LOOK));
-        }
-        unreachable!()
-    }
-
-    /// What came of the case at a place, once it has.
-    fn wait_for(&self, rt: &impl Wait, place: usize) -> Result<Outcome, WireFault> {
-        for _ in rt.forever() {
-            let mark = self.bell.mark();
-            let taken = self.found.lock(rt).take(place);
-            if let Some(outcome) = taken {
-                return outcome;
+            let taken = self.found.lock(rt).take();
+            if let Some(found) = taken {
+                return found;
             }
             self.bell.wait_past(rt, mark, Duration::from_secs(LOOK));
         }
@@ -313,67 +351,16 @@ impl<R: Net<Stream = TcpStream> + Clock + AllocGlobal + Drop> Board<R> {
 
 impl Found {
     /// Puts down what came of the case at a place.
-    fn put(&mut self, place: usize, outcome: Result<Outcome, WireFault>) {
-        self.has_stopped = self.has_stopped || outcome.is_err();
-        if let Some(slot) = self.outcomes.as_mut_slice().get_mut(place) {
-            *slot = Some(outcome);
-        }
-        self.left = self.left.saturating_sub(1);
-    }
-
-    /// Whether something came of each of the cases.
-    ///
-    /// # Errors
-    ///
-    /// Why one couldn't be run to its end.
-    fn are_all_run(&mut self) -> Result<bool, WireFault> {
-        if !self.has_stopped {
-            return Ok(self.left == 0);
-        }
-        for slot in self.outcomes.as_mut_slice().iter_mut() {
-            if let Some(Err(_)) = slot {
-                if let Some(Err(fault)) = slot.take() {
-                    return Err(fault);
-                }
-            }
-        }
-        Ok(false)
-    }
-
-    /// What came of the case at a place, if something did.
-    fn take(&mut self, place: usize) -> Option<Result<Outcome, WireFault>> {
-        self.outcomes.as_mut_slice().get_mut(place)?.take()
-    }
-}
-
-/// Writes the outcomes as JSON into a file, and beside it, for each case that failed, a file of what was sent.
-fn write_outcomes<R: Files + Eprint + AllocGlobal>(
-    rt: &R,
-    file: &str,
-    outcomes: &[Outcome],
-) -> Result<(), WireFault> {
-    let alloc = rt.alloc();
-    let mut text = String::new(alloc);
-    push_json(alloc, &mut text, outcomes)?;
-    write_file(rt, file, text.as_str())?;
-    for outcome in outcomes {
-        if matches!(outcome.finding.verdict, Verdict::Failed | Verdict::Unsteady) {
-            let name = hex_name(alloc, file, &outcome.case)?;
-            let sent = hex_of(alloc, outcome.finding.sent.as_slice())?;
-            write_file(rt, name.as_str(), sent.as_str())?;
+    fn put(&mut self, place: usize, answer: Result<Ended, WireFault>) {
+        if let Some(slot) = self.answers.as_mut_slice().get_mut(place) {
+            *slot = Some(answer);
         }
     }
-    Ok(())
-}
 
-/// Writes a file. Where it can't be written, a line on standard error says why.
-fn write_file<R: Files + Eprint>(rt: &R, name: &str, text: &str) -> Result<(), WireFault> {
-    match fs::write(rt, name, text) {
-        Ok(()) => Ok(()),
-        Err(error) => {
-            // The exit status tells of it even where nothing can be said here.
-            let _said = eprintln!(rt; "interop: {name} can't be written: {error}");
-            Err(WireFault::WriteFailed)
-        }
+    /// The first place of which something came, and what.
+    fn take(&mut self) -> Option<(usize, Result<Ended, WireFault>)> {
+        let place = self.answers.iter().position(|slot| slot.is_some())?;
+        let answer = self.answers.as_mut_slice().get_mut(place)?.take()?;
+        Some((place, answer))
     }
 }

@@ -22,10 +22,10 @@ const ALL: [Command; 8] = [
     },
     Command {
         name: "case",
-        usage: "  interop case NAME --port P [--host H] [--times N] [--streams K] [--timeout S]
-               [--soak_iterations N ..]
+        usage: "  interop case NAME .. --port P [--host H] [--times N] [--streams K] [--timeout S]
+               [--soak_iterations N ..] [RUN ..]
   interop case --list",
-        text: "  case NAME      run the test case of this name as a client against the server at port P of
+        text: "  case NAME ..   run the test cases of these names as a client against the server at port P of
                  H (127.0.0.1 if no host is given), or the fourteen where NAME is all, and
                  print a line of each; what differed is told on standard error. A case may take
                  S seconds (10 if not given). With --times each is run N times, and its line
@@ -43,17 +43,20 @@ const ALL: [Command; 8] = [
         usage: "  interop drain [--port P]",
         text: "  drain          serve on port P of 127.0.0.1 (50051 if none is given), run ping_pong against this
                  server, drain the server behind the first reply, and print the GOAWAYs that
-                 came (last stream and error) and a line of the case",
+                 came (last stream and error), a line of the case, and one that sums up",
     },
     Command {
         name: "misbehave",
-        usage: "  interop misbehave (NAME --port P [--host H] [--timeout S] | --list [--verbose])",
+        usage: "  interop misbehave NAME .. --port P [--host H] [--timeout S] [--port-file FILE]
+                    [--ready-file FILE] [RUN ..]
+  interop misbehave --list [--verbose]",
         text: "  misbehave NAME misbehave as a server on port P of H (127.0.0.1 if no host is given) in the way of
-                 this name, or in all ways, each on the next port, where NAME is all. It says first
-                 what the client is to do, then what it did, and whether that is ok, failed, with
-                 the sentence that forbids it, or not tested. It ends when the client has gone, or
-                 after S seconds (30 if not given); --list prints the names, with --verbose what
-                 each does",
+                 this name, or in the ways of several, or in all, each on the next port. It says
+                 first what the client is to do, then what it did, and whether that is ok, failed,
+                 with the sentence that forbids it, or not tested. Each ends when the client has
+                 gone, or after S seconds (30 if not given). Once it listens --port-file has the
+                 first port, and --ready-file a line with the name and the address of each; --list
+                 prints the names, with --verbose what each does",
     },
     Command {
         name: "parts",
@@ -65,13 +68,13 @@ const ALL: [Command; 8] = [
         name: "self",
         usage: "  interop self [--port P]",
         text: "  self           serve on port P of 127.0.0.1 (50051 if none is given), run all test cases
-                 against this server, and print a line of each",
+                 against this server, and print a line of each, and one that sums up",
     },
     Command {
         name: "serve",
         usage: "  interop serve (--port P | --any-port) [--host H] [--conns N] [--report]
                 [--log [text | json]] [--time (seconds | utc)] [--drain-on-eof]
-                [--drain-timeout S]",
+                [--drain-timeout S] [--port-file FILE] [--ready-file FILE]",
         text: "  serve          serve grpc.testing.TestService on port P of H (127.0.0.1 if no host is given),
                  or on a port that the system chooses, until it is interrupted, or N connections
                  were served; the line listening HOST:PORT tells where; with --report print a
@@ -83,23 +86,22 @@ const ALL: [Command; 8] = [
                  standard input has ended: calls that began are answered, others refused, and so
                  where the last of N connections has ended. What lives after S seconds of that (10
                  if not given) is named, and left, with status 1. ./interop does the same on SIGINT
-                 and SIGTERM; a second one ends it at once",
+                 and SIGTERM; a second one ends it at once. Once it listens --port-file has the
+                 port, and --ready-file, which is written last, the address",
     },
     Command {
         name: "wire",
-        usage: "  interop wire (all | GROUP | GROUP/N) --port P [--host H] [--silence S] [--timeout T]
-               [--jobs N] [--verbose] [--json FILE]
+        usage: "  interop wire CASES .. --port P [--host H] [--silence S] [--timeout T] [--jobs N]
+               [--verbose] [RUN ..]
   interop wire --list",
-        text: "  wire           send the server at port P of H what no real client would, judge what it answers
+        text: "  wire CASES ..  send the server at port P of H what no real client would, judge what it answers
                  by RFC 9113, RFC 7541 and gRPC, and print a line of each case: of all, of a
-                 group (start, conn, hpack, stream, flow, control, grpc), or of one, as grpc/4.
+                 group (start, conn, hpack, stream, flow, control, grpc), or of some, as grpc/4.
                  N cases (8 if not given) go at a time, each over connections of its own. Silence of
                  S milliseconds (1000 if not given) ends a case, and so do T seconds (10 if not
                  given). What fails is tried twice again: unsteady is a case that passed in one of
                  the tries, and not applicable one that the server's SETTINGS leave no room for.
-                 --verbose tells what was sent and read; --json writes the outcomes to FILE, and
-                 what a failed case sent to FILE.GROUP-N.hex, which parts takes; --list prints all
-                 cases",
+                 --verbose tells what was sent and read; --list prints all cases",
     },
 ];
 
@@ -107,6 +109,19 @@ const FRONT: &str = "\
 The gRPC interop test server's program.
 
 Usage:";
+
+const RUN: &str =
+    "  RUN            which cases of case, wire and misbehave are run, and where their results go. They
+                 are named by a name, a group, a range (grpc/4-6) or a pattern ('stream/*'); --skip
+                 leaves out what such words choose, with commas between them, and --level must
+                 (or should) what binds less. --repeat N runs all N times over; --fail-fast ends
+                 with the first case that fails the run. --known FILE has a line for each case
+                 that may fail, its name and the reason: such a failure fails no run, and a case
+                 that no longer fails does; --write-known FILE makes the list. --json FILE (- for
+                 standard output) has an object a line as each case ends, --junit FILE the XML of
+                 JUnit, and standard output TAP with --tap; --save DIR has the bytes of each case
+                 that failed, which parts takes
+";
 
 const OPTIONS: &str = "  -h, --help     print this text; behind a command, that of the command
   --version      print the version
@@ -123,9 +138,9 @@ timeout_on_sleeping_server. By their names alone: cacheable_unary, rpc_soak, cha
 ";
 
 const STATUS: &str = "\
-Exit status: 0 done, 1 a case failed (of wire one of level must) or a client, or a drain took too
-long, 2 bad arguments or input, 3 input, output, memory, the port or wire's connection failed; why
-there is none, and which argument is bad, is told on standard error.";
+Exit status: 0 done, 1 a case failed (of wire one of level must) or a client, a known failure is
+mended, or a drain took too long, 2 bad arguments or input, 3 input, output, memory, the port or
+wire's connection failed; why there is none, and which argument is bad, is told on standard error.";
 
 /// What words that ask for help are answered with: those words alone, or one behind a command.
 #[derive(Clone, Copy)]
@@ -172,12 +187,15 @@ fn print_whole(rt: &impl Print) -> io::Result<()> {
         let text = command.text;
         println!(rt; "{text}")?;
     }
-    println!(rt; "{OPTIONS}\n{CASES}\n{STATUS}")
+    println!(rt; "{RUN}{OPTIONS}\n{CASES}\n{STATUS}")
 }
 
 fn print_one(rt: &impl Print, command: Command) -> io::Result<()> {
     let Command { name, usage, text } = command;
     println!(rt; "Usage:\n{usage}\n\n{text}\n")?;
+    if matches!(name, "case" | "misbehave" | "wire") {
+        println!(rt; "{RUN}")?;
+    }
     if name == "case" {
         println!(rt; "{CASES}")?;
     }

@@ -22,11 +22,10 @@ ghost use Rattle.words.specs.Words.{IsInRange};
 
 mod help;
 mod misbehaving;
-mod range;
 mod signed;
 
 use commands::{
-    CaseWords, Reason, RunFault, ServeWords, Verdict, WireFault, WireWords, Words, WordsFault,
+    CaseWords, Reason, RunFault, ServeWords, TrialFault, Verdict, WireWords, Words, WordsFault,
     listen, read_words, run_body, run_case, run_drain, run_parts, run_self, run_wire, serve,
 };
 use connection::OpenGate;
@@ -35,8 +34,10 @@ use handlers::{
     CacheableUnaryCall, EmptyCall, FullDuplexCall, HalfDuplexCall, Method, Methods,
     StreamingInputCall, StreamingOutputCall, UnaryCall,
 };
+use help::Help;
+use misbehaving::run_misbehave;
 use std::alloc::{AllocError, Global};
-use std::io::{ErrorKind, StdinLock};
+use std::io::{ErrorKind, IsTerminal, StdinLock};
 use std::net::{Net, TcpListener, TcpStream};
 use std::process::ExitCode;
 use std::rt::{Env, Files};
@@ -44,16 +45,13 @@ use std::sync::{Arc, Wait};
 use std::thread::Threads;
 use std::time::Clock;
 use std::{env, io};
-use words::{LOOPBACK, Port};
+use words::{LOOPBACK, MisbehaveWords, Port};
 
 const CASE_FAILED: u8 = 1;
 
 const BAD_WORDS: u8 = 2;
 
 const FAILED: u8 = 3;
-
-const NO_WIRE_CASE: &str = "there is no such wire case: all, a group (start, conn, hpack, stream, \
-    flow, control, grpc), or one of wire --list, as grpc/4";
 
 const VERSION: &str = "interop 0.1.0";
 
@@ -78,44 +76,44 @@ fn print_body<R: Input + Print + Eprint + AllocGlobal>(rt: &R, cut: usize) -> u8
     }
 }
 
-// Lists or runs the cases that the words name, and answers the exit status.
-fn try_server<R>(rt: &R, words: CaseWords<'_>) -> u8
-where
-    R: Net<Stream = TcpStream, Listener = TcpListener> + Print + Eprint + AllocGlobal,
-    R: Clock + Threads + Copy + Send + Sync + Drop + 'static,
-{
-    let mut output = Marked::new(io::writer(rt));
-    match run_case(*rt, words, &mut output) {
+// The exit status of a run of cases.
+fn status_of(answer: Result<Verdict, TrialFault>) -> u8 {
+    match answer {
         Ok(Verdict::Passed) => 0,
         Ok(Verdict::Failed) => CASE_FAILED,
-        Ok(Verdict::UnknownCase) => BAD_WORDS,
-        Err(_) => FAILED,
+        Ok(Verdict::UnknownCase) | Err(TrialFault::BadKnown) => BAD_WORDS,
+        Err(TrialFault::Failed | TrialFault::OutOfMemory) => FAILED,
     }
 }
 
+// Lists or runs the cases that the words choose, and answers the exit status.
+fn try_server<R>(rt: &R, words: CaseWords<'_>, is_shown: bool) -> u8
+where
+    R: Net<Stream = TcpStream, Listener = TcpListener> + Files + Print + Eprint + AllocGlobal,
+    R: Clock + Threads + Copy + Send + Sync + Drop + 'static,
+{
+    let mut output = Marked::new(io::writer(rt));
+    status_of(run_case(*rt, words, is_shown, &mut output))
+}
+
+// Lists or runs the misbehaviours that the words choose, and answers the exit status.
+fn try_client<R>(rt: &R, words: MisbehaveWords<'_>, is_shown: bool) -> u8
+where
+    R: Net<Stream = TcpStream, Listener = TcpListener> + Files + Print + Eprint + AllocGlobal,
+    R: Clock + Copy + Drop,
+{
+    let mut output = Marked::new(io::writer(rt));
+    status_of(run_misbehave(*rt, words, is_shown, &mut output))
+}
+
 // Lists or runs the wire cases that the words choose, and answers the exit status.
-fn try_wire<R>(rt: &R, words: WireWords<'_>) -> u8
+fn try_wire<R>(rt: &R, words: WireWords<'_>, is_shown: bool) -> u8
 where
     R: Net<Stream = TcpStream, Listener = TcpListener> + Files + Print + Eprint + AllocGlobal,
     R: Threads + Wait + Clock + Copy + Send + Sync + Drop + 'static,
 {
     let mut output = Marked::new(io::writer(rt));
-    match run_wire(rt, words, &mut output) {
-        Ok(true) => 0,
-        Ok(false) => CASE_FAILED,
-        Err(WireFault::UnknownCase) => complain(rt, NO_WIRE_CASE),
-        Err(WireFault::NoConnection(why)) => {
-            // The exit status tells of it even where nothing can be said here.
-            let _said = eprintln!(rt; "interop: {why}");
-            FAILED
-        }
-        Err(
-            WireFault::BadRow
-            | WireFault::WriteFailed
-            | WireFault::ClockFailed
-            | WireFault::OutOfMemory,
-        ) => FAILED,
-    }
+    status_of(run_wire(*rt, words, is_shown, &mut output))
 }
 
 // A command that answers calls.
@@ -131,7 +129,7 @@ enum Server<'a> {
 fn obey_server<R>(rt: R, server: Server<'_>) -> Result<u8, AllocError>
 where
     R: Net<Stream = TcpStream, Listener = TcpListener> + Input<Reader = StdinLock<'static>>,
-    R: Print + Eprint + AllocGlobal,
+    R: Files + Print + Eprint + AllocGlobal,
     R: Threads + Wait + Clock + Copy + Send + Sync + Drop + 'static,
 {
     let alloc = rt.alloc();
@@ -156,7 +154,7 @@ where
 fn serve_all<R>(rt: R, methods: Arc<Methods>, words: ServeWords<'_>) -> u8
 where
     R: Net<Stream = TcpStream, Listener = TcpListener> + Input<Reader = StdinLock<'static>>,
-    R: Print + Eprint + AllocGlobal,
+    R: Files + Print + Eprint + AllocGlobal,
     R: Threads + Wait + Clock + Copy + Send + Sync + Drop + 'static,
 {
     match serve(rt, methods, words) {
@@ -228,8 +226,8 @@ where
     }
 }
 
-// Does what the words after the program's name say, and answers the exit status.
-fn obey<R>(rt: &R, words: &[String]) -> u8
+// Does what the words after the program's name say, and answers the exit status. Where `is_shown`, standard error is a terminal.
+fn obey<R>(rt: &R, words: &[String], is_shown: bool) -> u8
 where
     R: Net<Stream = TcpStream, Listener = TcpListener> + Input<Reader = StdinLock<'static>>,
     R: Print + Eprint + AllocGlobal,
@@ -246,14 +244,14 @@ where
         return explain(rt, reason);
     }
     match read_words(rt.alloc(), words) {
-        Ok(words) => obey_words(rt, words).unwrap_or(FAILED),
+        Ok(words) => obey_words(rt, words, is_shown).unwrap_or(FAILED),
         Err(WordsFault::BadWords(reason)) => explain(rt, reason),
         Err(WordsFault::OutOfMemory) => FAILED,
     }
 }
 
 // Does what the words mean, and answers the exit status.
-fn obey_words<R>(rt: &R, words: Words<'_>) -> Result<u8, AllocError>
+fn obey_words<R>(rt: &R, words: Words<'_>, is_shown: bool) -> Result<u8, AllocError>
 where
     R: Net<Stream = TcpStream, Listener = TcpListener> + Input<Reader = StdinLock<'static>>,
     R: Print + Eprint + AllocGlobal,
@@ -263,13 +261,13 @@ where
 {
     match words {
         Words::Body(cut) => Ok(print_body(rt, cut)),
-        Words::Case(words) => Ok(try_server(rt, words)),
+        Words::Case(words) => Ok(try_server(rt, words, is_shown)),
         Words::Parts => obey_server(*rt, Server::Parts),
         Words::Serve(words) => obey_server(*rt, Server::Serve(words)),
         Words::SelfTest(port) => obey_server(*rt, Server::SelfTest(port)),
         Words::Drain(port) => obey_server(*rt, Server::Drain(port)),
-        Words::Misbehave(words) => Ok(misbehaving::obey_misbehave(*rt, words)),
-        Words::Wire(words) => Ok(try_wire(rt, words)),
+        Words::Misbehave(words) => Ok(try_client(rt, words, is_shown)),
+        Words::Wire(words) => Ok(try_wire(rt, words, is_shown)),
     }
 }
 
@@ -294,7 +292,7 @@ fn arguments<R: Env + AllocGlobal>(rt: &R) -> io::Result<Vec<String>> {
 
 fn main(rt: HostRuntime) -> ExitCode {
     ExitCode::from(match arguments(&rt) {
-        Ok(words) => obey(&rt, words.as_slice()),
+        Ok(words) => obey(&rt, words.as_slice(), rt.stderr().is_terminal()),
         Err(error) if error.kind() == ErrorKind::InvalidData => {
             complain(&rt, "bad arguments");
             complain(&rt, "an argument is not UTF-8")

@@ -1,77 +1,232 @@
 //! The command `misbehave`: a server that misbehaves, for authors of clients (the crate `misbehave`).
 
-use crate::range::port_past_the_last;
-use crate::{CASE_FAILED, FAILED, complain};
-use device::Marked;
-use misbehave::{Place, RunFault};
-use std::io;
+use commands::{TrialFault, Verdict, choice_of, refuse_choice};
+use device::ConnWrite;
+use misbehave::{Misbehaviour, Place, Played, RunFault, Stage, list, misbehaviours};
+use results::{ChoiceFault, Entry, Level, Suite, chosen};
+use sinks::{Run, Sinks, write_whole};
+use std::alloc::{AllocError, Global};
 use std::net::Net;
+use std::rt::Files;
 use std::time::Clock;
-use words::{LOOPBACK, MisbehaveWords};
+use words::{LOOPBACK, MisbehaveRun, MisbehaveWords};
 
-/// Lists the misbehaviours, or runs those that the words name, and answers the exit status.
-pub fn obey_misbehave<R>(rt: R, words: MisbehaveWords<'_>) -> u8
+/// Lists the misbehaviours, or runs those that the words choose, and tells what came of each. Where `is_shown`, standard error is
+/// a terminal, and shows how far it is.
+pub fn run_misbehave<R, W>(
+    rt: R,
+    words: MisbehaveWords<'_>,
+    is_shown: bool,
+    output: &mut W,
+) -> Result<Verdict, TrialFault>
 where
-    R: Net + Print + Eprint + AllocGlobal + Clock + Copy + Drop,
+    R: Net + Files + Eprint + AllocGlobal + Clock + Copy + Drop,
+    W: ConnWrite,
 {
     let alloc = rt.alloc();
-    if let Ok(Some(last)) = port_past_the_last(alloc, words) {
-        let status = complain(&rt, "bad arguments");
-        let _ = eprintln!(rt; "interop: all needs ports up to {last}, and the last is 65535");
-        return status;
-    }
-    let mut output = Marked::new(io::writer(&rt));
-    let answer = match words {
-        MisbehaveWords::List { is_verbose } => misbehave::list(alloc, is_verbose, &mut output).map(
-            |()| true,
-        ),
-        MisbehaveWords::Play {
-            name,
-            host,
-            port,
-            seconds,
-        } => {
-            let place = Place {
-                host,
-                port,
-                seconds,
+    let words = match words {
+        MisbehaveWords::List { is_verbose } => {
+            return match list(alloc, is_verbose, output) {
+                Ok(()) => Ok(Verdict::Passed),
+                Err(fault) => Err(told(&rt, LOOPBACK, fault)),
             };
-            misbehave::run(rt, alloc, name, place, &mut output)
         }
+        MisbehaveWords::Play(words) => words,
     };
-    match answer {
-        Ok(true) => 0,
-        Ok(false) => CASE_FAILED,
-        Err(RunFault::UnknownName) => {
-            let status = complain(&rt, "bad arguments");
-            misbehave::tell_names(&rt, alloc, name_of(words));
-            status
+    let plays = misbehaviours(alloc)?;
+    let entries = entries_of(alloc, plays.as_slice())?;
+    let choice = choice_of(words.names.as_slice(), &words.reporting);
+    match chosen(alloc, entries.as_slice(), choice) {
+        Ok(places) => {
+            let chosen = picked(alloc, plays.as_slice(), places.as_slice())?;
+            let names = names_of(alloc, plays.as_slice())?;
+            run_chosen(
+                rt,
+                alloc,
+                chosen,
+                names.as_slice(),
+                &words,
+                is_shown,
+                output,
+            )
         }
-        Err(RunFault::Port(port, error)) => {
-            let host = host_of(words);
-            let _ = if host == LOOPBACK {
+        Err(ChoiceFault::NoCase(name)) => Ok(refuse_name(&rt, plays.as_slice(), name)),
+        Err(fault) => refuse_choice(&rt, fault),
+    }
+}
+
+/// Says that there is no misbehaviour of this name, and which there are.
+fn refuse_name<R: Eprint>(rt: &R, plays: &[Misbehaviour], name: &str) -> Verdict {
+    // The exit status tells of it even where nothing can be said here.
+    let _said = eprint!(rt; "interop: there is no misbehaviour {name}: all");
+    for play in plays {
+        let known = play.name;
+        let _said = eprint!(rt; ", {known}");
+    }
+    let _said = eprintln!(rt; "");
+    Verdict::UnknownCase
+}
+
+/// Says that the last of the ports isn't there.
+fn refuse_port<R: Eprint>(rt: &R, words: &MisbehaveRun<'_>, last: usize) -> Verdict {
+    let what = match words.names.as_slice() {
+        [name] => *name,
+        _ => "this",
+    };
+    // The exit status tells of it even where nothing can be said here.
+    let _said = eprintln!(rt; "interop: bad arguments");
+    let _said = eprintln!(rt; "interop: {what} needs ports up to {last}, and the last is 65535");
+    Verdict::UnknownCase
+}
+
+/// What can be chosen.
+fn entries_of(alloc: Global, plays: &[Misbehaviour]) -> Result<Vec<Entry<'static>>, AllocError> {
+    let mut entries = Vec::new(alloc);
+    for play in plays {
+        entries.push(Entry {
+            name: play.name,
+            level: Some(Level::Must),
+            is_in_all: true,
+        })?;
+    }
+    Ok(entries)
+}
+
+fn names_of(alloc: Global, plays: &[Misbehaviour]) -> Result<Vec<&'static str>, AllocError> {
+    let mut names = Vec::new(alloc);
+    for play in plays {
+        names.push(play.name)?;
+    }
+    Ok(names)
+}
+
+/// The misbehaviours at these places.
+fn picked(
+    alloc: Global,
+    plays: &[Misbehaviour],
+    places: &[usize],
+) -> Result<Vec<Misbehaviour>, AllocError> {
+    let mut picked = Vec::new(alloc);
+    for place in places {
+        if let Some(play) = plays.get(*place) {
+            picked.push(*play)?;
+        }
+    }
+    Ok(picked)
+}
+
+/// Listens on a port for each of these, and runs them one after another.
+fn run_chosen<R, W>(
+    rt: R,
+    alloc: Global,
+    plays: Vec<Misbehaviour>,
+    names: &[&str],
+    words: &MisbehaveRun<'_>,
+    is_shown: bool,
+    output: &mut W,
+) -> Result<Verdict, TrialFault>
+where
+    R: Net + Files + Eprint + AllocGlobal + Clock + Copy + Drop,
+    W: ConnWrite,
+{
+    let count = plays.len();
+    let last = usize::from(words.port)
+        .saturating_add(count)
+        .saturating_sub(1);
+    if last > usize::from(u16::MAX) {
+        return Ok(refuse_port(&rt, words, last));
+    }
+    let run = Run {
+        suite: Suite::Misbehave,
+        reporting: &words.reporting,
+        names,
+        chosen: count,
+        is_shown,
+    };
+    let mut sinks = Sinks::open(rt, alloc, run)?;
+    let place = Place {
+        host: words.host,
+        port: words.port,
+        seconds: words.seconds,
+    };
+    let mut stage = match Stage::open(rt, alloc, plays, place) {
+        Ok(stage) => stage,
+        Err(fault) => return Err(told(&rt, words.host, fault)),
+    };
+    sinks.say(stage.greeting()?.as_str(), output)?;
+    tell_ready(&rt, alloc, &stage, words)?;
+    'runs: for _ in 0..words.reporting.repeat {
+        for at in 0..count {
+            run_play(&mut stage, at, &mut sinks, output)?;
+            if sinks.is_over() {
+                break 'runs;
+            }
+        }
+    }
+    Ok(Verdict::from(sinks.close(output)?))
+}
+
+/// Writes the files that tell that the ports are listened on: the number of the first, and a line with the name and the address of
+/// each.
+fn tell_ready<R: Net + Files + Eprint + Clock + Copy + Drop>(
+    rt: &R,
+    alloc: Global,
+    stage: &Stage<R>,
+    words: &MisbehaveRun<'_>,
+) -> Result<(), TrialFault> {
+    if let Some(file) = words.files.port {
+        let mut text = String::new(alloc);
+        if let Some(first) = stage.address(0) {
+            let port = first.port();
+            writeln!(text, "{port}")?;
+        }
+        write_whole(rt, alloc, file, text.as_str())?;
+    }
+    if let Some(file) = words.files.ready {
+        let mut text = String::new(alloc);
+        for (at, play) in stage.plays().iter().enumerate() {
+            if let Some(address) = stage.address(at) {
+                let name = play.name;
+                writeln!(text, "{name} {address}")?;
+            }
+        }
+        write_whole(rt, alloc, file, text.as_str())?;
+    }
+    Ok(())
+}
+
+/// Runs the misbehaviour at a place, and tells what the client is to do, and what came of it.
+fn run_play<R, W>(
+    stage: &mut Stage<R>,
+    at: usize,
+    sinks: &mut Sinks<'_, R>,
+    output: &mut W,
+) -> Result<(), TrialFault>
+where
+    R: Net + Files + Eprint + AllocGlobal + Clock + Copy + Drop,
+    W: ConnWrite,
+{
+    sinks.say(stage.heading(at)?.as_str(), output)?;
+    if let Some(Played { mut outcome, text }) = stage.play(at)? {
+        sinks.ended(&mut outcome, output)?;
+        sinks.tell(outcome, text.as_bytes(), output)?;
+    }
+    Ok(())
+}
+
+/// Says on standard error why misbehaviours of a host were not run.
+fn told<R: Eprint>(rt: &R, host: &str, fault: RunFault) -> TrialFault {
+    match fault {
+        RunFault::Port(port, error) => {
+            // The exit status tells of it even where nothing can be said here.
+            let _said = if host == LOOPBACK {
                 eprintln!(rt; "interop: port {port} can't be had: {error}")
             } else {
                 eprintln!(rt; "interop: port {port} of {host} can't be had: {error}")
             };
-            FAILED
+            TrialFault::Failed
         }
-        Err(RunFault::WriteFailed | RunFault::OutOfMemory) => FAILED,
-    }
-}
-
-/// The name of what is to be run.
-fn name_of<'a>(words: MisbehaveWords<'a>) -> &'a str {
-    match words {
-        MisbehaveWords::List { .. } => "",
-        MisbehaveWords::Play { name, .. } => name,
-    }
-}
-
-/// The host whose ports are listened on.
-fn host_of<'a>(words: MisbehaveWords<'a>) -> &'a str {
-    match words {
-        MisbehaveWords::List { .. } => LOOPBACK,
-        MisbehaveWords::Play { host, .. } => host,
+        RunFault::WriteFailed => TrialFault::Failed,
+        RunFault::OutOfMemory => TrialFault::OutOfMemory,
     }
 }

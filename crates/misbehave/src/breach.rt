@@ -1,6 +1,6 @@
 //! What no client may do, whatever the server does, each with the sentence that forbids it.
 
-use crate::outcome::Rule;
+use crate::rule::Rule;
 
 /// What a client did that none may.
 #[derive(Clone, Copy)]

@@ -44,6 +44,16 @@ const LAST_WRITES: usize = 200;
 /// The most bytes that wait to be written while more is read.
 const MOST_WAITING: usize = 33_554_432;
 
+/// The most bytes that are kept of those that were read.
+const MOST_HEARD: usize = 1_048_576;
+
+/// Keeps bytes that were read, as far as there is room.
+fn keep(heard: &mut Vec<u8>, bytes: &[u8]) -> Result<(), AllocError> {
+    let room = MOST_HEARD.saturating_sub(heard.len());
+    let front = bytes.get(..room).unwrap_or(bytes);
+    heard.extend_from_slice(front)
+}
+
 /// A connection.
 #[derive(Drop)]
 pub struct Connection<L> {
@@ -79,6 +89,8 @@ pub struct Connection<L> {
     pub now: u64,
     pub stirred: u64,
     pub progressed: u64,
+    /// The first of the bytes that were read.
+    pub heard: Vec<u8>,
     /// How many bytes were read and written.
     pub bytes_read: u64,
     pub bytes_written: u64,
@@ -119,6 +131,7 @@ impl<L: Line> Connection<L> {
             now,
             stirred: now,
             progressed: now,
+            heard: Vec::new(alloc),
             bytes_read: 0,
             bytes_written: 0,
             is_open: true,
@@ -291,6 +304,7 @@ impl<L: Line> Connection<L> {
             Ok(None) => Ok(false),
             Ok(Some(count)) => {
                 self.bytes_read = self.bytes_read.saturating_add(count as u64);
+                keep(&mut self.heard, &piece[..count])?;
                 self.intake.feed(&piece[..count])?;
                 self.take_all()?;
                 Ok(true)

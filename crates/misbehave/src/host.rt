@@ -280,6 +280,14 @@ impl<W: World> Host<W> {
         }
     }
 
+    /// The first of the bytes that the client sent on the connection that the steps are about.
+    pub fn heard(&self) -> &[u8] {
+        match &self.main {
+            Some(main) => main.connection.heard.as_slice(),
+            None => &[],
+        }
+    }
+
     /// How many bytes were read and written.
     pub fn bytes(&self) -> (u64, u64) {
         let mut read: u64 = 0;

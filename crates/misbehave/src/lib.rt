@@ -1,7 +1,7 @@
 //! A server that misbehaves, for authors of clients.
 //!
 //! A misbehaviour is a short list of steps in a table: what the server sends and what it waits for,
-//! what the client is to do, and which sentence binds it then. `run` plays one of them, or all,
+//! what the client is to do, and which sentence binds it then. A `Stage` plays some of them
 //! against whatever client calls: the eight of gRPC's negative HTTP/2 tests by their names and
 //! rules, and more. What a client did is seen on the wire. A client is told as wrong only where a
 //! sentence forbids what it did, which is printed; and as not tested where it didn't do what the
@@ -14,14 +14,13 @@
 //! for what binds a client, `lack` for what a case needs of it, `deeds` and `verdict` for what is
 //! said of it; `intake`, `rules`, `call` and `connection` for the server's side of a connection,
 //! and `halt` for why it goes no further; `frame_text` for how frames are written; `fence`,
-//! `sending` and `player` for the steps; `line`, `host` and `port` for connections; `outcome`,
-//! `report` and `command` for what is printed and run.
+//! `sending` and `player` for the steps; `line`, `host` and `port` for connections; `rule`,
+//! `report` and `stage` for what is said, printed and run.
 #![tactic(auto)]
 
 mod breach;
 mod call;
 mod closing;
-mod command;
 mod connection;
 mod deeds;
 mod fence;
@@ -34,17 +33,20 @@ mod lack;
 mod line;
 mod misbehaviour;
 mod official;
-mod outcome;
 mod player;
 mod port;
 mod report;
 mod responses;
+mod rule;
 mod rules;
 mod sending;
 mod sentences;
+mod stage;
 mod step;
 mod table;
 mod verdict;
 mod windows;
 
-pub use command::{Place, RunFault, list, run, tell_names};
+pub use misbehaviour::Misbehaviour;
+pub use stage::{Place, Played, RunFault, Stage, list};
+pub use table::all as misbehaviours;

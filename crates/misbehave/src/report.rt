@@ -7,9 +7,10 @@ use crate::host::Host;
 use crate::lack::Lack;
 use crate::line::World;
 use crate::misbehaviour::{Duty, Misbehaviour};
-use crate::outcome::{Outcome, Rule, Tally};
+use crate::rule::Rule;
 use crate::verdict::{Fault, Judgement};
 use figures::error_name;
+use results::{Outcome, Suite};
 use std::alloc::{AllocError, Global};
 
 /// PROTOCOL_ERROR and INTERNAL_ERROR, which may stand for any other error (RFC 9113, section 5.4).
@@ -41,35 +42,62 @@ pub fn outcome_of<W: World>(
     play: &Misbehaviour,
     host: &Host<W>,
 ) -> Result<Outcome, AllocError> {
-    let deeds = host.deeds();
     let judgement = host.judgement();
+    let mut outcome = Outcome::new(alloc, Suite::Misbehave, play.name, judgement.verdict())?;
+    outcome.title = Some(title_of(alloc, play)?);
+    outcome.wanted = Some(String::from_str(alloc, play.wants)?);
+    outcome.came = Some(came_of(alloc, play, host)?);
+    match judgement {
+        Judgement::Right => outcome.passed = 1,
+        Judgement::Wrong(fault) => {
+            let mut reason = String::new(alloc);
+            push_fault(&mut reason, &fault, &host.deeds())?;
+            outcome.reason = Some(reason);
+            outcome.rule = Some(told_rule(alloc, fault.rule())?);
+        }
+        Judgement::Untested(lack) => {
+            let mut reason = String::new(alloc);
+            push_lack(&mut reason, lack, play)?;
+            outcome.reason = Some(reason);
+        }
+    }
+    let (read, written) = host.bytes();
+    outcome.read = Some(Vec::from_slice(alloc, host.heard())?);
+    outcome.read_count = Some(read);
+    outcome.sent_count = Some(written);
+    outcome.milliseconds = host.milliseconds;
+    Ok(outcome)
+}
+
+fn title_of(alloc: Global, play: &Misbehaviour) -> Result<String, AllocError> {
+    let does = play.does;
+    format!(in alloc; "the server {does}")
+}
+
+/// What the client did.
+fn came_of<W: World>(
+    alloc: Global,
+    play: &Misbehaviour,
+    host: &Host<W>,
+) -> Result<String, AllocError> {
     let mut came = String::new(alloc);
-    push_deeds(&mut came, named_error(play.duty), &deeds)?;
+    push_deeds(&mut came, named_error(play.duty), &host.deeds())?;
     if host.is_late {
         came.push_str("; time was over")?;
     }
-    let mut reason = String::new(alloc);
-    let mut rule = None;
-    match judgement {
-        Judgement::Right => {}
-        Judgement::Wrong(fault) => {
-            push_fault(&mut reason, &fault, &deeds)?;
-            rule = Some(fault.rule());
-        }
-        Judgement::Untested(lack) => push_lack(&mut reason, lack, play)?,
-    }
-    let (bytes_read, bytes_written) = host.bytes();
-    Ok(Outcome {
-        name: play.name,
-        verdict: judgement.verdict(),
-        rule,
-        wanted: play.wants,
-        came,
-        reason,
-        milliseconds: host.milliseconds,
-        tries: 1,
-        bytes_read,
-        bytes_written,
+    Ok(came)
+}
+
+/// A rule as results have it.
+fn told_rule(alloc: Global, rule: Rule) -> Result<results::Rule, AllocError> {
+    let Rule {
+        standard,
+        section,
+        sentence,
+    } = rule;
+    Ok(results::Rule {
+        place: format!(in alloc; "{standard}, {section}")?,
+        sentence: Some(String::from_str(alloc, sentence)?),
     })
 }
 
@@ -83,49 +111,40 @@ fn named_error(duty: Duty) -> Option<u32> {
 
 /// What was sent, what the client did, and last the line of the verdict.
 pub fn push_outcome(text: &mut String, sent: &str, outcome: &Outcome) -> Result<(), AllocError> {
-    let came = outcome.came.as_str();
     writeln!(text, "  sent: {sent}")?;
-    writeln!(text, "  came: {came}")?;
+    if let Some(came) = &outcome.came {
+        let came = came.as_str();
+        writeln!(text, "  came: {came}")?;
+    }
     let milliseconds = outcome.milliseconds;
-    let read = outcome.bytes_read;
-    let written = outcome.bytes_written;
+    let read = outcome.read_count.unwrap_or(0);
+    let written = outcome.sent_count.unwrap_or(0);
     writeln!(
         text,
         "  took: {milliseconds} ms, {read} bytes read, {written} written"
     )?;
-    if let Some(rule) = outcome.rule {
+    if let Some(rule) = &outcome.rule {
         push_rule(text, rule)?;
     }
-    let name = outcome.name;
-    let verdict = outcome.verdict.text();
+    let name = outcome.name.as_str();
+    let verdict = outcome.verdict.name();
     write!(text, "{name} {verdict}")?;
-    if !outcome.reason.is_empty() {
-        let reason = outcome.reason.as_str();
+    if let Some(reason) = &outcome.reason {
+        let reason = reason.as_str();
         write!(text, ": {reason}")?;
     }
     text.push_str("\n")
 }
 
-fn push_rule(text: &mut String, rule: Rule) -> Result<(), AllocError> {
-    let Rule {
-        standard,
-        section,
-        sentence,
-    } = rule;
-    writeln!(text, "  rule: {standard}, {section}: \"{sentence}\"")
-}
-
-/// How many cases ended in which way.
-pub fn push_tally(text: &mut String, tally: Tally) -> Result<(), AllocError> {
-    let Tally {
-        ok,
-        failed,
-        not_tested,
-    } = tally;
-    writeln!(
-        text,
-        "misbehave: {ok} ok, {failed} failed, {not_tested} not tested"
-    )
+fn push_rule(text: &mut String, rule: &results::Rule) -> Result<(), AllocError> {
+    let place = rule.place.as_str();
+    match &rule.sentence {
+        Some(sentence) => {
+            let sentence = sentence.as_str();
+            writeln!(text, "  rule: {place}: \"{sentence}\"")
+        }
+        None => writeln!(text, "  rule: {place}"),
+    }
 }
 
 /// What a client did, in words. The standard may name the error for it.

@@ -1,6 +1,6 @@
 //! The sentences that misbehaviours rest on, as the standards have them.
 
-use crate::outcome::Rule;
+use crate::rule::Rule;
 
 /// A sentence that says what a client has to do of a misbehaviour.
 #[derive(Clone, Copy)]

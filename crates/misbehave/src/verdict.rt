@@ -12,8 +12,9 @@ use crate::lack::{
     ONE_AT_A_TIME, Shortfall, TIME_OVER,
 };
 use crate::misbehaviour::{Duty, Misbehaviour, Need};
-use crate::outcome::{Rule, Verdict};
+use crate::rule::Rule;
 use crate::sentences::Sentence;
+use results::Verdict;
 
 /// What a client did wrong.
 #[derive(Clone, Copy)]

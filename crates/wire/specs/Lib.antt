@@ -1,4 +1,3 @@
 pub mod Frames
-pub mod Levels
 pub mod Reactions
 pub mod Verdicts

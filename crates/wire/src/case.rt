@@ -2,8 +2,8 @@
 
 use crate::fault::WireFault;
 use crate::group::Group;
-use crate::level::Level;
-use std::alloc::Global;
+use results::Level;
+use std::alloc::{AllocError, Global};
 
 /// A case.
 #[derive(Clone, Copy, Debug)]
@@ -20,6 +20,13 @@ pub struct Case {
 }
 
 impl Case {
+    /// Its name, as a command line has it: its group and its number.
+    pub fn name(&self, alloc: Global) -> Result<String, AllocError> {
+        let group = self.group.name();
+        let number = self.number;
+        format!(in alloc; "{group}/{number}")
+    }
+
     /// Whether it opens many calls at once: no other is to run beside it.
     pub fn opens_many(&self) -> bool {
         self.script.lines().any(|line| {

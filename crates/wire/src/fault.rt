@@ -9,8 +9,6 @@ use std::alloc::{AllocError, AllocFailed};
 /// Why cases were not run to their end.
 #[derive(Drop)]
 pub enum WireFault {
-    /// No case has such a name.
-    UnknownCase,
     /// There is no connection to the server, for this reason.
     NoConnection(String),
     /// A row of the tables can't be read: a fault of this program.

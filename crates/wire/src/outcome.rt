@@ -1,53 +1,44 @@
 //! What came of a case.
 
-ghost use Rattle.std.specs.Prelude.{◌≡◌};
-ghost use Rattle.wire.specs.Levels.{must_failures};
-
 use crate::case::Case;
-use crate::finding::{Finding, Verdict};
-use crate::level::Level;
+use results::{Outcome, Rule, Suite, Verdict};
 use std::alloc::{AllocError, Global};
 
-/// What came of a case.
+/// A case that was run.
 #[derive(Drop)]
-pub struct Outcome {
+pub struct Ended {
     pub case: Case,
-    pub finding: Finding,
+    pub outcome: Outcome,
     /// Whether the server answers still. It is looked at where the case failed.
     pub is_alive: bool,
 }
 
-impl Outcome {
-    ghost use Rattle.wire.specs.Levels.{fails_the_whole};
-
-    /// Whether it is a case of level must that failed.
-    pub fn fails_the_whole(&self) -> bool
-        ensures { result ≡ fails_the_whole self.now }
-    {
-        matches!(self.finding.verdict, Verdict::Failed) && self.finding.level == Level::Must
-    }
+/// What came of a case of which nothing is known but its verdict.
+pub fn outcome_of(alloc: Global, case: &Case, verdict: Verdict) -> Result<Outcome, AllocError> {
+    let name = case.name(alloc)?;
+    let mut outcome = Outcome::new(alloc, Suite::Wire, name.as_str(), verdict)?;
+    outcome.title = Some(String::from_str(alloc, case.title)?);
+    outcome.level = Some(case.level);
+    outcome.rule = Some(rule_of(alloc, case.section)?);
+    Ok(outcome)
 }
 
-/// How many cases of level must failed.
-pub fn must_failures(outcomes: &[Outcome]) -> usize
-    ensures { result ≡ must_failures outcomes.now }
-{
-    outcomes
-        .iter()
-        .filter(|outcome| outcome.fails_the_whole())
-        .count()
+/// What came of a case for which there was no connection, for this reason.
+pub fn lost_outcome(alloc: Global, case: &Case, why: &str) -> Result<Outcome, AllocError> {
+    let mut outcome = outcome_of(alloc, case, Verdict::NotTested)?;
+    outcome.reason = Some(String::from_str(alloc, why)?);
+    outcome.tries = 0;
+    Ok(outcome)
 }
 
-/// The name of the file with the bytes of a case, beside one with this name.
-pub fn hex_name(alloc: Global, file: &str, case: &Case) -> Result<String, AllocError> {
-    let group = case.group.name();
-    let number = case.number;
-    format!(in alloc; "{file}.{group}-{number}.hex")
-}
-
-/// The bytes of a case as hexadecimal text, with a line end, for `interop parts`.
-pub fn hex_of(alloc: Global, sent: &[u8]) -> Result<String, AllocError> {
-    let mut text = hex::encode(alloc, sent)?;
-    text.push('\n')?;
-    Ok(text)
+/// What a case rests on: the standard and the section, and what its text has after a colon.
+fn rule_of(alloc: Global, section: &str) -> Result<Rule, AllocError> {
+    let (place, sentence) = match section.split_once(": ") {
+        Some((place, sentence)) => (place, Some(String::from_str(alloc, sentence)?)),
+        None => (section, None),
+    };
+    Ok(Rule {
+        place: String::from_str(alloc, place)?,
+        sentence,
+    })
 }

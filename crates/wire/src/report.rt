@@ -1,78 +1,133 @@
 //! The lines that are printed.
 
 use crate::case::Case;
-use crate::finding::Verdict;
-use crate::level::Level;
-use crate::outcome::Outcome;
+use crate::outcome::Ended;
 use crate::reaction::{Lawful, Reaction, push_codes};
 use crate::seen::{SeenFrame, stream_of};
 use h2frame::FrameKind;
-use std::alloc::AllocError;
+use results::{Outcome, Verdict};
+use std::alloc::{AllocError, Global};
 
 /// The most bytes of what a case writes that are printed.
 const SHOWN: usize = 400;
 
-/// Adds the name of a case: its group and its number.
-pub fn push_name(text: &mut String, case: &Case) -> Result<(), AllocError> {
-    let group = case.group.name();
-    let number = case.number;
-    write!(text, "{group}/{number}")
-}
-
 /// Adds the line of `--list` for a case.
 pub fn push_entry(text: &mut String, case: &Case) -> Result<(), AllocError> {
-    push_name(text, case)?;
+    let group = case.group.name();
+    let number = case.number;
     let title = case.title;
     let level = case.level.name();
     let section = case.section;
-    writeln!(text, " {title} ({level}; {section})")
+    writeln!(text, "{group}/{number} {title} ({level}; {section})")
 }
 
-/// Adds the line of a case that was run.
-pub fn push_line(text: &mut String, outcome: &Outcome) -> Result<(), AllocError> {
-    text.push_str("wire ")?;
-    push_name(text, &outcome.case)?;
-    let title = outcome.case.title;
-    let finding = &outcome.finding;
-    let wanted = finding.wanted.as_str();
-    let came = finding.came.as_str();
-    let level = finding.level.name();
-    match finding.verdict {
-        Verdict::Ok => writeln!(text, " {title} .. ok"),
-        Verdict::NotApplicable => writeln!(text, " {title} .. not applicable: {came}"),
+/// The lines that are printed of a case that was run, and one more where the server answers no more. Where `is_verbose`, they
+/// tell its section, what was written and what was read too.
+pub fn text_of(alloc: Global, ended: &Ended, is_verbose: bool) -> Result<String, AllocError> {
+    let mut text = String::new(alloc);
+    push_line(&mut text, &ended.outcome)?;
+    if is_verbose {
+        push_details(&mut text, ended)?;
+    }
+    if !ended.is_alive {
+        text.push_str("wire: the server answers no more\n")?;
+    }
+    Ok(text)
+}
+
+/// The line that is printed of a case for which there was no connection.
+pub fn lost_text(alloc: Global, outcome: &Outcome) -> Result<String, AllocError> {
+    let mut text = String::new(alloc);
+    push_line(&mut text, outcome)?;
+    Ok(text)
+}
+
+/// Adds the line of a case.
+fn push_line(text: &mut String, outcome: &Outcome) -> Result<(), AllocError> {
+    let name = outcome.name.as_str();
+    let title = words_of(&outcome.title);
+    let wanted = words_of(&outcome.wanted);
+    let came = words_of(&outcome.came);
+    write!(text, "wire {name} {title}")?;
+    match outcome.verdict {
+        Verdict::Ok => text.push_str(" .. ok")?,
+        Verdict::NotApplicable => write!(text, " .. not applicable: {came}")?,
+        Verdict::NotTested => {
+            let why = words_of(&outcome.reason);
+            write!(text, " .. not tested: {why}")?;
+        }
         Verdict::Failed => {
-            let rule = finding.rule;
-            write!(text, " {title}: wanted {wanted}, came {came}")?;
-            writeln!(text, " -- failed ({level}): {rule}")
+            write!(text, ": wanted {wanted}, came {came} -- failed")?;
+            push_level(text, outcome)?;
+            push_rule(text, outcome)?;
         }
         Verdict::Unsteady => {
-            let tries = finding.tries;
-            let failed = tries.saturating_sub(finding.passed);
-            write!(text, " {title}: wanted {wanted}, came {came} in {failed}")?;
-            writeln!(text, " of {tries} tries -- unsteady ({level})")
+            let tries = outcome.tries;
+            let failed = tries.saturating_sub(outcome.passed);
+            write!(text, ": wanted {wanted}, came {came} in {failed}")?;
+            write!(text, " of {tries} tries -- unsteady")?;
+            push_level(text, outcome)?;
         }
+    }
+    text.push_str("\n")
+}
+
+fn words_of(text: &Option<String>) -> &str {
+    match text {
+        Some(text) => text.as_str(),
+        None => "",
     }
 }
 
-/// Adds the line of a case that has no verdict, for this reason.
-pub fn push_lost(text: &mut String, case: &Case, why: &str) -> Result<(), AllocError> {
-    text.push_str("wire ")?;
-    push_name(text, case)?;
-    let title = case.title;
-    writeln!(text, " {title} .. not judged: {why}")
+/// Adds how binding the case is.
+fn push_level(text: &mut String, outcome: &Outcome) -> Result<(), AllocError> {
+    match outcome.level {
+        Some(level) => {
+            let level = level.name();
+            write!(text, " ({level})")
+        }
+        None => Ok(()),
+    }
+}
+
+/// Adds what the case rests on: the standard and the section, and the sentence where it is known.
+fn push_rule(text: &mut String, outcome: &Outcome) -> Result<(), AllocError> {
+    let Some(rule) = &outcome.rule else {
+        return Ok(());
+    };
+    let place = rule.place.as_str();
+    write!(text, ": {place}")?;
+    match &rule.sentence {
+        Some(sentence) => {
+            let sentence = sentence.as_str();
+            write!(text, ": {sentence}")
+        }
+        None => Ok(()),
+    }
 }
 
 /// Adds what `--verbose` says of a case: its section, what came, what was written and which frames were read.
-pub fn push_details(text: &mut String, outcome: &Outcome) -> Result<(), AllocError> {
-    let finding = &outcome.finding;
-    let rule = finding.rule;
-    let level = finding.level.name();
-    let came = finding.came.as_str();
-    let milliseconds = finding.milliseconds;
+fn push_details(text: &mut String, ended: &Ended) -> Result<(), AllocError> {
+    let Ended { case, outcome, .. } = ended;
+    let rule = case.section;
+    let level = case.level.name();
+    let came = words_of(&outcome.came);
+    let milliseconds = outcome.milliseconds;
     writeln!(text, "  {level}: {rule}")?;
     writeln!(text, "  came {came}, in {milliseconds} ms")?;
+    if let Some(sent) = &outcome.sent {
+        push_sent(text, sent.as_slice())?;
+    }
+    for frame in outcome.frames.as_slice() {
+        let frame = frame.as_str();
+        writeln!(text, "  read {frame}")?;
+    }
+    Ok(())
+}
+
+/// Adds the line of the bytes that were sent.
+fn push_sent(text: &mut String, sent: &[u8]) -> Result<(), AllocError> {
     text.push_str("  sent ")?;
-    let sent = finding.sent.as_slice();
     for byte in sent.iter().take(SHOWN) {
         write!(text, "{byte:02x}")?;
     }
@@ -80,12 +135,7 @@ pub fn push_details(text: &mut String, outcome: &Outcome) -> Result<(), AllocErr
         let more = sent.len() - SHOWN;
         write!(text, " and {more} bytes more")?;
     }
-    text.push_str("\n")?;
-    for frame in finding.read.as_slice() {
-        let frame = frame.as_str();
-        writeln!(text, "  read {frame}")?;
-    }
-    Ok(())
+    text.push_str("\n")
 }
 
 /// Adds a frame that was read: its type, its stream, its flags, its length, and its error if it says one.
@@ -120,40 +170,6 @@ pub fn kind_name(kind: FrameKind) -> &'static str {
         FrameKind::Continuation => "CONTINUATION",
         FrameKind::Unknown(_) => "unknown",
     }
-}
-
-/// Adds the last line: how many cases passed, how many failed, level by level, and how many are neither.
-pub fn push_counts(text: &mut String, outcomes: &[Outcome]) -> Result<(), AllocError> {
-    let count = outcomes.len();
-    let passed = count_of(outcomes, Verdict::Ok);
-    write!(text, "wire: {passed} of {count} cases passed")?;
-    for level in Level::ALL {
-        let name = level.name();
-        let failed = failures(outcomes, level);
-        write!(text, ", {failed} failed of level {name}")?;
-    }
-    for verdict in [Verdict::Unsteady, Verdict::NotApplicable] {
-        let name = verdict.name();
-        let count = count_of(outcomes, verdict);
-        write!(text, ", {count} {name}")?;
-    }
-    text.push_str("\n")
-}
-
-fn count_of(outcomes: &[Outcome], verdict: Verdict) -> usize {
-    outcomes
-        .iter()
-        .filter(|outcome| outcome.finding.verdict == verdict)
-        .count()
-}
-
-fn failures(outcomes: &[Outcome], level: Level) -> usize {
-    outcomes
-        .iter()
-        .filter(|outcome| {
-            outcome.finding.verdict == Verdict::Failed && outcome.finding.level == level
-        })
-        .count()
 }
 
 /// Adds the ways to pass, in words.

@@ -3,14 +3,14 @@
 use crate::case::Case;
 use crate::engine::{Judgment, Try, Unfit, try_case};
 use crate::fault::WireFault;
-use crate::finding::{Finding, Verdict, verdict_of};
-use crate::level::Level;
-use crate::outcome::Outcome;
+use crate::outcome::{Ended, outcome_of};
 use crate::report::{push_frame_line, push_ways};
 use crate::seen::SeenFrame;
 use crate::server::{Pace, Server};
 use crate::step::{has_control, rounds_of};
 use crate::talk::Talk;
+use crate::verdict::verdict_of;
+use results::{Level, Outcome, Verdict};
 use std::alloc::{AllocError, Global};
 
 /// How often a case is tried that fails: what is of this project's profile alone accuses nobody, and is tried once.
@@ -31,17 +31,17 @@ pub fn run_case<V: Server>(
     case: Case,
     pace: Pace,
     server: &V,
-) -> Result<Outcome, WireFault> {
+) -> Result<Ended, WireFault> {
     let begun = server.now().ok_or(WireFault::ClockFailed)?;
-    let mut finding = match unfit_of_control(alloc, case, pace, server)? {
-        Some(finding) => finding,
+    let mut outcome = match unfit_of_control(alloc, case, pace, server)? {
+        Some(outcome) => outcome,
         None => find(alloc, case, pace, server, begun)?,
     };
-    finding.milliseconds = spent(server, begun)?;
-    let is_alive = finding.verdict != Verdict::Failed || is_alive(alloc, pace, server)?;
-    Ok(Outcome {
+    outcome.milliseconds = spent(server, begun)?;
+    let is_alive = outcome.verdict != Verdict::Failed || is_alive(alloc, pace, server)?;
+    Ok(Ended {
         case,
-        finding,
+        outcome,
         is_alive,
     })
 }
@@ -52,20 +52,20 @@ fn spent<V: Server>(server: &V, begun: u64) -> Result<u64, WireFault> {
     Ok(now.saturating_sub(begun))
 }
 
-/// Tries a case without its fault, if its lines say so, and answers what is found where that fails already.
+/// Tries a case without its fault, if its lines say so, and answers what came of it where that fails already.
 fn unfit_of_control<V: Server>(
     alloc: Global,
     case: Case,
     pace: Pace,
     server: &V,
-) -> Result<Option<Finding>, WireFault> {
+) -> Result<Option<Outcome>, WireFault> {
     if !has_control(case.script) {
         return Ok(None);
     }
     let tried = try_case(alloc, case, pace, server, true)?;
     match tried.judgment {
         Judgment::Passed => Ok(None),
-        Judgment::Unfit(unfit) => Ok(Some(unfit_finding(alloc, case, unfit, tried)?)),
+        Judgment::Unfit(unfit) => Ok(Some(unfit_outcome(alloc, case, unfit, tried)?)),
         Judgment::Failed => {
             let mut reason = String::from_str(alloc, "without its fault: wanted ")?;
             push_ways(&mut reason, tried.lawful.as_slice())?;
@@ -84,7 +84,7 @@ fn find<V: Server>(
     pace: Pace,
     server: &V,
     begun: u64,
-) -> Result<Finding, WireFault> {
+) -> Result<Outcome, WireFault> {
     let mut tries = 0usize;
     let mut passed = 0usize;
     let mut first: Option<Try> = None;
@@ -92,7 +92,7 @@ fn find<V: Server>(
         tries = tries.saturating_add(1);
         let tried = try_rounds(alloc, case, pace, server)?;
         if let Judgment::Unfit(unfit) = tried.judgment {
-            return unfit_finding(alloc, case, unfit, tried);
+            return unfit_outcome(alloc, case, unfit, tried);
         }
         let has_passed = tried.judgment == Judgment::Passed;
         if has_passed {
@@ -107,7 +107,7 @@ fn find<V: Server>(
         }
     }
     match first {
-        Some(tried) => finding_of(alloc, case, tries, passed, tried),
+        Some(tried) => tried_outcome(alloc, case, tries, passed, tried),
         None => Err(WireFault::BadRow),
     }
 }
@@ -136,39 +136,47 @@ fn has_failed(first: &Option<Try>) -> bool {
     }
 }
 
-/// What is found by tries, of which this one is told of.
-fn finding_of(
+/// What came of tries, of which this one is told of.
+fn tried_outcome(
     alloc: Global,
     case: Case,
     tries: usize,
     passed: usize,
     tried: Try,
-) -> Result<Finding, WireFault> {
+) -> Result<Outcome, WireFault> {
     let mut wanted = String::new(alloc);
     push_ways(&mut wanted, tried.lawful.as_slice())?;
     let mut came = String::new(alloc);
     tried.seen.describe(&mut came)?;
-    Ok(Finding {
-        verdict: verdict_of(tries, passed),
-        level: case.level,
-        rule: case.section,
-        wanted,
-        came,
-        milliseconds: 0,
-        tries,
-        passed,
-        read: frames_of(alloc, tried.seen.frames.as_slice())?,
-        sent: tried.sent,
-    })
+    let mut outcome = outcome_of(alloc, &case, verdict_of(tries, passed))?;
+    outcome.wanted = Some(wanted);
+    outcome.came = Some(came);
+    outcome.tries = count_of(tries);
+    outcome.passed = count_of(passed);
+    note(alloc, &mut outcome, tried)?;
+    Ok(outcome)
 }
 
-/// What is found of a case that a server can't be tried by.
-fn unfit_finding(
+/// How many tries there were.
+fn count_of(tries: usize) -> u32 {
+    u32::try_from(tries).unwrap_or(u32::MAX)
+}
+
+/// Notes what was sent and read in a try.
+fn note(alloc: Global, outcome: &mut Outcome, tried: Try) -> Result<(), AllocError> {
+    outcome.frames = frames_of(alloc, tried.seen.frames.as_slice())?;
+    outcome.sent_count = Some(tried.sent.len() as u64);
+    outcome.sent = Some(tried.sent);
+    Ok(())
+}
+
+/// What came of a case that a server can't be tried by.
+fn unfit_outcome(
     alloc: Global,
     case: Case,
     unfit: Unfit,
     tried: Try,
-) -> Result<Finding, WireFault> {
+) -> Result<Outcome, WireFault> {
     let reason = match unfit {
         Unfit::Setting(need) => need.describe(alloc, &tried.seen.announced)?,
         Unfit::Window(count) => {
@@ -178,25 +186,17 @@ fn unfit_finding(
     not_applicable(alloc, case, reason, tried)
 }
 
-/// What is found of a case that isn't applicable, for this reason.
+/// What came of a case that isn't applicable, for this reason.
 fn not_applicable(
     alloc: Global,
     case: Case,
     reason: String,
     tried: Try,
-) -> Result<Finding, WireFault> {
-    Ok(Finding {
-        verdict: Verdict::NotApplicable,
-        level: case.level,
-        rule: case.section,
-        wanted: String::new(alloc),
-        came: reason,
-        milliseconds: 0,
-        tries: 1,
-        passed: 0,
-        read: frames_of(alloc, tried.seen.frames.as_slice())?,
-        sent: tried.sent,
-    })
+) -> Result<Outcome, WireFault> {
+    let mut outcome = outcome_of(alloc, &case, Verdict::NotApplicable)?;
+    outcome.came = Some(reason);
+    note(alloc, &mut outcome, tried)?;
+    Ok(outcome)
 }
 
 /// The frames that were read, in words.

@@ -1,3 +1,4 @@
 pub mod CommandLemmas
 pub mod NumberLemmas
+pub mod TextsLemmas
 pub mod WordsLemmas

@@ -1,12 +1,14 @@
--- `case NAME --port P`, with `--host H`, `--times N`, `--streams K` and `--timeout S`; or by the flags of gRPC's own interop clients,
+-- `case NAME.. --port P`, with `--host H`, `--times N`, `--streams K` and `--timeout S`; or by the flags of gRPC's own interop clients,
 -- `case --test_case=NAME --server_port=P --server_host=H --use_tls=false`, and those of soaks; or `case --list`
-use Rattle.std.specs.Prelude.{◌≤◌, ⊤, ℕ, Bool, false, List, Option, if◌then◌else◌, codes, is_none, option_map, option_and_then}
+use Rattle.std.specs.Prelude.{◌≤◌, ⊤, ℕ, Bool, false, List, [], ◌∷◌, Option, Some, None, if◌then◌else◌, codes, is_none, map, option_map, option_and_then}
 use Rattle.std.specs.Bool.{then_some}
 use Rattle.std.specs.Option.{option_map_or, option_or, option_xor}
 use Rattle.std.specs.Str.{bytes_eq}
 use Rattle.clap.specs.Walk.{Row, Rule, Text}
-use Rattle.clap.specs.Simple.{App, new_app, new_rule, with_rule}
-use Rattle.words.specs.Options.{also_named, amount_of, amount_option, by_default, flag, has_flag, number_of, number_option, text_of, text_option}
+use Rattle.clap.specs.Simple.{App, new_app, with_rule}
+use Rattle.words.specs.Options.{also_named, amount_of, amount_option, by_default, flag, has_flag, number_of, number_option, several, some_texts, text_of, text_option, texts_of}
+use Rattle.words.specs.Reporting as reporting
+use Rattle.words.specs.Reporting.{with_reporting}
 use Rattle.words.specs.declared.case.CaseRun.{CaseRun}
 use Rattle.words.specs.declared.case.CaseWords.{CaseWords}
 use Rattle.words.specs.declared.case.CaseWords.TheVariants as case_words
@@ -66,9 +68,9 @@ with_soak app =
     response_size_option
 
 abbrev pub case_command : App
-case_command = with_soak (
+case_command = with_reporting (with_soak (
     with_rule (with_rule (with_rule (with_rule (with_rule (with_rule (with_rule (with_rule (with_rule (new_app (codes "case"))
-    (new_rule (codes "NAME")))
+    (several (codes "NAME")))
     (text_option (codes "test_case")))
     (flag (codes "list")))
     port_option)
@@ -76,7 +78,7 @@ case_command = with_soak (
     times_option)
     streams_option)
     timeout_option)
-    tls_option)
+    tls_option))
 
 -- what a soak is told
 pub record Soak : Type 0 where
@@ -101,13 +103,14 @@ soak words = record {
 
 -- what a client is told that runs cases
 pub record Run : Type 0 where
-  pub name : Text
+  pub names : List Text
   pub host : Text
   pub port : ℕ
   pub times : ℕ
   pub streams : Option ℕ
   pub patience : ℕ
   pub soak : Soak
+  pub reporting : reporting.Told
 
 pub data Trial : Type 0 where
   list : Trial
@@ -115,22 +118,28 @@ pub data Trial : Type 0 where
 
 abbrev pub trial_run : CaseRun → Run
 trial_run words = record {
-  name = words.name.now;
+  names = map (λ name. name.now) words.names.items;
   host = words.host.now;
   port = words.port;
   times = words.times;
   streams = words.streams;
   patience = words.patience;
   soak = soak words.soak;
+  reporting = reporting.reporting words.reporting;
 }
 
 abbrev pub trial : CaseWords → Trial
 trial case_words.List = list
 trial (case_words.Run words) = run (trial_run words)
 
--- the case's name stands by itself or behind its option, and not both
-abbrev pub name_of : List Row → Option Text
-name_of rows = option_xor (text_of (codes "NAME") rows) (text_of (codes "test_case") rows)
+-- the words that choose the cases stand by themselves, or one after its option
+abbrev pub names_by : Option Text → List Text → Option (List Text)
+names_by None names = some_texts names
+names_by (Some name) [] = Some (name ∷ [])
+names_by (Some name) (first ∷ names) = None
+
+abbrev pub names_of : List Row → Option (List Text)
+names_of rows = names_by (text_of (codes "test_case") rows) (texts_of (codes "NAME") rows)
 
 -- the program speaks cleartext alone
 abbrev pub is_cleartext : List Row → Bool
@@ -154,32 +163,37 @@ soak_of rows =
     (amount_of (codes "soak_max_failures") rows))
     (amount_of (codes "soak_iterations") rows)
 
-abbrev pub run_of : List Row → Option Run
-run_of rows =
-    option_and_then (λ name. option_and_then (λ host. option_and_then (λ port. option_and_then (λ times.
+-- how the cases are run that these words choose, and what is told of them
+abbrev pub run_of : List Text → reporting.Told → List Row → Option Run
+run_of names told rows =
+    option_and_then (λ host. option_and_then (λ port. option_and_then (λ times.
     option_and_then (λ patience. option_and_then (λ soak. then_some (is_cleartext rows) (record {
-      name = name;
+      names = names;
       host = host;
       port = port;
       times = times;
       streams = number_of (codes "streams") 65535 rows;
       patience = patience;
       soak = soak;
+      reporting = told;
     })) (soak_of rows))
     (number_of (codes "timeout") 65535 rows))
     (number_of (codes "times") 65535 rows))
     (number_of (codes "port") 65535 rows))
-    (text_of (codes "host") rows))
-    (name_of rows)
+    (text_of (codes "host") rows)
 
 -- cases are listed or run, and not both
 abbrev pub trial_of : List Row → Option Trial
 trial_of rows =
     if has_flag (codes "list") rows
     then then_some (is_none (option_or (text_of (codes "NAME") rows) (text_of (codes "test_case") rows))) list
-    else option_map run (run_of rows)
+    else option_and_then (λ names. option_and_then (λ told. option_map run (run_of names told rows)) (reporting.reporting_of rows))
+    (names_of rows)
 
 -- the numbers are not 0
+abbrev pub IsRun : CaseRun → Type 0
+IsRun told = (1 ≤ told.port) × (1 ≤ told.times) × (1 ≤ told.patience) × (1 ≤ told.reporting.repeat)
+
 abbrev pub IsTrial : CaseWords → Type 0
 IsTrial case_words.List = ⊤
-IsTrial (case_words.Run told) = (1 ≤ told.port) × (1 ≤ told.times) × (1 ≤ told.patience)
+IsTrial (case_words.Run told) = IsRun told

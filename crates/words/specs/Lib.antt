@@ -1,8 +1,10 @@
 pub mod Body
 pub mod Case
+pub mod Files
 pub mod Misbehave
 pub mod Options
 pub mod OwnServer
+pub mod Reporting
 pub mod Serve
 pub mod Wire
 pub mod Words

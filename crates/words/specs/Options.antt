@@ -1,9 +1,10 @@
 -- The options of commands, and what is read of their values.
-use Rattle.std.specs.Prelude.{◌≡◌, ℕ, Bool, true, false, List, [], ◌∷◌, Option, Some, None, if◌then◌else◌, codes, option_map, option_and_then}
+use Rattle.std.specs.Prelude.{◌≡◌, ℕ, Bool, true, false, List, [], ◌∷◌, Option, Some, None, if◌then◌else◌, codes, option_map, option_and_then, unwrap_or}
 use Rattle.std.specs.Option.{option_map_or}
 use Rattle.std.specs.Str.{bytes_eq}
 use Rattle.std.specs.Str.Parse.{digits_value, without_leading_plus}
-use Rattle.clap.specs.Walk.{Row, Rule, Text, first_of, one_of, rule_of}
+use Rattle.clap.specs.Lexer.{usize_max}
+use Rattle.clap.specs.Walk.{Row, Rule, Text, all_of, first_of, one_of, rule_of}
 use Rattle.clap.specs.ValueTests.{is_unsigned_in}
 use Rattle.clap.specs.Simple.{App, app_of, new_rule}
 use Rattle.clap.specs.declared.builder.arg.Arg.{Arg}
@@ -68,6 +69,22 @@ amount_of name rows = option_and_then (number_within 0 4000000) (one_of name row
 -- the text of an option, or of the word at a place
 abbrev pub text_of : Text → List Row → Option Text
 text_of name rows = first_of name rows
+
+-- words at a place: one at least
+abbrev pub several : Text → Rule
+several name = record (new_rule name) { range = Some (record { start_inclusive = 1; end_inclusive = usize_max }) }
+
+-- the texts of an option that may be given several times, or of the words at a place
+abbrev pub texts_of : Text → List Row → List Text
+texts_of name rows = unwrap_or (all_of name rows) []
+
+-- these texts, if there is one
+abbrev pub some_texts : List Text → Option (List Text)
+some_texts [] = None
+some_texts (text ∷ texts) = Some (text ∷ texts)
+
+abbrev pub some_texts_of : Text → List Row → Option (List Text)
+some_texts_of name rows = some_texts (texts_of name rows)
 
 -- whether a flag was given
 abbrev pub has_flag : Text → List Row → Bool

@@ -6,6 +6,8 @@ use Rattle.std.specs.Option.{option_map_or, option_xor}
 use Rattle.std.specs.Str.{bytes_eq}
 use Rattle.clap.specs.Walk.{Row, Rule, Text}
 use Rattle.clap.specs.Simple.{App, new_app, with_rule}
+use Rattle.words.specs.Files as files
+use Rattle.words.specs.Files.{with_files}
 use Rattle.words.specs.Options.{by_default, flag, has_flag, number_of, number_option, text_of, text_option}
 use Rattle.words.specs.declared.serve.LogForm.{LogForm}
 use Rattle.words.specs.declared.serve.LogForm.TheVariants.{Json, Text as Plain}
@@ -35,7 +37,7 @@ patience_option = by_default (codes "10") (number_option (codes "drain-timeout")
 
 -- P, N and S are 1 to 65,535
 abbrev pub serve_command : App
-serve_command =
+serve_command = with_files (
     with_rule (with_rule (with_rule (with_rule (with_rule (with_rule (with_rule (with_rule (with_rule (new_app (codes "serve"))
     (number_option (codes "port") 65535))
     (flag (codes "any-port")))
@@ -45,7 +47,7 @@ serve_command =
     log_option)
     time_option)
     (flag (codes "drain-on-eof")))
-    patience_option
+    patience_option)
 
 -- what a server is told
 pub record Serving : Type 0 where
@@ -57,6 +59,7 @@ pub record Serving : Type 0 where
   pub time : Option TimeForm
   pub drains_on_eof : Bool
   pub patience : ℕ
+  pub files : files.Told
 
 abbrev pub serving : ServeWords → Serving
 serving words = record {
@@ -68,6 +71,7 @@ serving words = record {
   time = words.time;
   drains_on_eof = words.drains_on_eof;
   patience = words.patience;
+  files = files.files words.files;
 }
 
 -- the port that is given, or any: one of the two has to be said, and not both
@@ -103,6 +107,7 @@ serving_of rows = option_and_then (λ port. option_and_then (λ host. option_and
   time = time;
   drains_on_eof = has_flag (codes "drain-on-eof") rows;
   patience = patience;
+  files = files.files_of rows;
 }) (number_of (codes "drain-timeout") 65535 rows)) (time_of rows)) (log_of rows)) (text_of (codes "host") rows)) (port_of rows)
 
 -- a port's number is not 0

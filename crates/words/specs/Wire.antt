@@ -1,9 +1,11 @@
--- `wire CASES --port P`, with `--host H`, `--silence S`, `--timeout T`, `--jobs N`, `--verbose` and `--json FILE`; or `wire --list`
-use Rattle.std.specs.Prelude.{◌≤◌, ⊤, ℕ, Bool, List, Option, if◌then◌else◌, codes, is_none, option_map, option_and_then}
+-- `wire CASES.. --port P`, with `--host H`, `--silence S`, `--timeout T`, `--jobs N` and `--verbose`; or `wire --list`
+use Rattle.std.specs.Prelude.{◌≤◌, ⊤, ℕ, Bool, List, Option, if◌then◌else◌, codes, is_none, map, option_map, option_and_then}
 use Rattle.std.specs.Bool.{then_some}
 use Rattle.clap.specs.Walk.{Row, Rule, Text}
-use Rattle.clap.specs.Simple.{App, new_app, new_rule, with_rule}
-use Rattle.words.specs.Options.{by_default, flag, has_flag, number_of, number_option, text_of, text_option}
+use Rattle.clap.specs.Simple.{App, new_app, with_rule}
+use Rattle.words.specs.Options.{by_default, flag, has_flag, number_of, number_option, several, some_texts_of, text_of, text_option}
+use Rattle.words.specs.Reporting as reporting
+use Rattle.words.specs.Reporting.{with_reporting}
 use Rattle.words.specs.declared.wire.WireRun.{WireRun}
 use Rattle.words.specs.declared.wire.WireWords.{WireWords}
 use Rattle.words.specs.declared.wire.WireWords.TheVariants as wire_words
@@ -22,9 +24,9 @@ abbrev pub jobs_option : Rule
 jobs_option = by_default (codes "8") (number_option (codes "jobs") 65535)
 
 abbrev pub wire_command : App
-wire_command =
-    with_rule (with_rule (with_rule (with_rule (with_rule (with_rule (with_rule (with_rule (with_rule (new_app (codes "wire"))
-    (new_rule (codes "CASES")))
+wire_command = with_reporting (
+    with_rule (with_rule (with_rule (with_rule (with_rule (with_rule (with_rule (with_rule (new_app (codes "wire"))
+    (several (codes "CASES")))
     (flag (codes "list")))
     (number_option (codes "port") 65535))
     host_option)
@@ -32,18 +34,17 @@ wire_command =
     limit_option)
     jobs_option)
     (flag (codes "verbose")))
-    (text_option (codes "json"))
 
 -- what a run of wire cases is told
 pub record Run : Type 0 where
-  pub cases : Text
+  pub names : List Text
   pub host : Text
   pub port : ℕ
   pub silence : ℕ
   pub limit : ℕ
   pub jobs : ℕ
   pub is_verbose : Bool
-  pub json : Option Text
+  pub reporting : reporting.Told
 
 pub data Told : Type 0 where
   list : Told
@@ -51,47 +52,50 @@ pub data Told : Type 0 where
 
 abbrev pub run_told : WireRun → Run
 run_told words = record {
-  cases = words.cases.now;
+  names = map (λ name. name.now) words.names.items;
   host = words.host.now;
   port = words.port;
   silence = words.silence;
   limit = words.limit;
   jobs = words.jobs;
   is_verbose = words.is_verbose;
-  json = option_map (λ file. file.now) words.json;
+  reporting = reporting.reporting words.reporting;
 }
 
 abbrev pub told : WireWords → Told
 told wire_words.List = list
 told (wire_words.Run words) = run (run_told words)
 
-abbrev pub run_of : List Row → Option Run
-run_of rows =
-    option_and_then (λ cases. option_and_then (λ port. option_and_then (λ host. option_and_then (λ silence.
+-- how the cases are run that these words choose, and what is told of them
+abbrev pub run_of : List Text → reporting.Told → List Row → Option Run
+run_of names told rows =
+    option_and_then (λ port. option_and_then (λ host. option_and_then (λ silence.
     option_and_then (λ limit. option_map (λ jobs. record {
-      cases = cases;
+      names = names;
       host = host;
       port = port;
       silence = silence;
       limit = limit;
       jobs = jobs;
       is_verbose = has_flag (codes "verbose") rows;
-      json = text_of (codes "json") rows;
+      reporting = told;
     }) (number_of (codes "jobs") 65535 rows))
     (number_of (codes "timeout") 65535 rows))
     (number_of (codes "silence") 65535 rows))
     (text_of (codes "host") rows))
-    (number_of (codes "port") 65535 rows))
-    (text_of (codes "CASES") rows)
+    (number_of (codes "port") 65535 rows)
 
 -- cases are listed or run, and not both
 abbrev pub told_of : List Row → Option Told
 told_of rows =
     if has_flag (codes "list") rows then then_some (is_none (text_of (codes "CASES") rows)) list
-    else option_map run (run_of rows)
+    else option_and_then (λ names. option_and_then (λ told. option_map run (run_of names told rows)) (reporting.reporting_of rows))
+    (some_texts_of (codes "CASES") rows)
 
 -- the numbers are not 0
+abbrev pub IsRun : WireRun → Type 0
+IsRun words = (1 ≤ words.port) × (1 ≤ words.silence) × (1 ≤ words.limit) × (1 ≤ words.jobs) × (1 ≤ words.reporting.repeat)
+
 abbrev pub IsInRange : WireWords → Type 0
 IsInRange wire_words.List = ⊤
-IsInRange (wire_words.Run words) =
-    (1 ≤ words.port) × (1 ≤ words.silence) × (1 ≤ words.limit) × (1 ≤ words.jobs)
+IsInRange (wire_words.Run words) = IsRun words

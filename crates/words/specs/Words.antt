@@ -60,18 +60,23 @@ meaning (words.Drain port) = drain port
 meaning (words.Misbehave told) = misbehave (misbehaving told)
 meaning (words.Wire words) = try_wire (told words)
 
--- the command of a name and of the values of its options
-abbrev pub command_of : Text × List Row → Option Meaning
-command_of p =
+-- the command of a name and of the values of its options, of those that keep no lists
+abbrev pub plain_command_of : Text × List Row → Option Meaning
+plain_command_of p =
     if bytes_eq p.0 (codes "body") then option_map print_body (cut_of p.1)
     else if bytes_eq p.0 (codes "parts") then Some print_parts
     else if bytes_eq p.0 (codes "serve") then option_map serve (serving_of p.1)
-    else if bytes_eq p.0 (codes "case") then option_map try_case (trial_of p.1)
     else if bytes_eq p.0 (codes "self") then option_map try_itself (own_port_of p.1)
     else if bytes_eq p.0 (codes "drain") then option_map drain (own_port_of p.1)
+    else None
+
+-- and of all
+abbrev pub command_of : Text × List Row → Option Meaning
+command_of p =
+    if bytes_eq p.0 (codes "case") then option_map try_case (trial_of p.1)
     else if bytes_eq p.0 (codes "misbehave") then option_map misbehave (misbehaving_of p.1)
     else if bytes_eq p.0 (codes "wire") then option_map try_wire (told_of p.1)
-    else None
+    else plain_command_of p
 
 -- nothing, where `clap` refuses the words for any of these kinds of error
 abbrev pub unless_refused : Kinds → Option Meaning → Option Meaning

@@ -3,10 +3,33 @@ use Rattle.std.specs.Prelude.{◌≡◌, [], ◌∷◌, false, true, Some, None,
 use Rattle.clap.proofs.OnLiterals.{clap_on_literals}
 use Rattle.words.specs.Case.{Soak}
 use Rattle.words.specs.Case as case
+use Rattle.words.specs.Files as files
+use Rattle.words.specs.Misbehave.{play}
+use Rattle.words.specs.Reporting as reporting
 use Rattle.words.specs.Wire.{list, run}
-use Rattle.words.specs.Words.{command_meant, drain, meaning_of, print_body, serve, try_case, try_wire}
+use Rattle.results.specs.declared.words.Level.TheVariants.{Must}
+use Rattle.words.specs.Words.{command_meant, drain, meaning_of, misbehave, print_body, serve, try_case, try_wire}
 use Rattle.words.specs.declared.serve.LogForm.TheVariants.{Json, Text as Plain}
 use Rattle.words.specs.declared.serve.Port.TheVariants.{Any, Number}
+
+-- nothing is said of results
+abbrev pub no_reporting : reporting.Told
+no_reporting = record {
+  json = None;
+  junit = None;
+  has_tap = false;
+  save = None;
+  known = None;
+  write_known = None;
+  skip = [];
+  level = None;
+  repeat = 1;
+  fails_fast = false;
+}
+
+-- no file is named
+abbrev pub no_files : files.Told
+no_files = record { port = None; ready = None }
 
 pub no_words : meaning_of [] ≡ Some (print_body 3)
 no_words = refl
@@ -32,6 +55,7 @@ pub any_port : meaning_of (codes "serve" ∷ codes "--any-port" ∷ codes "--hos
   time = None;
   drains_on_eof = false;
   patience = 10;
+  files = no_files;
 }))
 unfolding clap_on_literals command_meant
 any_port = refl
@@ -45,6 +69,7 @@ pub bare_log : meaning_of (codes "serve" ∷ codes "--log" ∷ codes "--port" �
   time = None;
   drains_on_eof = false;
   patience = 10;
+  files = no_files;
 }))
 unfolding clap_on_literals command_meant
 bare_log = refl
@@ -58,6 +83,7 @@ pub log_of_objects : meaning_of (codes "serve" ∷ codes "--any-port" ∷ codes 
   time = None;
   drains_on_eof = false;
   patience = 10;
+  files = no_files;
 }))
 unfolding clap_on_literals command_meant
 log_of_objects = refl
@@ -75,6 +101,7 @@ pub drained_at_the_end : meaning_of (codes "serve" ∷ codes "--drain-on-eof" �
   time = None;
   drains_on_eof = true;
   patience = 10;
+  files = no_files;
 }))
 unfolding clap_on_literals command_meant
 drained_at_the_end = refl
@@ -97,26 +124,28 @@ soak_of_grpc = record {
 
 pub flags_of_grpc : meaning_of (codes "case" ∷ codes "--server_host=localhost" ∷ codes "--server_port=5"
     ∷ codes "--test_case=large_unary" ∷ []) ≡ Some (try_case (case.run (record {
-      name = codes "large_unary";
+      names = codes "large_unary" ∷ [];
       host = codes "localhost";
       port = 5;
       times = 1;
       streams = None;
       patience = 10;
       soak = soak_of_grpc;
+      reporting = no_reporting;
     })))
 unfolding clap_on_literals command_meant
 flags_of_grpc = refl
 
 pub flags_of_soaks : meaning_of (codes "case" ∷ codes "rpc_soak" ∷ codes "--port=5" ∷ codes "--soak_iterations=1000"
     ∷ codes "--soak_max_failures=0" ∷ codes "--soak_overall_timeout_seconds=60" ∷ []) ≡ Some (try_case (case.run (record {
-      name = codes "rpc_soak";
+      names = codes "rpc_soak" ∷ [];
       host = codes "127.0.0.1";
       port = 5;
       times = 1;
       streams = None;
       patience = 10;
       soak = record soak_of_grpc { iterations = 1000; overall = Some 60 };
+      reporting = no_reporting;
     })))
 unfolding clap_on_literals command_meant
 flags_of_soaks = refl
@@ -141,16 +170,21 @@ pub wire_list : meaning_of (codes "wire" ∷ codes "--list" ∷ []) ≡ Some (tr
 unfolding clap_on_literals command_meant
 wire_list = refl
 
-pub wire_cases : meaning_of (codes "wire" ∷ codes "grpc/4" ∷ codes "--port=5" ∷ codes "--json" ∷ codes "a" ∷ [])
+pub wire_cases : meaning_of (codes "wire" ∷ codes "grpc/4" ∷ codes "hpack" ∷ codes "--port=5" ∷ codes "--json" ∷ codes "-"
+    ∷ codes "--skip=grpc/5,hpack/1" ∷ codes "--skip=flow" ∷ codes "--level=must" ∷ [])
     ≡ Some (try_wire (run (record {
-      cases = codes "grpc/4";
+      names = codes "grpc/4" ∷ codes "hpack" ∷ [];
       host = codes "127.0.0.1";
       port = 5;
       silence = 1000;
       limit = 10;
       jobs = 8;
       is_verbose = false;
-      json = Some (codes "a");
+      reporting = record no_reporting {
+        json = Some (codes "-");
+        skip = codes "grpc/5" ∷ codes "hpack/1" ∷ codes "flow" ∷ [];
+        level = Some Must;
+      };
     })))
 unfolding clap_on_literals command_meant
 wire_cases = refl
@@ -158,3 +192,23 @@ wire_cases = refl
 pub wire_list_of_cases : meaning_of (codes "wire" ∷ codes "all" ∷ codes "--list" ∷ codes "--port=5" ∷ []) ≡ None
 unfolding clap_on_literals command_meant
 wire_list_of_cases = refl
+
+pub output_for_two : meaning_of (codes "wire" ∷ codes "all" ∷ codes "--port=5" ∷ codes "--tap" ∷ codes "--json=-" ∷ []) ≡ None
+unfolding clap_on_literals command_meant
+output_for_two = refl
+
+pub level_of_no_name : meaning_of (codes "case" ∷ codes "all" ∷ codes "--port=5" ∷ codes "--level=may" ∷ []) ≡ None
+unfolding clap_on_literals command_meant
+level_of_no_name = refl
+
+pub misbehaviours : meaning_of (codes "misbehave" ∷ codes "goaway" ∷ codes "ping" ∷ codes "--port=5" ∷ codes "--port-file=p" ∷ codes "--repeat=2" ∷ [])
+    ≡ Some (misbehave (play (record {
+      names = codes "goaway" ∷ codes "ping" ∷ [];
+      host = codes "127.0.0.1";
+      port = 5;
+      seconds = 30;
+      files = record no_files { port = Some (codes "p") };
+      reporting = record no_reporting { repeat = 2 };
+    })))
+unfolding clap_on_literals command_meant
+misbehaviours = refl

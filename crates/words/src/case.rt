@@ -1,18 +1,20 @@
-//! `case NAME --port P`, with `--host H`, `--times N`, `--streams K` and `--timeout S`; or by the
+//! `case NAME.. --port P`, with `--host H`, `--times N`, `--streams K` and `--timeout S`; or by the
 //! flags of gRPC's own interop clients (gRPC, "Interoperability Test Case Descriptions"): `case
 //! --test_case=NAME --server_port=P --server_host=H --use_tls=false`, and those of soaks; or `case
 //! --list`.
 
-ghost use Rattle.std.specs.Prelude.{◌≡◌, ◌≤◌, false, IfOk, IfSome, option_map};
+ghost use Rattle.std.specs.Prelude.{◌≡◌, ◌≤◌, false, IfOk, IfSome, map, option_map};
 ghost use Rattle.clap.specs.Simple.{App};
 ghost use Rattle.clap.specs.Words.{app_of, found_of, rows_of};
 ghost use Rattle.words.specs.Options.{IsCommand, IsOption};
-ghost use Rattle.words.specs.Case.{IsTrial, acceptable_option, case_command, gap_option, host_option, is_cleartext, iterations_option, max_failures_option, name_of, overall_option, port_option, request_size_option, response_size_option, run_of, soak, soak_of, streams_option, timeout_option, times_option, tls_option, trial, trial_of, trial_run, with_soak};
+ghost use Rattle.words.specs.Reporting.{reporting as reporting_told};
+ghost use Rattle.words.specs.Case.{IsRun, IsTrial, acceptable_option, case_command, gap_option, host_option, is_cleartext, iterations_option, max_failures_option, names_of, overall_option, port_option, request_size_option, response_size_option, run_of, soak, soak_of, streams_option, timeout_option, times_option, tls_option, trial, trial_of, trial_run, with_soak};
 
 use crate::options::{
-    LOOPBACK, amount_of, amount_option, flag, has_flag, number_option, small_number_of, text_of,
-    text_option,
+    LOOPBACK, amount_of, amount_option, flag, has_flag, number_option, several, small_number_of,
+    some_texts_of, text_of, text_option, texts_of,
 };
+use crate::reporting::{Reporting, reporting_of, with_reporting};
 use clap::{Arg, ArgMatches, Command};
 use std::alloc::{AllocError, Global};
 
@@ -35,10 +37,10 @@ pub struct SoakWords {
 }
 
 /// Which cases are run, and how.
-#[derive(Clone, Copy, Debug, PartialEq, Eq)]
+#[derive(Drop)]
 pub struct CaseRun<'a> {
-    /// The case's name, or `all`.
-    pub name: &'a str,
+    /// The words that choose the cases: one at least.
+    pub names: Vec<&'a str>,
     /// The address of the server, or a name for it.
     pub host: &'a str,
     pub port: u16,
@@ -49,10 +51,11 @@ pub struct CaseRun<'a> {
     /// How many seconds a case may take.
     pub patience: u16,
     pub soak: SoakWords,
+    pub reporting: Reporting<'a>,
 }
 
 /// What `case` is told.
-#[derive(Clone, Copy, Debug, PartialEq, Eq)]
+#[derive(Drop)]
 pub enum CaseWords<'a> {
     /// Print the names that there are.
     List,
@@ -61,7 +64,7 @@ pub enum CaseWords<'a> {
 
 /// The words that it takes.
 pub(crate) const TAKES: &str =
-    "NAME or --test_case NAME, --port P, --host H, --times N, --streams K, --timeout S, \
+    "NAME.. or --test_case NAME, --port P, --host H, --times N, --streams K, --timeout S, \
      gRPC's flags of soaks, or --list";
 
 /// What an amount is.
@@ -171,7 +174,7 @@ pub(crate) fn case_command<'a>(alloc: Global) -> Result<Command<'a>, AllocError>
     ensures { IfOk result (IsCommand case_command) }
 {
     let command = Command::new(alloc, "case")
-        .arg(Arg::new(alloc, "NAME"))?
+        .arg(several(alloc, "NAME"))?
         .arg(text_option(alloc, "test_case", "a case's name, or all"))?
         .arg(flag(alloc, "list"))?
         .arg(port_option(alloc)?)?
@@ -180,7 +183,7 @@ pub(crate) fn case_command<'a>(alloc: Global) -> Result<Command<'a>, AllocError>
         .arg(streams_option(alloc))?
         .arg(timeout_option(alloc))?
         .arg(tls_option(alloc))?;
-    with_soak(alloc, command)
+    with_reporting(alloc, with_soak(alloc, command)?)
 }
 
 // A command with the options of soaks too.
@@ -197,11 +200,20 @@ fn with_soak<'a>(alloc: Global, command: Command<'a>) -> Result<Command<'a>, All
         .arg(response_size_option(alloc))
 }
 
-// The case's name, which stands by itself or behind its option.
-fn name_of<'a>(options: &ArgMatches<'a>) -> Option<&'a str>
-    ensures { option_map (λ name. name.now) result ≡ name_of (rows_of (found_of options.now)) }
+// The words that choose the cases: they stand by themselves, or one after its option.
+fn names_of<'a>(alloc: Global, options: &ArgMatches<'a>) -> Result<Option<Vec<&'a str>>, AllocError>
+    ensures { IfOk result (λ names. option_map (λ found. map (λ name. name.now) found.items) names
+        ≡ names_of (rows_of (found_of options.now))) }
 {
-    text_of(options, "NAME").xor(text_of(options, "test_case"))
+    let Some(name) = text_of(options, "test_case") else {
+        return some_texts_of(alloc, options, "NAME");
+    };
+    let mut names = texts_of(alloc, options, "NAME")?;
+    if !names.is_empty() {
+        return Ok(None);
+    }
+    names.push(name)?;
+    Ok(Some(names))
 }
 
 // Whether no TLS is asked for.
@@ -235,38 +247,54 @@ fn soak_of(options: &ArgMatches<'_>) -> Option<SoakWords>
     })
 }
 
-// Which cases are run, and how.
-fn run_of<'a>(options: &ArgMatches<'a>) -> Option<CaseRun<'a>>
-    ensures value { option_map trial_run result ≡ run_of (rows_of (found_of options.now)) }
-    ensures within { IfSome result (λ told. (1 ≤ told.port) × (1 ≤ told.times) × (1 ≤ told.patience)) }
+// How the cases are run that these words choose, and what is told of them.
+fn run_of<'a>(
+    options: &ArgMatches<'a>,
+    names: Vec<&'a str>,
+    reporting: Reporting<'a>,
+) -> Option<CaseRun<'a>>
+    requires { 1 ≤ reporting.repeat }
+    ensures value { option_map trial_run result ≡ run_of (map (λ name. name.now) names.entry.items)
+        (reporting_told reporting.entry) (rows_of (found_of options.now)) }
+    ensures within { IfSome result IsRun }
 {
-    let name = name_of(options)?;
     let host = text_of(options, "host")?;
     let port = small_number_of(options, "port")?;
     let times = small_number_of(options, "times")?;
     let patience = small_number_of(options, "timeout")?;
     let soak = soak_of(options)?;
     let told = CaseRun {
-        name,
+        names,
         host,
         port,
         times,
         streams: small_number_of(options, "streams"),
         patience,
         soak,
+        reporting,
     };
     is_cleartext(options).then_some(told)
 }
 
-pub(crate) fn trial_of<'a>(options: &ArgMatches<'a>) -> Option<CaseWords<'a>>
-    ensures value { option_map trial result ≡ trial_of (rows_of (found_of options.now)) }
-    ensures within { IfSome result IsTrial }
+pub(crate) fn trial_of<'a>(
+    alloc: Global,
+    options: &ArgMatches<'a>,
+) -> Result<Option<CaseWords<'a>>, AllocError>
+    ensures value { IfOk result (λ told. option_map trial told
+        ≡ trial_of (rows_of (found_of options.now))) }
+    ensures within { IfOk result (λ told. IfSome told IsTrial) }
 {
     if has_flag(options, "list") {
         let is_alone = text_of(options, "NAME")
             .or(text_of(options, "test_case"))
             .is_none();
-        return is_alone.then_some(CaseWords::List);
+        return Ok(is_alone.then_some(CaseWords::List));
     }
-    Some(CaseWords::Run(run_of(options)?))
+    let Some(names) = names_of(alloc, options)? else {
+        return Ok(None);
+    };
+    let Some(reporting) = reporting_of(alloc, options)? else {
+        return Ok(None);
+    };
+    Ok(run_of(options, names, reporting).map(|run| CaseWords::Run(run)))
 }

@@ -7,24 +7,29 @@
 //! - `read`: all commands, and `read_words`. A further command has a file of its own, a variant of `Words`, and a line each
 //!   in `COMMANDS`, `command_line` and `command_of`.
 //! - `options`: the kinds of option.
+//! - `reporting`: the options that the commands with cases share; `files`: those that servers share.
 //! - `reason`: why words mean no command.
 #![tactic(auto)]
 
 mod body;
 mod case;
+mod files;
 mod misbehave;
 mod options;
 mod own_server;
 mod read;
 mod reason;
+mod reporting;
 mod serve;
 mod wire;
 
 pub use body::MAX_CUT;
 pub use case::{CaseRun, CaseWords, SoakWords};
-pub use misbehave::MisbehaveWords;
+pub use files::Files;
+pub use misbehave::{MisbehaveRun, MisbehaveWords};
 pub use options::LOOPBACK;
 pub use read::{COMMANDS, Words, WordsFault, read_words};
 pub use reason::Reason;
+pub use reporting::Reporting;
 pub use serve::{LogForm, Port, ServeWords, TimeForm};
 pub use wire::{WireRun, WireWords};

@@ -1,18 +1,37 @@
-//! `misbehave NAME --port P`, with `--host H` and `--timeout S`; or `misbehave --list`, with `--verbose`.
+//! `misbehave NAME.. --port P`, with `--host H` and `--timeout S`; or `misbehave --list`, with `--verbose`.
 
-ghost use Rattle.std.specs.Prelude.{◌≡◌, ◌≤◌, false, IfOk, IfSome, option_map};
+ghost use Rattle.std.specs.Prelude.{◌≡◌, ◌≤◌, false, IfOk, IfSome, map, option_map};
 ghost use Rattle.clap.specs.Words.{app_of, found_of, rows_of};
-ghost use Rattle.words.specs.Misbehave.{IsPlayable, host_option, misbehave_command, misbehaving, misbehaving_of, seconds_option};
+ghost use Rattle.words.specs.Misbehave.{IsPlayable, IsRun, host_option, misbehave_command, misbehaving, misbehaving_of, run_of, run_told, seconds_option};
 ghost use Rattle.words.specs.Options.{IsCommand, IsOption};
+ghost use Rattle.words.specs.Reporting.{reporting as reporting_told};
 
+use crate::files::{Files, files_of, with_files};
 use crate::options::{
-    LOOPBACK, flag, has_flag, number_option, small_number_of, text_of, text_option,
+    LOOPBACK, flag, has_flag, number_option, several, small_number_of, some_texts_of, text_of,
+    text_option,
 };
+use crate::reporting::{Reporting, reporting_of, with_reporting};
 use clap::{Arg, ArgMatches, Command};
 use std::alloc::{AllocError, Global};
 
+/// How a server misbehaves, and where.
+#[derive(Drop)]
+pub struct MisbehaveRun<'a> {
+    /// The words that choose the ways: one at least.
+    pub names: Vec<&'a str>,
+    /// The address that is listened on, or a name for it.
+    pub host: &'a str,
+    /// The port of the first.
+    pub port: u16,
+    /// How many seconds each may take.
+    pub seconds: u16,
+    pub files: Files<'a>,
+    pub reporting: Reporting<'a>,
+}
+
 /// What `misbehave` is told.
-#[derive(Clone, Copy, Debug, PartialEq, Eq)]
+#[derive(Drop)]
 pub enum MisbehaveWords<'a> {
     /// Print the names that there are.
     List {
@@ -20,20 +39,12 @@ pub enum MisbehaveWords<'a> {
         is_verbose: bool,
     },
     /// Misbehave.
-    Play {
-        /// In the way of this name, or in `all`.
-        name: &'a str,
-        /// The address that is listened on, or a name for it.
-        host: &'a str,
-        /// The port of the first.
-        port: u16,
-        /// How many seconds each may take.
-        seconds: u16,
-    },
+    Play(MisbehaveRun<'a>),
 }
 
 /// The words that it takes.
-pub(crate) const TAKES: &str = "NAME, --port P, --host H, --timeout S, or --list, --verbose";
+pub(crate) const TAKES: &str =
+    "NAME.., --port P, --host H, --timeout S, --port-file FILE, --ready-file FILE, or --list, --verbose";
 
 // `--host H`.
 fn host_option<'a>(alloc: Global) -> Arg<'a>
@@ -55,33 +66,63 @@ pub(crate) fn misbehave_command<'a>(alloc: Global) -> Result<Command<'a>, AllocE
     let port = number_option(alloc, "port", "a port, 1 to 65535");
     let list = flag(alloc, "list");
     let verbose = flag(alloc, "verbose");
-    Command::new(alloc, "misbehave")
-        .arg(Arg::new(alloc, "NAME"))?
+    let command = Command::new(alloc, "misbehave")
+        .arg(several(alloc, "NAME"))?
         .arg(port)?
         .arg(host_option(alloc))?
         .arg(seconds_option(alloc))?
         .arg(list)?
-        .arg(verbose)
+        .arg(verbose)?;
+    with_reporting(alloc, with_files(alloc, command)?)
 }
 
-// A name with a port, or neither of them with `--list`. `--verbose` stands with `--list` alone.
-pub(crate) fn misbehaving_of<'a>(options: &ArgMatches<'a>) -> Option<MisbehaveWords<'a>>
-    ensures value { option_map misbehaving result ≡ misbehaving_of (rows_of (found_of options.now)) }
-    ensures within { IfSome result IsPlayable }
+// How a server misbehaves in the ways that these words choose, and what is told of them.
+fn run_of<'a>(
+    options: &ArgMatches<'a>,
+    names: Vec<&'a str>,
+    reporting: Reporting<'a>,
+) -> Option<MisbehaveRun<'a>>
+    requires { 1 ≤ reporting.repeat }
+    ensures value { option_map run_told result ≡ run_of (map (λ name. name.now) names.entry.items)
+        (reporting_told reporting.entry) (rows_of (found_of options.now)) }
+    ensures within { IfSome result IsRun }
 {
-    let seconds = small_number_of(options, "timeout")?;
     let host = text_of(options, "host")?;
-    let name = text_of(options, "NAME");
-    let port = small_number_of(options, "port");
+    let port = small_number_of(options, "port")?;
+    let seconds = small_number_of(options, "timeout")?;
+    Some(MisbehaveRun {
+        names,
+        host,
+        port,
+        seconds,
+        files: files_of(options),
+        reporting,
+    })
+}
+
+// Names with a port, or neither of them with `--list`. `--verbose` stands with `--list` alone.
+pub(crate) fn misbehaving_of<'a>(
+    alloc: Global,
+    options: &ArgMatches<'a>,
+) -> Result<Option<MisbehaveWords<'a>>, AllocError>
+    ensures value { IfOk result (λ told. option_map misbehaving told
+        ≡ misbehaving_of (rows_of (found_of options.now))) }
+    ensures within { IfOk result (λ told. IfSome told IsPlayable) }
+{
     let is_verbose = has_flag(options, "verbose");
-    match (has_flag(options, "list"), name, port) {
-        (true, None, None) => Some(MisbehaveWords::List { is_verbose }),
-        (false, Some(name), Some(port)) if !is_verbose => Some(MisbehaveWords::Play {
-            name,
-            host,
-            port,
-            seconds,
-        }),
-        _ => None,
+    if has_flag(options, "list") {
+        let is_alone = text_of(options, "NAME").is_none()
+            && small_number_of(options, "port").is_none();
+        return Ok(is_alone.then_some(MisbehaveWords::List { is_verbose }));
     }
+    if is_verbose {
+        return Ok(None);
+    }
+    let Some(names) = some_texts_of(alloc, options, "NAME")? else {
+        return Ok(None);
+    };
+    let Some(reporting) = reporting_of(alloc, options)? else {
+        return Ok(None);
+    };
+    Ok(run_of(options, names, reporting).map(|run| MisbehaveWords::Play(run)))
 }

@@ -3,9 +3,9 @@
 //! A number is read by `get_one::<usize>`; where it gave none, or one out of the range, there is none. `clap`'s parser has
 //! the same range, so this never decides.
 
-ghost use Rattle.std.specs.Prelude.{◌≡◌, ◌≢◌, ◌≤◌, false, IfOk, IfSome, option_map};
+ghost use Rattle.std.specs.Prelude.{◌≡◌, ◌≢◌, ◌≤◌, false, IfOk, IfSome, map, option_map};
 ghost use Rattle.clap.specs.Words.{found_of, rows_of, rule_of};
-ghost use Rattle.words.specs.Options.{amount_of, amount_option, flag, has_flag, number_of, number_option, text_of, text_option};
+ghost use Rattle.words.specs.Options.{IsOption, amount_of, amount_option, flag, has_flag, number_of, number_option, several, some_texts_of, text_of, text_option, texts_of};
 
 use clap::builder::ValueParser;
 use clap::{Arg, ArgAction, ArgMatches, value_parser};
@@ -102,6 +102,44 @@ pub(crate) fn text_of<'a>(options: &ArgMatches<'a>, name: &str) -> Option<&'a st
     ensures { option_map (λ text. text.now) result ≡ text_of name.now (rows_of (found_of options.now)) }
 {
     options.get_str(name)
+}
+
+// The words at a place that takes several: one at least.
+pub(crate) fn several<'a>(alloc: Global, name: &'a str) -> Arg<'a>
+    ensures { IsOption (several name.now) result }
+{
+    Arg::new(alloc, name).num_args(1..)
+}
+
+// The texts of an option that may be given several times, or of the words at a place.
+pub(crate) fn texts_of<'a>(
+    alloc: Global,
+    options: &ArgMatches<'a>,
+    name: &str,
+) -> Result<Vec<&'a str>, AllocError>
+    ensures { IfOk result (λ texts. map (λ text. text.now) texts.items
+        ≡ texts_of name.now (rows_of (found_of options.now))) }
+{
+    match options.get_strs(name) {
+        Some(given) => Vec::from_slice(alloc, given),
+        None => Ok(Vec::new(alloc)),
+    }
+}
+
+// The texts of an option that may be given several times, or of the words at a place, if there is one.
+pub(crate) fn some_texts_of<'a>(
+    alloc: Global,
+    options: &ArgMatches<'a>,
+    name: &str,
+) -> Result<Option<Vec<&'a str>>, AllocError>
+    ensures { IfOk result (λ texts. option_map (λ found. map (λ text. text.now) found.items) texts
+        ≡ some_texts_of name.now (rows_of (found_of options.now))) }
+{
+    let texts = texts_of(alloc, options, name)?;
+    if texts.is_empty() {
+        return Ok(None);
+    }
+    Ok(Some(texts))
 }
 
 // Whether a flag was given.

@@ -28,7 +28,7 @@ pub const COMMANDS: [&str; 8] = [
 ];
 
 /// What the program is told to do.
-#[derive(Clone, Copy, Debug, PartialEq, Eq)]
+#[derive(Drop)]
 pub enum Words<'a> {
     /// Print the messages of one call, whose bytes are taken in pieces of so many, 1 to `MAX_CUT`.
     Body(usize),
@@ -57,7 +57,7 @@ pub enum WordsFault<'a> {
     OutOfMemory,
 }
 
-ghost use Rattle.words.specs.Words.{IsBad, IsInRange, bare_line, code_of, command_line, command_meant, command_of, meaning, meaning_of};
+ghost use Rattle.words.specs.Words.{IsBad, IsInRange, bare_line, code_of, command_line, command_meant, command_of, meaning, meaning_of, plain_command_of};
 
 impl<'a> WordsFault<'a> {
     /// The fault's number.
@@ -107,30 +107,49 @@ pub(crate) fn command_line<'a>(alloc: Global) -> Result<Command<'a>, AllocError>
 }
 
 // A command with the values of its options.
-fn command_of<'a>(name: &str, options: &ArgMatches<'a>) -> Option<Words<'a>>
-    ensures value { option_map meaning result ≡ command_of (name.now, rows_of (found_of options.now)) }
+fn command_of<'a>(
+    alloc: Global,
+    name: &str,
+    options: &ArgMatches<'a>,
+) -> Result<Option<Words<'a>>, AllocError>
+    ensures value { IfOk result (λ told. option_map meaning told
+        ≡ command_of (name.now, rows_of (found_of options.now))) }
+    ensures in_range { IfOk result (λ told. IfSome told IsInRange) }
+{
+    match name {
+        "case" => Ok(trial_of(alloc, options)?.map(|told| Words::Case(told))),
+        "misbehave" => Ok(misbehaving_of(alloc, options)?.map(|told| Words::Misbehave(told))),
+        "wire" => Ok(wire_of(alloc, options)?.map(|told| Words::Wire(told))),
+        _ => Ok(plain_command_of(name, options)),
+    }
+}
+
+// One of the commands that keep no lists, with the values of its options.
+fn plain_command_of<'a>(name: &str, options: &ArgMatches<'a>) -> Option<Words<'a>>
+    ensures value { option_map meaning result
+        ≡ plain_command_of (name.now, rows_of (found_of options.now)) }
     ensures in_range { IfSome result IsInRange }
 {
     match name {
         "body" => Some(Words::Body(cut_of(options)?)),
         "parts" => Some(Words::Parts),
         "serve" => Some(Words::Serve(serving_of(options)?)),
-        "case" => Some(Words::Case(trial_of(options)?)),
         "self" => Some(Words::SelfTest(own_port_of(options)?)),
         "drain" => Some(Words::Drain(own_port_of(options)?)),
-        "misbehave" => Some(Words::Misbehave(misbehaving_of(options)?)),
-        "wire" => Some(Words::Wire(wire_of(options)?)),
         _ => None,
     }
 }
 
 // The command that a parse met.
-fn command_in<'a>(matches: &ArgMatches<'a>) -> Option<Words<'a>>
-    ensures value { option_map meaning result ≡ option_and_then command_of (subcommand_rows_of matches.now) }
-    ensures in_range { IfSome result IsInRange }
+fn command_in<'a>(alloc: Global, matches: &ArgMatches<'a>) -> Result<Option<Words<'a>>, AllocError>
+    ensures value { IfOk result (λ told. option_map meaning told
+        ≡ option_and_then command_of (subcommand_rows_of matches.now)) }
+    ensures in_range { IfOk result (λ told. IfSome told IsInRange) }
 {
-    let (name, options) = matches.subcommand()?;
-    command_of(name, options)
+    match matches.subcommand() {
+        Some((name, options)) => command_of(alloc, name, options),
+        None => Ok(None),
+    }
 }
 
 // The command that the words mean to `clap`, if they mean any.
@@ -139,7 +158,7 @@ fn read_command<'a>(alloc: Global, words: &'a [String]) -> Result<Option<Words<'
     ensures in_range { IfOk result (λ told. IfSome told IsInRange) }
 {
     match command_line(alloc)?.try_get_matches_from(words) {
-        Ok(matches) => Ok(command_in(&matches)),
+        Ok(matches) => command_in(alloc, &matches),
         Err(error) => match error.kind() {
             ErrorKind::OutOfMemory => Err(AllocError),
             _ => Ok(None),

@@ -5,9 +5,10 @@
 
 use crate::read::{COMMANDS, command_line};
 use crate::serve::{form_of, time_form_of};
-use crate::{body, case, misbehave, own_server, serve, wire};
+use crate::{body, case, misbehave, own_server, reporting, serve, wire};
 use clap::builder::ValueParser;
 use clap::{Arg, ArgAction, Command};
+use results::Level;
 use std::alloc::{AllocError, Global};
 use std::fmt;
 
@@ -72,6 +73,20 @@ fn takes(command: &str) -> &'static str {
     }
 }
 
+/// Whether a command runs cases, and takes the options for their outcomes.
+fn has_cases(command: &str) -> bool {
+    matches!(command, "case" | "misbehave" | "wire")
+}
+
+/// Adds the options for outcomes, where a command takes them.
+fn push_shared<W: fmt::Write>(f: &mut fmt::Formatter<W>, command: &str) -> fmt::Result {
+    if !has_cases(command) {
+        return Ok(());
+    }
+    let shared = reporting::TAKES;
+    write!(f, "; and {shared}")
+}
+
 impl<'a> fmt::Display for Reason<'a> {
     fn fmt<W: fmt::Write>(&self, f: &mut fmt::Formatter<W>) -> fmt::Result {
         match *self {
@@ -85,14 +100,16 @@ impl<'a> fmt::Display for Reason<'a> {
             }
             Reason::NoOption { command, option } => {
                 let takes = takes(command);
-                write!(f, "{option} is no option of {command}, which takes {takes}")
+                write!(f, "{option} is no option of {command}, which takes {takes}")?;
+                push_shared(f, command)
             }
             Reason::NoPlace { command, word } => {
                 let takes = takes(command);
                 write!(
                     f,
                     "{word} has no place behind {command}, which takes {takes}"
-                )
+                )?;
+                push_shared(f, command)
             }
             Reason::NoValue { option, right } => write!(f, "{option} needs a value: {right}"),
             Reason::WrongValue {
@@ -147,7 +164,7 @@ fn reason_behind<'a>(name: &'a str, command: &Command<'a>, words: &'a [String]) 
             }
         }
         if !is_option(word) {
-            if is_placed || !has_place {
+            if !has_place {
                 return Reason::NoPlace {
                     command: name,
                     word,
@@ -204,6 +221,7 @@ impl<'c, 'a> Given<'c, 'a> {
                 "log" => form_of(value).is_some(),
                 "time" => time_form_of(value).is_some(),
                 "use_tls" => value == "false",
+                "level" => Level::named(value).is_some(),
                 _ => true,
             },
         };
@@ -258,10 +276,11 @@ fn given_by<'c, 'a>(
             option,
         });
     };
+    let is_repeatable = matches!(arg.get_action(), ArgAction::Append);
     let known = before.iter().map(|other| parts_of(other.as_str()).0).find(|other| {
         arg_of(name, command, other).is_some_and(|same| same.get_id() == arg.get_id())
     });
-    if let Some(other) = known {
+    if let (Some(other), false) = (known, is_repeatable) {
         return Err(Reason::Repeated { option, other });
     }
     let given = Given { option, arg };
@@ -281,6 +300,11 @@ fn given_by<'c, 'a>(
 /// of them stands for itself.
 fn reason_of_whole<'a>(command: &'a str, words: &[String], is_placed: bool) -> Reason<'a> {
     let what = match command {
+        _ if has_cases(command) && has_option(words, "--tap") && has_json_output(words) => {
+            return Reason::Excluding {
+                both: "--tap and --json -",
+            };
+        }
         "serve" if has_option(words, "--any-port") => {
             return Reason::Excluding {
                 both: "--port and --any-port",
@@ -307,7 +331,7 @@ fn reason_of_whole<'a>(command: &'a str, words: &[String], is_placed: bool) -> R
         }
         "misbehave" if has_option(words, "--verbose") => "--list",
         "misbehave" if is_placed => "--port P",
-        "misbehave" => "NAME, or --list",
+        "misbehave" => "NAME.., or --list",
         "wire" if is_placed && has_option(words, "--list") => {
             return Reason::Excluding {
                 both: "CASES and --list",
@@ -315,9 +339,9 @@ fn reason_of_whole<'a>(command: &'a str, words: &[String], is_placed: bool) -> R
         }
         "serve" => "--port P or --any-port",
         "case" if is_placed || has_option(words, "--test_case") => "--port P",
-        "case" => "NAME or --test_case NAME, or --list",
+        "case" => "NAME.. or --test_case NAME, or --list",
         "wire" if is_placed => "--port P",
-        "wire" => "all, GROUP or GROUP/N, or --list",
+        "wire" => "all, GROUP, GROUP/N or GROUP/N-M, or --list",
         _ => takes(command),
     };
     Reason::Missing { command, what }
@@ -325,4 +349,17 @@ fn reason_of_whole<'a>(command: &'a str, words: &[String], is_placed: bool) -> R
 
 fn has_option(words: &[String], option: &str) -> bool {
     words.iter().any(|word| parts_of(word.as_str()).0 == option)
+}
+
+/// Whether JSON is to be written to standard output.
+fn has_json_output(words: &[String]) -> bool {
+    let mut is_named = false;
+    for word in words {
+        let word = word.as_str();
+        if word == "--json=-" || is_named && word == "-" {
+            return true;
+        }
+        is_named = word == "--json";
+    }
+    false
 }

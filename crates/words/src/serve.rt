@@ -1,11 +1,12 @@
 //! `serve --port P`, or `serve --any-port`, with `--host H`, `--conns N`, `--report`, `--log`, or `--log json`, `--time T`,
-//! `--drain-on-eof` and `--drain-timeout S`.
+//! `--drain-on-eof`, `--drain-timeout S`, and the files of `files`.
 
 ghost use Rattle.std.specs.Prelude.{◌≡◌, ◌≤◌, false, IfOk, IfSome, option_map};
 ghost use Rattle.clap.specs.Words.{app_of, found_of, rows_of};
 ghost use Rattle.words.specs.Options.{IsCommand, IsOption};
 ghost use Rattle.words.specs.Serve.{IsPort, IsServing, form_of, host_option, log_of, log_option, patience_option, port_of, serve_command, serving, serving_of, time_form_of, time_of, time_option};
 
+use crate::files::{Files, files_of, with_files};
 use crate::options::{
     LOOPBACK, flag, has_flag, number_option, small_number_of, text_of, text_option,
 };
@@ -57,11 +58,13 @@ pub struct ServeWords<'a> {
     pub drains_on_eof: bool,
     /// How many seconds it waits at most for connections that it drains.
     pub patience: u16,
+    pub files: Files<'a>,
 }
 
 /// The words that it takes.
 pub(crate) const TAKES: &str = "--port P or --any-port, --host H, --conns N, --report, \
-    --log [text|json], --time seconds|utc, --drain-on-eof, --drain-timeout S";
+    --log [text|json], --time seconds|utc, --drain-on-eof, --drain-timeout S, --port-file FILE, \
+    --ready-file FILE";
 
 // `--host H`.
 fn host_option<'a>(alloc: Global) -> Arg<'a>
@@ -101,7 +104,7 @@ pub(crate) fn serve_command<'a>(alloc: Global) -> Result<Command<'a>, AllocError
     let connections = number_option(alloc, "conns", "a number of connections, 1 to 65535");
     let report = flag(alloc, "report");
     let drains = flag(alloc, "drain-on-eof");
-    Command::new(alloc, "serve")
+    let command = Command::new(alloc, "serve")
         .arg(port)?
         .arg(any_port)?
         .arg(host_option(alloc))?
@@ -110,7 +113,8 @@ pub(crate) fn serve_command<'a>(alloc: Global) -> Result<Command<'a>, AllocError
         .arg(log_option(alloc))?
         .arg(time_option(alloc))?
         .arg(drains)?
-        .arg(patience_option(alloc))
+        .arg(patience_option(alloc))?;
+    with_files(alloc, command)
 }
 
 // The port that is given, or any: one of the two has to be said, and not both.
@@ -185,5 +189,6 @@ pub(crate) fn serving_of<'a>(options: &ArgMatches<'a>) -> Option<ServeWords<'a>>
         time,
         drains_on_eof: has_flag(options, "drain-on-eof"),
         patience,
+        files: files_of(options),
     })
 }

@@ -1,23 +1,26 @@
-//! `wire CASES --port P`, with `--host H`, `--silence S`, `--timeout T`, `--jobs N`, `--verbose` and `--json FILE`; or
+//! `wire CASES.. --port P`, with `--host H`, `--silence S`, `--timeout T`, `--jobs N` and `--verbose`; or
 //! `wire --list`.
 
-ghost use Rattle.std.specs.Prelude.{◌≡◌, ◌≤◌, false, IfOk, IfSome, option_map};
+ghost use Rattle.std.specs.Prelude.{◌≡◌, ◌≤◌, false, IfOk, IfSome, map, option_map};
 ghost use Rattle.clap.specs.Words.{app_of, found_of, rows_of};
 ghost use Rattle.words.specs.Options.{IsCommand, IsOption};
-ghost use Rattle.words.specs.Wire.{IsInRange, host_option, jobs_option, limit_option, run_of, run_told, silence_option};
+ghost use Rattle.words.specs.Reporting.{reporting as reporting_told};
+ghost use Rattle.words.specs.Wire.{IsInRange, IsRun, host_option, jobs_option, limit_option, run_of, run_told, silence_option};
 ghost use Rattle.words.specs.Wire.{told, told_of, wire_command};
 
 use crate::options::{
-    LOOPBACK, flag, has_flag, number_option, small_number_of, text_of, text_option,
+    LOOPBACK, flag, has_flag, number_option, several, small_number_of, some_texts_of, text_of,
+    text_option,
 };
+use crate::reporting::{Reporting, reporting_of, with_reporting};
 use clap::{Arg, ArgMatches, Command};
 use std::alloc::{AllocError, Global};
 
 /// Which wire cases are run, and how.
-#[derive(Clone, Copy, Debug, PartialEq, Eq)]
+#[derive(Drop)]
 pub struct WireRun<'a> {
-    /// `all`, a group's name, or a group's name and a number with `/` between them.
-    pub cases: &'a str,
+    /// The words that choose the cases: one at least.
+    pub names: Vec<&'a str>,
     /// The address of the server, or a name for it.
     pub host: &'a str,
     pub port: u16,
@@ -29,12 +32,11 @@ pub struct WireRun<'a> {
     pub jobs: u16,
     /// Whether each case's section, and what was written, is told too.
     pub is_verbose: bool,
-    /// The file for the outcomes, as JSON.
-    pub json: Option<&'a str>,
+    pub reporting: Reporting<'a>,
 }
 
 /// What `wire` is told.
-#[derive(Clone, Copy, Debug, PartialEq, Eq)]
+#[derive(Drop)]
 pub enum WireWords<'a> {
     /// Print a line of each case that there is.
     List,
@@ -43,8 +45,8 @@ pub enum WireWords<'a> {
 
 /// The words that it takes.
 pub(crate) const TAKES: &str =
-    "all, GROUP or GROUP/N, --port P, --host H, --silence S, --timeout T, --jobs N, \
-     --verbose, --json FILE, or --list";
+    "all, GROUP, GROUP/N or GROUP/N-M .., --port P, --host H, --silence S, --timeout T, --jobs N, \
+     --verbose, or --list";
 
 // `--host H`.
 fn host_option<'a>(alloc: Global) -> Arg<'a>
@@ -77,50 +79,66 @@ fn jobs_option<'a>(alloc: Global) -> Arg<'a>
 pub(crate) fn wire_command<'a>(alloc: Global) -> Result<Command<'a>, AllocError>
     ensures { IfOk result (IsCommand wire_command) }
 {
-    Command::new(alloc, "wire")
-        .arg(Arg::new(alloc, "CASES"))?
+    let command = Command::new(alloc, "wire")
+        .arg(several(alloc, "CASES"))?
         .arg(flag(alloc, "list"))?
         .arg(number_option(alloc, "port", "a port, 1 to 65535"))?
         .arg(host_option(alloc))?
         .arg(silence_option(alloc))?
         .arg(limit_option(alloc))?
         .arg(jobs_option(alloc))?
-        .arg(flag(alloc, "verbose"))?
-        .arg(text_option(alloc, "json", "a file's name"))
+        .arg(flag(alloc, "verbose"))?;
+    with_reporting(alloc, command)
 }
 
-// Which cases are run, and how.
-fn run_of<'a>(options: &ArgMatches<'a>) -> Option<WireRun<'a>>
-    ensures value { option_map run_told result ≡ run_of (rows_of (found_of options.now)) }
-    ensures within { IfSome result (λ words. (1 ≤ words.port) × (1 ≤ words.silence)
-        × (1 ≤ words.limit) × (1 ≤ words.jobs)) }
+// How the cases are run that these words choose, and what is told of them.
+fn run_of<'a>(
+    options: &ArgMatches<'a>,
+    names: Vec<&'a str>,
+    reporting: Reporting<'a>,
+) -> Option<WireRun<'a>>
+    requires { 1 ≤ reporting.repeat }
+    ensures value { option_map run_told result ≡ run_of (map (λ name. name.now) names.entry.items)
+        (reporting_told reporting.entry) (rows_of (found_of options.now)) }
+    ensures within { IfSome result IsRun }
 {
-    let cases = text_of(options, "CASES")?;
     let port = small_number_of(options, "port")?;
     let host = text_of(options, "host")?;
     let silence = small_number_of(options, "silence")?;
     let limit = small_number_of(options, "timeout")?;
     let jobs = small_number_of(options, "jobs")?;
     Some(WireRun {
-        cases,
+        names,
         host,
         port,
         silence,
         limit,
         jobs,
         is_verbose: has_flag(options, "verbose"),
-        json: text_of(options, "json"),
+        reporting,
     })
 }
 
-pub(crate) fn wire_of<'a>(options: &ArgMatches<'a>) -> Option<WireWords<'a>>
-    ensures value { option_map told result ≡ told_of (rows_of (found_of options.now)) }
-    ensures within { IfSome result IsInRange }
+pub(crate) fn wire_of<'a>(
+    alloc: Global,
+    options: &ArgMatches<'a>,
+) -> Result<Option<WireWords<'a>>, AllocError>
+    ensures value { IfOk result (λ words. option_map told words
+        ≡ told_of (rows_of (found_of options.now))) }
+    ensures within { IfOk result (λ words. IfSome words IsInRange) }
 {
     if has_flag(options, "list") {
-        return text_of(options, "CASES")
-            .is_none()
-            .then_some(WireWords::List);
+        return Ok(
+            text_of(options, "CASES")
+                .is_none()
+                .then_some(WireWords::List),
+        );
     }
-    Some(WireWords::Run(run_of(options)?))
+    let Some(names) = some_texts_of(alloc, options, "CASES")? else {
+        return Ok(None);
+    };
+    let Some(reporting) = reporting_of(alloc, options)? else {
+        return Ok(None);
+    };
+    Ok(run_of(options, names, reporting).map(|run| WireWords::Run(run)))
 }

@@ -4,7 +4,7 @@ use Rattle.words.proofs.case.case_command.Goals as goal
 pub returns : goal.returns
 returns c =
     let bare = is_command _ _ c.new.ensures.app c.new.ensures.local in
-    let name = with_option _ _ _ _ _ c.in_ok-arg.ensures bare (is_option c.new-2.result _ c.new-2.ensures.rule c.new-2.ensures.optional.1) in
+    let name = with_option _ _ _ _ _ c.in_ok-arg.ensures bare c.several.ensures in
     let test_case = with_option _ _ _ _ _ c.in_ok-arg-2.ensures name (is_option c.text_option.result _ c.text_option.ensures.rule c.text_option.ensures.local) in
     let list = with_option _ _ _ _ _ c.in_ok-arg-3.ensures test_case (is_option c.flag.result _ c.flag.ensures.rule c.flag.ensures.local) in
     let port = with_option _ _ _ _ _ c.in_ok-arg-4.ensures list c.in_ok-port_option.ensures in
@@ -13,4 +13,4 @@ returns c =
     let streams = with_option _ _ _ _ _ c.in_ok-arg-7.ensures times c.streams_option.ensures in
     let timeout = with_option _ _ _ _ _ c.in_ok-arg-8.ensures streams c.timeout_option.ensures in
     let tls = with_option _ _ _ _ _ c.in_ok-command.ensures timeout c.tls_option.ensures in
-    c.with_soak.ensures _ tls
+    c.with_reporting.ensures _ (c.in_ok-with_soak.ensures _ tls)

@@ -1,4 +1,3 @@
-use Rattle.std.proofs.lemmas.Result.{IfOk-weaker}
 use Rattle.words.proofs.CommandLemmas.{is_command, is_option, with_option}
 use Rattle.words.proofs.serve.serve_command.Goals as goal
 
@@ -13,5 +12,5 @@ returns c =
     let log = with_option _ _ _ _ _ c.in_ok-arg-6.ensures report c.log_option.ensures in
     let time = with_option _ _ _ _ _ c.in_ok-arg-7.ensures log c.time_option.ensures in
     let drains = with_option _ _ _ _ _ c.in_ok-arg-8.ensures time (is_option c.flag-drains.result _ c.flag-drains.ensures.rule c.flag-drains.ensures.local) in
-    IfOk-weaker c.arg-9.result _ _ (λ command added.
-    with_option _ _ _ _ _ added drains c.patience_option.ensures) c.arg-9.ensures
+    let patience = with_option _ _ _ _ _ c.in_ok-command.ensures drains c.patience_option.ensures in
+    c.with_files.ensures _ patience

@@ -1,0 +1,33 @@
+-- What `self` and `drain` print: a line that sums up stands behind those of cases.
+use Rattle.std.specs.Prelude.{ℕ, List, [], ◌∷◌, ◌++◌, Option, Some, None, Result, Ok, Err}
+use Rattle.cases.specs.Report.{lines_of}
+use Rattle.cases.specs.declared.fault.CaseFault.{CaseFault}
+use Rattle.cases.specs.declared.report.Outcome.{Outcome as Ended}
+use Rattle.commands.specs.Drain.{drain_report}
+use Rattle.commands.specs.declared.drain.Goaway.{Goaway}
+use Rattle.results.specs.Summaries.{summary_line, summary_of}
+use Rattle.results.specs.declared.outcome.Outcome.{Outcome}
+use Rattle.results.specs.declared.words.Suite.{Suite}
+use Rattle.results.specs.declared.words.Verdict.{Verdict}
+
+-- the verdict on a case that failed for a fault, or passed
+abbrev pub verdict_by : Option CaseFault → Verdict
+verdict_by None = Verdict.Ok
+verdict_by (Some fault) = Verdict.Failed
+
+abbrev pub verdict_of : Result (Unit {0}) CaseFault → Verdict
+verdict_of (Ok done) = Verdict.Ok
+verdict_of (Err fault) = Verdict.Failed
+
+abbrev pub verdict_on : Ended → Verdict
+verdict_on ended = verdict_of ended.answer
+
+-- a line of each case, and one that sums up what results say of them
+abbrev pub self_report : List Ended → List Outcome → ℕ → List ℕ
+self_report ended outcomes milliseconds =
+    lines_of ended ++ summary_line Suite.SelfTest (summary_of outcomes) milliseconds
+
+-- the GOAWAYs that came, the line of the case, and one that sums up
+abbrev pub summed_drain : List Goaway → Result (Unit {0}) CaseFault → Outcome → ℕ → List ℕ
+summed_drain goaways answer outcome milliseconds =
+    drain_report goaways answer ++ summary_line Suite.Drain (summary_of (outcome ∷ [])) milliseconds

@@ -1,0 +1,6 @@
+pub mod ChoiceLemmas
+pub mod JsonLemmas
+pub mod KnownLemmas
+pub mod PatternLemmas
+pub mod PlaceLemmas
+pub mod TextLemmas

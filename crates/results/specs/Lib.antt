@@ -1,0 +1,12 @@
+pub mod Causes
+pub mod Choices
+pub mod Json
+pub mod Junit
+pub mod KnownList
+pub mod Outcomes
+pub mod Patterns
+pub mod Standings
+pub mod Summaries
+pub mod Tap
+pub mod Words
+pub mod Xml

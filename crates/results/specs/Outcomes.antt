@@ -1,0 +1,27 @@
+-- An outcome of which nothing is known but its verdict.
+use Rattle.std.specs.Prelude.{◌≡◌, List, [], ℕ, None, string_bytes}
+use Rattle.results.specs.declared.outcome.Outcome.{Outcome}
+use Rattle.results.specs.declared.words.Suite.{Suite}
+use Rattle.results.specs.declared.words.Verdict.{Verdict}
+
+-- it has this name, and was tried once
+pub record IsBare (kind : Suite) (text : List ℕ) (ending : Verdict) (outcome : Outcome) : Type 0 where
+  pub suite : outcome.suite ≡ kind
+  pub name : string_bytes outcome.name ≡ text
+  pub title : outcome.title ≡ None
+  pub verdict : outcome.verdict ≡ ending
+  pub level : outcome.level ≡ None
+  pub rule : outcome.rule ≡ None
+  pub wanted : outcome.wanted ≡ None
+  pub came : outcome.came ≡ None
+  pub reason : outcome.reason ≡ None
+  pub fault : outcome.fault ≡ None
+  pub milliseconds : outcome.milliseconds ≡ 0
+  pub tries : outcome.tries ≡ 1
+  pub passed : outcome.passed ≡ 0
+  pub sent : outcome.sent ≡ None
+  pub read : outcome.read ≡ None
+  pub sent_count : outcome.sent_count ≡ None
+  pub read_count : outcome.read_count ≡ None
+  pub frames : outcome.frames.items ≡ []
+  pub known : outcome.known ≡ None

@@ -1,0 +1,322 @@
+//! The list of known failures: a file that names the cases that may fail, a line each.
+//!
+//! A line is blank, or a comment that begins with `#`, or a name, a space, and the reason why it may fail. The reason may
+//! begin with the word `sometimes`: then the case may pass too.
+
+ghost use Rattle.std.specs.Prelude.{◌≡◌, ◌==◌, [], ◌∷◌, ◌++◌, IfErr, IfOk, IfNone, IfSome, OnOk, find, map, option_map, string_bytes};
+ghost use Rattle.std.specs.List.{after_first, before_first};
+ghost use Rattle.std.specs.Str.Lines.{lines};
+ghost use Rattle.results.specs.KnownList.{AreGood, Explains, IsFaultOf, IsRightAfter, IsWrongAfter, after_word, entries, entry, entry_by, entry_of, first_word, has_name, is_stray, line_by, list_text, listed_text, listing, reason_of, said};
+ghost use Rattle.results.specs.declared.known.KnownFault.TheVariants.{OutOfMemory};
+
+use crate::cause::cause_text;
+use crate::outcome::Outcome;
+use crate::words::{Suite, Verdict};
+use std::alloc::{AllocError, AllocFailed, Global};
+use std::fmt;
+
+/// The word of a case that may pass too.
+const SOMETIMES: &str = "sometimes";
+
+/// A case that may fail.
+#[derive(Drop)]
+pub struct Known {
+    pub name: String,
+    /// Why, in one line.
+    pub reason: String,
+    /// Whether it may pass too.
+    pub is_unsteady: bool,
+}
+
+/// What is wrong with a line.
+#[derive(Clone, Copy, PartialEq, Eq)]
+pub enum KnownReason {
+    /// No reason stands after the name.
+    NoReason,
+    /// The name stands in a line before.
+    Twice,
+}
+
+/// Why a list can't be read.
+#[derive(Clone, Copy, PartialEq, Eq)]
+pub enum KnownFault<'a> {
+    /// A line is wrong: its number, from 1 on, and the name that it begins with.
+    BadLine {
+        line: usize,
+        name: &'a str,
+        reason: KnownReason,
+    },
+    /// No memory was to be had.
+    OutOfMemory,
+}
+
+impl<'a> From<AllocError> for KnownFault<'a> {
+    ghost from_gives = { λ _ fault. fault ≡ OutOfMemory };
+
+    fn from(_error: AllocError) -> KnownFault<'a> {
+        KnownFault::OutOfMemory
+    }
+}
+
+impl<'a, T: Drop> From<AllocFailed<T>> for KnownFault<'a> {
+    ghost from_gives = { λ _ fault. fault ≡ OutOfMemory };
+
+    fn from(_error: AllocFailed<T>) -> KnownFault<'a> {
+        KnownFault::OutOfMemory
+    }
+}
+
+impl<'a> fmt::Display for KnownFault<'a> {
+    fn fmt<W: fmt::Write>(&self, f: &mut fmt::Formatter<W>) -> fmt::Result {
+        match *self {
+            KnownFault::BadLine { line, name, reason } => match reason {
+                KnownReason::NoReason => write!(f, "line {line}: no reason stands after {name}"),
+                KnownReason::Twice => write!(f, "line {line}: {name} stands in a line before"),
+            },
+            KnownFault::OutOfMemory => f.write_str("no memory was to be had"),
+        }
+    }
+}
+
+/// What a line says that names a case.
+#[derive(Clone, Copy)]
+struct Said<'a> {
+    name: &'a str,
+    reason: &'a str,
+    is_unsteady: bool,
+}
+
+impl Said<'_> {
+    /// The known failure that it tells of.
+    fn known(self, alloc: Global) -> Result<Known, AllocError>
+        ensures { IfOk result (λ known. entry known ≡ said self.entry) }
+    {
+        Ok(Known {
+            name: String::from_str(alloc, self.name)?,
+            reason: String::from_str(alloc, self.reason)?,
+            is_unsteady: self.is_unsteady,
+        })
+    }
+}
+
+/// What stands before the first space, and what stands after it.
+fn cut(text: &str) -> (&str, &str)
+    ensures front { result.0.now ≡ before_first (λ byte. byte == 32) text.now }
+    ensures back { result.1.now ≡ after_first (λ byte. byte == 32) text.now }
+{
+    match text.split_once(' ') {
+        Some(parts) => parts,
+        None => (text, ""),
+    }
+}
+
+/// The first word, and what stands after it, without white space round it.
+fn split_word(text: &str) -> (&str, &str)
+    ensures word { result.0.now ≡ first_word text.now }
+    ensures rest { result.1.now ≡ after_word text.now }
+{
+    let (word, rest) = cut(text);
+    (word, rest.trim())
+}
+
+/// What a name and a reason say.
+fn said_by<'a>(name: &'a str, reason: &'a str) -> Said<'a>
+    ensures { said result ≡ entry_by name.now reason.now }
+{
+    let (word, rest) = split_word(reason);
+    if word == SOMETIMES {
+        Said {
+            name,
+            reason: rest,
+            is_unsteady: true,
+        }
+    } else {
+        Said {
+            name,
+            reason,
+            is_unsteady: false,
+        }
+    }
+}
+
+/// What a line says, where it names a case.
+fn said_in(line: &str) -> Option<Said<'_>>
+    ensures { option_map said result ≡ entry_of line.now }
+{
+    let line = line.trim();
+    if line.is_empty() || line.starts_with('#') {
+        return None;
+    }
+    let (name, reason) = split_word(line);
+    Some(said_by(name, reason))
+}
+
+/// Why a line is wrong after these failures, if it is.
+fn fault_of(all: &[Known], next: Said<'_>) -> Option<KnownReason>
+    ensures some { IfSome result (IsWrongAfter (map entry all.now) (said next.entry)) }
+    ensures none { IfNone result (IsRightAfter (map entry all.now) (said next.entry)) }
+{
+    if next.reason.is_empty() {
+        Some(KnownReason::NoReason)
+    } else if known_named(all, next.name).is_some() {
+        Some(KnownReason::Twice)
+    } else {
+        None
+    }
+}
+
+/// The known failures of a list.
+///
+/// # Errors
+///
+/// `BadLine` of the first line that has no reason, or whose name stands before.
+pub fn read_known<'a>(alloc: Global, text: &'a str) -> Result<Vec<Known>, KnownFault<'a>>
+    ensures entries { IfOk result (λ all. map entry all.items ≡ entries (lines text.now)) }
+    ensures good { IfOk result (λ all. AreGood (map entry all.items)) }
+    ensures refused { IfErr result (Explains (lines text.now)) }
+{
+    let all_lines: Vec<&'a str> = text.lines().collect(alloc)?;
+    read_lines(alloc, all_lines.as_slice())
+}
+
+/// The known failures of some lines.
+fn read_lines<'a>(alloc: Global, all_lines: &[&'a str]) -> Result<Vec<Known>, KnownFault<'a>>
+    ensures entries { IfOk result (λ all. map entry all.items
+        ≡ entries (map (λ line. line.now) all_lines.now)) }
+    ensures good { IfOk result (λ all. AreGood (map entry all.items)) }
+    ensures refused { IfErr result (Explains (map (λ line. line.now) all_lines.now)) }
+{
+    let mut all = Vec::new(alloc);
+    for (place, line) in all_lines.iter().enumerate() {
+        push_named(alloc, &mut all, place + 1, line)?;
+    }
+    Ok(all)
+}
+
+/// Adds the known failure that the line with this number names, if it names one.
+fn push_named<'a>(
+    alloc: Global,
+    all: &mut Vec<Known>,
+    number: usize,
+    line: &'a str,
+) -> Result<(), KnownFault<'a>>
+    ensures entries { OnOk result (map entry all.new.items
+        ≡ map entry all.old.items ++ entries (line.now ∷ [])) }
+    ensures good { OnOk result
+        (AreGood (map entry all.old.items) → AreGood (map entry all.new.items)) }
+    ensures refused { IfErr result (IsFaultOf (map entry all.old.items) number line.now) }
+{
+    let Some(said) = said_in(line) else {
+        return Ok(());
+    };
+    if let Some(reason) = fault_of(all.as_slice(), said) {
+        return Err(KnownFault::BadLine {
+            line: number,
+            name: said.name,
+            reason,
+        });
+    }
+    all.push(said.known(alloc)?)?;
+    Ok(())
+}
+
+/// The known failure of this name.
+pub fn known_named<'k>(all: &'k [Known], name: &str) -> Option<&'k Known>
+    ensures { option_map (λ known. known.now) result ≡ find (has_name name.now) all.now }
+{
+    all.iter().find(|known| known.name.as_str() == name)
+}
+
+/// Whether the name of a known failure isn't among these.
+fn is_stray(known: &Known, names: &[&str]) -> bool
+    ensures { result ≡ is_stray names.now known.now }
+{
+    !names.iter().any(|name| *name == known.name.as_str())
+}
+
+/// The first known failure whose name isn't among these.
+pub fn stray<'k>(all: &'k [Known], names: &[&str]) -> Option<&'k Known>
+    ensures { option_map (λ known. known.now) result
+        ≡ find (is_stray names.now) all.now }
+{
+    all.iter().find(|known| is_stray(known, names))
+}
+
+impl Known {
+    /// A copy.
+    pub fn copy(&self, alloc: Global) -> Result<Known, AllocError>
+        ensures { IfOk result (λ known. entry known ≡ entry self.now) }
+    {
+        Ok(Known {
+            name: String::from_str(alloc, self.name.as_str())?,
+            reason: String::from_str(alloc, self.reason.as_str())?,
+            is_unsteady: self.is_unsteady,
+        })
+    }
+}
+
+/// Adds a line of the list.
+fn push_line(
+    text: &mut String,
+    name: &str,
+    is_unsteady: bool,
+    reason: &str,
+) -> Result<(), AllocError>
+    ensures { OnOk result (string_bytes text.new
+        ≡ string_bytes text.old ++ line_by name.now is_unsteady reason.now) }
+{
+    let sometimes = if is_unsteady { "sometimes " } else { "" };
+    writeln!(text, "{name}  {sometimes}{reason}")
+}
+
+/// Whether a case may pass too, if it may fail by what was known and what came of it.
+fn listing(outcome: &Outcome) -> Option<bool>
+    ensures { result ≡ listing outcome.now.known outcome.now.suite outcome.now.verdict }
+{
+    if let Some(known) = &outcome.known {
+        if known.is_unsteady {
+            return Some(true);
+        }
+    }
+    match (outcome.suite, outcome.verdict) {
+        (_, Verdict::Failed) => Some(false),
+        (_, Verdict::Unsteady) => Some(true),
+        (Suite::Misbehave, Verdict::NotTested) => Some(false),
+        _ => None,
+    }
+}
+
+/// Why a case may fail: the reason of one that is known stays.
+fn reason_of(alloc: Global, outcome: &Outcome) -> Result<String, AllocError>
+    ensures { IfOk result (λ reason. string_bytes reason
+        ≡ reason_of outcome.now outcome.now.known) }
+{
+    match &outcome.known {
+        Some(known) => String::from_str(alloc, known.reason.as_str()),
+        None => cause_text(alloc, outcome),
+    }
+}
+
+/// Adds the line of an outcome, where it belongs on the list.
+fn push_listed(alloc: Global, text: &mut String, outcome: &Outcome) -> Result<(), AllocError>
+    ensures { OnOk result (string_bytes text.new
+        ≡ string_bytes text.old ++ listed_text outcome.now) }
+{
+    let Some(is_unsteady) = listing(outcome) else {
+        return Ok(());
+    };
+    let reason = reason_of(alloc, outcome)?;
+    push_line(text, outcome.name.as_str(), is_unsteady, reason.as_str())
+}
+
+/// The list of the cases that failed or are unsteady, in their order. The reason of one that is known stays; that of another
+/// is why it failed.
+pub fn write_known(alloc: Global, outcomes: &[Outcome]) -> Result<String, AllocError>
+    ensures { IfOk result (λ text. string_bytes text ≡ list_text outcomes.now) }
+{
+    let mut text = String::new(alloc);
+    for outcome in outcomes {
+        push_listed(alloc, &mut text, outcome)?;
+    }
+    Ok(text)
+}

@@ -1,0 +1,36 @@
+//! Results of test cases: what came of each, which of them fail a run, and the forms in which a build reads them.
+//!
+//! - `outcome`, `words`: what came of a case, and the words for it.
+//! - `standing`: what is said of an outcome beside a list of known failures, and whether it fails the run.
+//! - `known`: that list, as it is read from a file and written to one.
+//! - `pattern`, `choice`: which cases a command line chooses by their names.
+//! - `summary`: how many cases ended in which way, and the line that says so.
+//! - `cause`: why a case isn't ok, in one line, and in more.
+//! - `json`, `junit`, `tap`: the forms (RFC 8259, JSON Lines; JUnit's XML; the Test Anything Protocol, version 14).
+//! - `xml`: texts in XML.
+#![tactic(auto)]
+
+mod cause;
+mod choice;
+mod json;
+mod junit;
+mod known;
+mod outcome;
+mod pattern;
+mod standing;
+mod summary;
+mod tap;
+mod words;
+mod xml;
+
+pub use cause::{push_cause, push_details};
+pub use choice::{Choice, ChoiceFault, Entry, chosen};
+pub use json::{json_line, json_summary};
+pub use junit::push_junit;
+pub use known::{Known, KnownFault, KnownReason, known_named, read_known, stray, write_known};
+pub use outcome::{Outcome, Rule};
+pub use pattern::is_match;
+pub use standing::{Standing, fail_the_run};
+pub use summary::{Summary, push_summary, summary_of};
+pub use tap::{TAP_VERSION, push_plan, push_tap};
+pub use words::{Level, Suite, Verdict};
