@@ -15,7 +15,7 @@ use crate::trial::{TrialFault, Verdict, choice_of, refuse_choice};
 use cases::{Case, CaseFault, ReportFault, Soak, Windows, print_line, push_line, run_all};
 use device::{ConnWrite, write_all};
 use results::{ChoiceFault, Entry, Level, Outcome, Suite, chosen};
-use sinks::{Run, Sinks};
+use sinks::{Form, Run, Sinks};
 use std::alloc::Global;
 use std::io::Write;
 use std::net::{Net, TcpListener, TcpStream};
@@ -63,7 +63,13 @@ where
     let entries = entries_of(alloc)?;
     match chosen(alloc, entries.as_slice(), choice) {
         Ok(places) => run_chosen(rt, places.as_slice(), &words, is_shown, output),
-        Err(ChoiceFault::NoCase(name)) => refuse_name(&rt, alloc, name, output),
+        Err(ChoiceFault::NoCase(name)) => {
+            refuse_name(&rt, name);
+            if is_named(name, &words) {
+                print_unknown(alloc, name, output)?;
+            }
+            Ok(Verdict::UnknownCase)
+        }
         Err(fault) => refuse_choice(&rt, fault),
     }
 }
@@ -257,24 +263,30 @@ fn run_often<R: Net + Files + Clock + Eprint + AllocGlobal + Drop>(
 }
 
 /// Says that there is no case of this name, and which there are.
-fn refuse_name<R: Eprint, W: ConnWrite>(
-    rt: &R,
-    alloc: Global,
-    name: &str,
-    output: &mut W,
-) -> Result<Verdict, TrialFault>
-    ensures { OnOk result
-        (Appends (W.contents output.old) (W.contents output.new)
-        (line_of name.now (Err UnknownCase))) }
-{
-    print_line(alloc, name, Err(CaseFault::UnknownCase), output)?;
+fn refuse_name(rt: &impl Eprint, name: &str) {
     // The exit status tells of it even where nothing can be said here.
     let _said = eprint!(rt; "interop: there is no case {name}: all");
     for known in NAMES {
         let _said = eprint!(rt; ", {known}");
     }
     let _said = eprintln!(rt; "");
-    Ok(Verdict::UnknownCase)
+}
+
+/// Prints the line of a case that there isn't.
+fn print_unknown<W: ConnWrite>(
+    alloc: Global,
+    name: &str,
+    output: &mut W,
+) -> Result<(), ReportFault>
+    ensures { OnOk result (Appends (W.contents output.old) (W.contents output.new)
+        (line_of name.now (Err UnknownCase))) }
+{
+    print_line(alloc, name, Err(CaseFault::UnknownCase), output)
+}
+
+/// Whether the case has a line of its own, though there is none of its name: it is to be run, and standard output has text.
+fn is_named(name: &str, words: &CaseRun<'_>) -> bool {
+    Form::of(&words.reporting) == Form::Text && words.names.iter().any(|word| *word == name)
 }
 
 /// Runs the fourteen cases, prints a line of each, and answers what came of each.

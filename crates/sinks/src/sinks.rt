@@ -48,6 +48,17 @@ pub enum Form {
     Tap,
 }
 
+impl Form {
+    /// What standard output has where results go so.
+    pub fn of(reporting: &Reporting<'_>) -> Form {
+        match reporting.json {
+            Some(name) if name == STANDARD => Form::Json,
+            _ if reporting.has_tap => Form::Tap,
+            _ => Form::Text,
+        }
+    }
+}
+
 /// The places where the results of a run go, while it goes on.
 #[derive(Drop)]
 pub struct Sinks<'a, R: Files> {
@@ -91,7 +102,7 @@ impl<'a, R: Files + Clock + Eprint + AllocGlobal + Drop> Sinks<'a, R> {
             alloc,
             suite: run.suite,
             reporting,
-            form: form_of(reporting),
+            form: Form::of(reporting),
             json,
             known,
             outcomes: Vec::new(alloc),
@@ -199,8 +210,12 @@ impl<'a, R: Files + Clock + Eprint + AllocGlobal + Drop> Sinks<'a, R> {
     /// Says that the run ends before all of its cases were run, and why, where a form has words for it.
     pub fn bail_out<W: ConnWrite>(&mut self, why: &str, output: &mut W) -> Result<(), SinkFault> {
         if self.form == Form::Tap {
-            let line = format!(in self.alloc; "Bail out! {why}\n")?;
-            self.print(line.as_bytes(), output)?;
+            let mut text = String::new(self.alloc);
+            if self.outcomes.is_empty() {
+                text.push_str(TAP_VERSION)?;
+            }
+            writeln!(text, "Bail out! {why}")?;
+            self.print(text.as_bytes(), output)?;
         }
         Ok(())
     }
@@ -270,15 +285,6 @@ impl<'a, R: Files + Clock + Eprint + AllocGlobal + Drop> Sinks<'a, R> {
         written?;
         self.progress.show(&self.rt);
         Ok(())
-    }
-}
-
-/// What standard output has where results go so.
-fn form_of(reporting: &Reporting<'_>) -> Form {
-    match reporting.json {
-        Some(name) if name == STANDARD => Form::Json,
-        _ if reporting.has_tap => Form::Tap,
-        _ => Form::Text,
     }
 }
 
