@@ -14,14 +14,13 @@
 //! Below them:
 //!
 //! - `text`: hexadecimal text into bytes.
-//! - `call`: the events of a call whose bytes come in pieces; `report`: the lines that tell messages, the end and faults.
+//! - `report`: the lines that tell messages, the end and faults.
 //! - `memory` and `streams`: a connection over memory, and what was written on it, stream by stream.
 //! - `tally`: the line of a case that was run several times; `trial`: what came of all, and why they were not run to their end.
 #![tactic(auto)]
 
 mod attempt;
 mod body;
-mod call;
 mod client;
 mod connecting;
 mod desk;

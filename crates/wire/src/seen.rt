@@ -457,7 +457,11 @@ impl Seen {
             push_part(text, start, "the end of the connection")?;
         }
         if self.endless {
-            push_part(text, start, "frames without an end")?;
+            push_part(
+                text,
+                start,
+                "frames until the time of the case was over (--timeout)",
+            )?;
         }
         if text.len() == start {
             text.push_str(if self.synced {
