@@ -7,12 +7,12 @@ ghost use Rattle.cases.specs.declared.fault.CaseFault.TheVariants.{UnknownCase};
 ghost use Rattle.cases.specs.declared.report.Outcome.{Outcome as Ended};
 
 use crate::attempt::{Target, attempt, fault_of, outcome_by, outcome_of, try_case};
-use crate::connecting::Place;
+use crate::connecting::{Place, connect};
 use crate::load::load_case;
 use crate::soak::run_soak;
 use crate::tally::{Tally, push_tally};
 use crate::trial::{TrialFault, Verdict, choice_of, refuse_choice};
-use cases::{Case, CaseFault, ReportFault, Soak, Windows, print_line, push_line, run_all};
+use cases::{Case, CaseFault, Limit, ReportFault, Soak, Windows, print_line, push_line, run_all};
 use device::{ConnWrite, write_all};
 use results::{ChoiceFault, Entry, Level, Outcome, Suite, chosen};
 use sinks::{Form, Run, Sinks};
@@ -21,7 +21,7 @@ use std::io::Write;
 use std::net::{Net, TcpListener, TcpStream};
 use std::rt::Files;
 use std::thread::Threads;
-use std::time::Clock;
+use std::time::{Clock, Duration};
 use words::{CaseRun, CaseWords};
 
 /// How many seconds a case may take, where nothing else is said.
@@ -185,13 +185,29 @@ where
         },
         (None, None) => return Ok(()),
     };
-    tell(sinks, outcome, lines.as_slice(), output)
+    let is_lost = is_unconnected(&outcome) && !is_there(&rt, alloc, words);
+    tell(sinks, outcome, is_lost, lines.as_slice(), output)
 }
 
-/// Tells what came of a case, in every place where results go.
+/// Whether a case may have had no connection to the server.
+fn is_unconnected(outcome: &Outcome) -> bool {
+    outcome.fault == Some(CaseFault::StreamFailed.code()) && outcome.sent_count.is_none()
+}
+
+/// Whether the server takes a connection.
+fn is_there<R: Net + Clock>(rt: &R, alloc: Global, words: &CaseRun<'_>) -> bool {
+    let whole = Duration::from_secs(u64::from(words.patience));
+    match Limit::begin(rt, whole) {
+        Ok(limit) => connect(rt, alloc, Place::new(words.host, words.port), limit).is_ok(),
+        Err(_) => false,
+    }
+}
+
+/// Tells what came of a case, in every place where results go. Where the server is gone, that is no known failure.
 fn tell<R, W>(
     sinks: &mut Sinks<'_, R>,
     mut outcome: Outcome,
+    is_lost: bool,
     lines: &[u8],
     output: &mut W,
 ) -> Result<(), TrialFault>
@@ -199,7 +215,11 @@ where
     R: Files + Clock + Eprint + AllocGlobal + Drop,
     W: ConnWrite,
 {
-    sinks.ended(&mut outcome, output)?;
+    if is_lost {
+        sinks.lost(&mut outcome, output)?;
+    } else {
+        sinks.ended(&mut outcome, output)?;
+    }
     sinks.tell(outcome, lines, output)?;
     Ok(())
 }
@@ -273,11 +293,7 @@ fn refuse_name(rt: &impl Eprint, name: &str) {
 }
 
 /// Prints the line of a case that there isn't.
-fn print_unknown<W: ConnWrite>(
-    alloc: Global,
-    name: &str,
-    output: &mut W,
-) -> Result<(), ReportFault>
+fn print_unknown<W: ConnWrite>(alloc: Global, name: &str, output: &mut W) -> Result<(), ReportFault>
     ensures { OnOk result (Appends (W.contents output.old) (W.contents output.new)
         (line_of name.now (Err UnknownCase))) }
 {

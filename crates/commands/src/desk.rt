@@ -2,7 +2,7 @@
 
 use crate::trial::TrialFault;
 use device::ConnWrite;
-use sinks::Sinks;
+use sinks::{Form, Sinks};
 use std::alloc::Global;
 use std::rt::Files;
 use std::time::Clock;
@@ -169,7 +169,7 @@ impl Desk {
         Ok(())
     }
 
-    /// Tells of a case for which there was no connection, where others had one: if none had, there is no server to tell of.
+    /// Tells of a case for which there was no connection. Where none had one, the text of that stands on standard error alone.
     fn tell_lost<R, W>(
         &self,
         cases: &[Case],
@@ -183,13 +183,15 @@ impl Desk {
         let Some(lost) = &self.lost else {
             return Ok(());
         };
-        if sinks.outcomes.is_empty() {
+        let Some(case) = cases.get(lost.place) else {
             return Ok(());
-        }
-        if let Some(case) = cases.get(lost.place) {
-            let mut outcome = lost_outcome(self.alloc, case, lost.why.as_str())?;
-            let text = lost_text(self.alloc, &outcome)?;
-            sinks.ended(&mut outcome, output)?;
+        };
+        let mut outcome = lost_outcome(self.alloc, case, lost.why.as_str())?;
+        let text = lost_text(self.alloc, &outcome)?;
+        sinks.lost(&mut outcome, output)?;
+        if sinks.form == Form::Text && sinks.outcomes.is_empty() {
+            sinks.keep(outcome)?;
+        } else {
             sinks.tell(outcome, text.as_bytes(), output)?;
         }
         Ok(())

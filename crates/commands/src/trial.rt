@@ -92,9 +92,7 @@ impl From<WireFault> for TrialFault {
             WireFault::NoConnection(_)
             | WireFault::BadRow
             | WireFault::WriteFailed
-            | WireFault::ClockFailed => {
-                TrialFault::Failed
-            }
+            | WireFault::ClockFailed => { TrialFault::Failed }
         }
     }
 }

@@ -51,10 +51,10 @@ fn push_line(text: &mut String, outcome: &Outcome) -> Result<(), AllocError> {
     write!(text, "wire {name} {title}")?;
     match outcome.verdict {
         Verdict::Ok => text.push_str(" .. ok")?,
-        Verdict::NotApplicable => write!(text, " .. not applicable: {came}")?,
-        Verdict::NotTested => {
+        Verdict::NotApplicable | Verdict::NotTested => {
+            let verdict = outcome.verdict.name();
             let why = words_of(&outcome.reason);
-            write!(text, " .. not tested: {why}")?;
+            write!(text, " .. {verdict}: {why}")?;
         }
         Verdict::Failed => {
             write!(text, ": wanted {wanted}, came {came} -- failed")?;
@@ -111,10 +111,15 @@ fn push_details(text: &mut String, ended: &Ended) -> Result<(), AllocError> {
     let Ended { case, outcome, .. } = ended;
     let rule = case.section;
     let level = case.level.name();
-    let came = words_of(&outcome.came);
     let milliseconds = outcome.milliseconds;
     writeln!(text, "  {level}: {rule}")?;
-    writeln!(text, "  came {came}, in {milliseconds} ms")?;
+    match &outcome.came {
+        Some(came) => {
+            let came = came.as_str();
+            writeln!(text, "  came {came}, in {milliseconds} ms")?;
+        }
+        None => writeln!(text, "  it took {milliseconds} ms")?,
+    }
     if let Some(sent) = &outcome.sent {
         push_sent(text, sent.as_slice())?;
     }

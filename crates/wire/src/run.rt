@@ -201,7 +201,7 @@ fn not_applicable(
     tried: Try,
 ) -> Result<Outcome, WireFault> {
     let mut outcome = outcome_of(alloc, &case, Verdict::NotApplicable)?;
-    outcome.came = Some(reason);
+    outcome.reason = Some(reason);
     note(alloc, &mut outcome, tried)?;
     Ok(outcome)
 }
