@@ -77,6 +77,7 @@ def duplex(requests, context):
 METHODS = {
     "EmptyCall": grpc.unary_unary_rpc_method_handler(empty),
     "UnaryCall": grpc.unary_unary_rpc_method_handler(unary),
+    "CacheableUnaryCall": grpc.unary_unary_rpc_method_handler(unary),
     "StreamingInputCall": grpc.stream_unary_rpc_method_handler(sum_up),
     "StreamingOutputCall": grpc.unary_stream_rpc_method_handler(stream),
     "FullDuplexCall": grpc.stream_stream_rpc_method_handler(duplex),

@@ -92,13 +92,14 @@ find_program() {
   [[ ! $kit || $its_kit == "$kit" ]]
 }
 
-# ROOM: copies into it, as a repository of its own, the crates that the program is built from, without the edits that must fail.
+# ROOM [PART..]: copies into it, as a repository of its own, the crates that the program is built from. Of each it copies what decides
+# the program, and these further parts.
 copy_needed() {
   local name part
   read_needed
   for name in "${needed[@]}"; do
     mkdir -p "$1/crates/$name" || return 1
-    for part in src specs proofs stdin stdout args status data; do
+    for part in src specs proofs stdin stdout args status data "${@:2}"; do
       [[ ! -e $here/crates/$name/$part ]] || cp -r -- "$here/crates/$name/$part" "$1/crates/$name/" || return 1
     done
   done

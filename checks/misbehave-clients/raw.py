@@ -64,8 +64,8 @@ WRONG = {
     "max_streams": [("two calls", "it had more calls open than SETTINGS_MAX_CONCURRENT_STREAMS allows", "RFC 9113, 5.1.2"), NO_ACK],
     "data_frame_padding": [
         ("no credit", "for 10 seconds the server waited for its credit for the rest of the reply, while it answered PINGs",
-         "Descriptions\", data_frame_padding"),
-        (*GAVE_UP, "Descriptions\", data_frame_padding"),
+         "Descriptions\", data_frame_padding (RFC 9113 has no sentence for it)"),
+        (*GAVE_UP, "Descriptions\", data_frame_padding (RFC 9113 has no sentence for it)"),
     ],
     "no_df_padding_sanity_test": [(*GAVE_UP, "Descriptions\", no_df_padding_sanity_test")],
     "no_grpc_status": [("long frame", "it sent a frame of over 16,384 bytes", "RFC 9113, 4.1")],

@@ -54,3 +54,19 @@ SERVERS = {
     "a byte a second": endless(wire.frame(wire.HEADERS, wire.END_HEADERS, 1, bytes(200))[:9], b"\0", 1.0),
     "a frame a second": endless(b"", wire.ping(), 1.0),
 }
+
+
+def turning():
+    """A server that says nothing but its SETTINGS over its first connection, and sends PINGs without an end over each later one."""
+    served = []
+
+    def serve(device):
+        served.append(device)
+        if len(served) > 1:
+            SERVERS["PING"](device)
+            return
+        with device:
+            device.sendall(wire.settings() + wire.frame(wire.SETTINGS, wire.ACK, 0))
+            read_all(device)
+
+    return serve

@@ -1,10 +1,10 @@
 pub mod Body
 pub mod BodyExamples
-pub mod Call
 pub mod Drain
 pub mod Hex
 pub mod HexExamples
 pub mod Report
 pub mod Summing
 pub mod Tally
+pub mod Telling
 pub mod Times

@@ -195,8 +195,9 @@ pub(crate) fn outcomes_of(
 /// Adds what a failure says.
 fn explain(alloc: Global, outcome: &mut Outcome, failure: &Failure) -> Result<(), AllocError> {
     let said = failure.said();
-    outcome.reason = Some(String::from_str(alloc, failure.note.as_str())?);
-    if !said.wanted.is_empty() {
+    if said.wanted.is_empty() {
+        outcome.reason = Some(String::from_str(alloc, failure.note.as_str())?);
+    } else {
         outcome.came = Some(String::from_str(alloc, said.came)?);
         outcome.wanted = Some(String::from_str(alloc, said.wanted)?);
     }

@@ -1,15 +1,15 @@
 //! `interop body`: the messages of one call, from hexadecimal text to printed lines.
 //!
-//! The whole report is made before any of it is written, so out of memory prints nothing.
-ghost use Rattle.std.specs.Prelude.{◌≡◌, ◌<◌, IfOk, IfErr, OnOk, OnErr};
+//! The whole report is made before any of it is written, so out of memory prints nothing. A message becomes its line once it is whole, so
+//! that little more is held than the report.
+ghost use Rattle.std.specs.Prelude.{◌≡◌, ℕ, ◌<◌, List, [], ◌++◌, IfOk, IfErr, OnOk};
 ghost use Rattle.commands.specs.declared.body.RunFault.TheVariants.{OutOfMemory, WriteFailed};
-ghost use Rattle.commands.specs.Body.{Leaves, Marks, Reports, fault_of_read, fault_of_text, report_of};
+ghost use Rattle.commands.specs.Body.{Leaves, Marks, Reports, fault_at_end, fault_of_read, fault_of_text, report_of};
 
-use crate::call::{fault_told, whole_call};
-use crate::report::report;
+use crate::report::{push_ending, push_message};
 use crate::text::{HexFault, bytes_of};
-use account::replay;
 use device::{ConnRead, ConnWrite, DeviceFault, ReadFault, read_all, write_all};
+use lpm::{LpmFault, Split, Splitter};
 use std::alloc::{AllocError, Global};
 
 /// Why a run gave up.
@@ -79,14 +79,111 @@ impl From<AllocError> for RunFault {
     }
 }
 
+/// A call that comes in pieces, whose messages are told as soon as they are whole.
+#[derive(Drop)]
+struct Telling {
+    /// What came of the call, but for the messages that were told.
+    splitter: Splitter,
+    /// The lines of those, and how many they are.
+    text: Vec<u8>,
+    count: usize,
+    /// What is wrong with what came, if anything is.
+    fault: Option<LpmFault>,
+}
+
+impl Telling {
+    ghost use Rattle.commands.specs.Telling.{HasTold, HasToldAll};
+
+    /// A call of which nothing came.
+    fn new(alloc: Global) -> Telling
+        ensures { HasToldAll [] result }
+    {
+        Telling {
+            splitter: Splitter::new(alloc),
+            text: Vec::new(alloc),
+            count: 0,
+            fault: None,
+        }
+    }
+
+    /// The next piece comes.
+    fn feed(&mut self, piece: &[u8]) -> Result<(), AllocError>
+        ensures { (bytes : List ℕ) → HasTold bytes self.old
+            → OnOk result (HasToldAll (bytes ++ piece.now) self.new) }
+    {
+        if self.splitter.push(piece).is_err() {
+            return Err(AllocError);
+        }
+        self.tell()
+    }
+
+    /// Tells the messages that are whole.
+    fn tell(&mut self) -> Result<(), AllocError>
+        ensures { (bytes : List ℕ) → HasTold bytes self.old
+            → OnOk result (HasToldAll bytes self.new) }
+    {
+        'messages: loop {
+            match self.splitter.next() {
+                Split::Message(message) => {
+                    push_message(&mut self.text, self.count, message.as_slice())?;
+                    let Some(count) = self.count.checked_add(1) else {
+                        return Err(AllocError);
+                    };
+                    self.count = count;
+                }
+                Split::More => {
+                    self.fault = None;
+                    return Ok(());
+                }
+                Split::Fault(fault) => match fault {
+                    LpmFault::OutOfMemory => return Err(AllocError),
+                    _ => {
+                        self.fault = Some(fault);
+                        return Ok(());
+                    }
+                },
+            }
+        }
+    }
+
+    /// What is wrong with the bytes of the call, where no more come.
+    fn fault_at_end(&self) -> Option<LpmFault>
+        ensures { (bytes : List ℕ) → HasToldAll bytes self.now → result ≡ fault_at_end bytes }
+    {
+        match self.fault {
+            Some(fault) => Some(fault),
+            None => match self.splitter.end() {
+                Ok(()) => None,
+                Err(fault) => Some(fault),
+            },
+        }
+    }
+
+    /// The call has ended: its report.
+    fn end(self) -> Result<Vec<u8>, AllocError>
+        ensures { (bytes : List ℕ) → HasToldAll bytes self
+            → IfOk result (λ text. text.items ≡ report_of bytes) }
+    {
+        let fault = self.fault_at_end();
+        let Telling { mut text, .. } = self;
+        push_ending(&mut text, fault)?;
+        Ok(text)
+    }
+}
+
 // The report on the bytes of a whole call, which are fed in pieces of `cut`.
-fn report_of(alloc: Global, bytes: Vec<u8>, cut: usize) -> Result<Vec<u8>, AllocError>
+fn report_of(alloc: Global, bytes: &[u8], cut: usize) -> Result<Vec<u8>, AllocError>
     requires { 0 < cut }
-    ensures { IfOk result (λ text. text.items ≡ report_of bytes.items) }
+    ensures { IfOk result (λ text. text.items ≡ report_of bytes.now) }
 {
-    let events = whole_call(alloc, bytes, cut)?;
-    let account = replay(alloc, events.as_slice())?;
-    report(alloc, account.taken.as_slice(), fault_told(&account))
+    let mut telling = Telling::new(alloc);
+    let mut rest = bytes;
+    'pieces: while !rest.is_empty() {
+        let (piece, behind) = rest.split_at(rest.len().min(cut));
+        telling.feed(piece)?;
+        rest = behind;
+    }
+    telling.end()
 }
 
 /// Reads a call's DATA bytes as hexadecimal text, to the end of the input, and then writes the
@@ -110,7 +207,7 @@ pub fn run_body<R: ConnRead, W: ConnWrite>(
 {
     let text = read_all(alloc, input)?;
     let bytes = bytes_of(alloc, text)?;
-    let report = report_of(alloc, bytes, cut)?;
+    let report = report_of(alloc, bytes.as_slice(), cut)?;
     write_all(output, report.as_slice())?;
     Ok(())
 }

@@ -7,21 +7,21 @@ ghost use Rattle.cases.specs.declared.fault.CaseFault.TheVariants.{UnknownCase};
 ghost use Rattle.cases.specs.declared.report.Outcome.{Outcome as Ended};
 
 use crate::attempt::{Target, attempt, fault_of, outcome_by, outcome_of, try_case};
-use crate::connecting::Place;
+use crate::connecting::{Place, connect};
 use crate::load::load_case;
 use crate::soak::run_soak;
 use crate::tally::{Tally, push_tally};
 use crate::trial::{TrialFault, Verdict, choice_of, refuse_choice};
-use cases::{Case, CaseFault, ReportFault, Soak, Windows, print_line, push_line, run_all};
+use cases::{Case, CaseFault, Limit, ReportFault, Soak, Windows, print_line, push_line, run_all};
 use device::{ConnWrite, write_all};
 use results::{ChoiceFault, Entry, Level, Outcome, Suite, chosen};
-use sinks::{Run, Sinks};
+use sinks::{Form, Run, Sinks};
 use std::alloc::Global;
 use std::io::Write;
 use std::net::{Net, TcpListener, TcpStream};
 use std::rt::Files;
 use std::thread::Threads;
-use std::time::Clock;
+use std::time::{Clock, Duration};
 use words::{CaseRun, CaseWords};
 
 /// How many seconds a case may take, where nothing else is said.
@@ -63,7 +63,13 @@ where
     let entries = entries_of(alloc)?;
     match chosen(alloc, entries.as_slice(), choice) {
         Ok(places) => run_chosen(rt, places.as_slice(), &words, is_shown, output),
-        Err(ChoiceFault::NoCase(name)) => refuse_name(&rt, alloc, name, output),
+        Err(ChoiceFault::NoCase(name)) => {
+            refuse_name(&rt, name);
+            if is_named(name, &words) {
+                print_unknown(alloc, name, output)?;
+            }
+            Ok(Verdict::UnknownCase)
+        }
         Err(fault) => refuse_choice(&rt, fault),
     }
 }
@@ -179,13 +185,29 @@ where
         },
         (None, None) => return Ok(()),
     };
-    tell(sinks, outcome, lines.as_slice(), output)
+    let is_lost = is_unconnected(&outcome) && !is_there(&rt, alloc, words);
+    tell(sinks, outcome, is_lost, lines.as_slice(), output)
 }
 
-/// Tells what came of a case, in every place where results go.
+/// Whether a case may have had no connection to the server.
+fn is_unconnected(outcome: &Outcome) -> bool {
+    outcome.fault == Some(CaseFault::StreamFailed.code()) && outcome.sent_count.is_none()
+}
+
+/// Whether the server takes a connection.
+fn is_there<R: Net + Clock>(rt: &R, alloc: Global, words: &CaseRun<'_>) -> bool {
+    let whole = Duration::from_secs(u64::from(words.patience));
+    match Limit::begin(rt, whole) {
+        Ok(limit) => connect(rt, alloc, Place::new(words.host, words.port), limit).is_ok(),
+        Err(_) => false,
+    }
+}
+
+/// Tells what came of a case, in every place where results go. Where the server is gone, that is no known failure.
 fn tell<R, W>(
     sinks: &mut Sinks<'_, R>,
     mut outcome: Outcome,
+    is_lost: bool,
     lines: &[u8],
     output: &mut W,
 ) -> Result<(), TrialFault>
@@ -193,7 +215,11 @@ where
     R: Files + Clock + Eprint + AllocGlobal + Drop,
     W: ConnWrite,
 {
-    sinks.ended(&mut outcome, output)?;
+    if is_lost {
+        sinks.lost(&mut outcome, output)?;
+    } else {
+        sinks.ended(&mut outcome, output)?;
+    }
     sinks.tell(outcome, lines, output)?;
     Ok(())
 }
@@ -257,24 +283,26 @@ fn run_often<R: Net + Files + Clock + Eprint + AllocGlobal + Drop>(
 }
 
 /// Says that there is no case of this name, and which there are.
-fn refuse_name<R: Eprint, W: ConnWrite>(
-    rt: &R,
-    alloc: Global,
-    name: &str,
-    output: &mut W,
-) -> Result<Verdict, TrialFault>
-    ensures { OnOk result
-        (Appends (W.contents output.old) (W.contents output.new)
-        (line_of name.now (Err UnknownCase))) }
-{
-    print_line(alloc, name, Err(CaseFault::UnknownCase), output)?;
+fn refuse_name(rt: &impl Eprint, name: &str) {
     // The exit status tells of it even where nothing can be said here.
     let _said = eprint!(rt; "interop: there is no case {name}: all");
     for known in NAMES {
         let _said = eprint!(rt; ", {known}");
     }
     let _said = eprintln!(rt; "");
-    Ok(Verdict::UnknownCase)
+}
+
+/// Prints the line of a case that there isn't.
+fn print_unknown<W: ConnWrite>(alloc: Global, name: &str, output: &mut W) -> Result<(), ReportFault>
+    ensures { OnOk result (Appends (W.contents output.old) (W.contents output.new)
+        (line_of name.now (Err UnknownCase))) }
+{
+    print_line(alloc, name, Err(CaseFault::UnknownCase), output)
+}
+
+/// Whether the case has a line of its own, though there is none of its name: it is to be run, and standard output has text.
+fn is_named(name: &str, words: &CaseRun<'_>) -> bool {
+    Form::of(&words.reporting) == Form::Text && words.names.iter().any(|word| *word == name)
 }
 
 /// Runs the fourteen cases, prints a line of each, and answers what came of each.

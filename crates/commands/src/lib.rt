@@ -6,7 +6,7 @@
 //!   (`soak`), and `run_self` runs them against a server of its own (`client`, `attempt`, `connecting`, `kept`,
 //!   `server`).
 //! - `run_drain` drains a server of its own while a client has a call (`drain`).
-//! - `run_wire` lists wire cases, or runs them against a server (`wire_cases`).
+//! - `run_wire` lists wire cases, or runs them against a server (`wire_cases`, `desk`).
 //! - `serve` serves connections to a port (`server`): `listening` is the port, `port` has the threads, `stream` a connection, `stopping`
 //!   how it stops, `room` how many are served at a time, `served` and `reporter` the report, `log` and `times` the log.
 //! - `read_words`, of the crate `words`, reads which of them a command line means.
@@ -14,16 +14,16 @@
 //! Below them:
 //!
 //! - `text`: hexadecimal text into bytes.
-//! - `call`: the events of a call whose bytes come in pieces; `report`: the lines that tell messages, the end and faults.
+//! - `report`: the lines that tell messages, the end and faults.
 //! - `memory` and `streams`: a connection over memory, and what was written on it, stream by stream.
 //! - `tally`: the line of a case that was run several times; `trial`: what came of all, and why they were not run to their end.
 #![tactic(auto)]
 
 mod attempt;
 mod body;
-mod call;
 mod client;
 mod connecting;
+mod desk;
 mod drain;
 mod kept;
 mod listening;

@@ -1,11 +1,10 @@
 //! The text that tells a call's messages and how the call ended.
-ghost use Rattle.std.specs.Prelude.{◌≡◌, ◌++◌, IfOk, OnOk};
+ghost use Rattle.std.specs.Prelude.{◌≡◌, ◌++◌, OnOk};
 ghost use Rattle.hex.specs.Hex.{encode_lower};
-ghost use Rattle.commands.specs.Report.{ending_line, hex_column, message_line, report};
+ghost use Rattle.commands.specs.Report.{ending_line, hex_column, message_line};
 
-use bytes::Bytes;
 use lpm::LpmFault;
-use std::alloc::{AllocError, Global};
+use std::alloc::AllocError;
 use std::io::Write;
 
 // The bytes in hexadecimal.
@@ -57,20 +56,4 @@ pub fn push_ending(text: &mut Vec<u8>, fault: Option<LpmFault>) -> Result<(), Al
             writeln!(text, "fault {code}").map_err(|_| AllocError)
         }
     }
-}
-
-/// The report: a line for each message, and the last line.
-pub fn report(
-    alloc: Global,
-    messages: &[Bytes],
-    fault: Option<LpmFault>,
-) -> Result<Vec<u8>, AllocError>
-    ensures { IfOk result (λ text. text.items ≡ report messages.now fault) }
-{
-    let mut text = Vec::new(alloc);
-    for (number, message) in messages.iter().enumerate() {
-        push_message(&mut text, number, message.as_slice())?;
-    }
-    push_ending(&mut text, fault)?;
-    Ok(text)
 }

@@ -110,7 +110,7 @@ fn name_left(rt: &impl Eprint, seconds: u16, left: &[Connection]) -> bool {
     for connection in left {
         let Connection { number, peer } = *connection;
         let _ = eprintln!(rt;
-            "interop: connection {number} from {peer} had not ended {seconds} s behind the drain"
+            "interop: connection {number} from {peer} had not ended {seconds} s after the drain began"
         );
     }
     left.is_empty()

@@ -89,9 +89,10 @@ impl From<WireFault> for TrialFault {
     fn from(fault: WireFault) -> TrialFault {
         match fault {
             WireFault::OutOfMemory => TrialFault::OutOfMemory,
-            WireFault::BadRow | WireFault::WriteFailed | WireFault::ClockFailed => {
-                TrialFault::Failed
-            }
+            WireFault::NoConnection(_)
+            | WireFault::BadRow
+            | WireFault::WriteFailed
+            | WireFault::ClockFailed => { TrialFault::Failed }
         }
     }
 }

@@ -1,7 +1,10 @@
 //! `interop wire`: wire cases against a server, several side by side.
 
+use crate::connecting::{Place, connect};
+use crate::desk::{Desk, Round};
 use crate::stopping::LOOK;
 use crate::trial::{TrialFault, Verdict, choice_of, refuse_choice};
+use cases::Limit;
 use device::ConnWrite;
 use lane::Bell;
 use results::{ChoiceFault, Entry, Suite, chosen};
@@ -14,12 +17,15 @@ use std::sync::{Arc, Mutex, Wait};
 use std::thread;
 use std::thread::Threads;
 use std::time::{Clock, Duration, Instant};
-use wire::{Case, Ended, Pace, Server, WireFault, every_case, list, run_case, text_of};
+use wire::{Case, Ended, Pace, Server, WireFault, every_case, list, run_case};
 use words::{WireRun, WireWords};
 
 /// The words that choose cases.
 const KNOWN: &str = "all, a group (start, conn, hpack, stream, flow, control, grpc), or some of \
     wire --list, as grpc/4, grpc/4-6 or 'grpc/1*'";
+
+/// Why nothing more is run of a server that a case has ended.
+const NO_ANSWER: &str = "the server answers no more";
 
 /// Milliseconds in a second.
 const SECOND: u64 = 1_000;
@@ -31,17 +37,25 @@ struct Target<R> {
     host: String,
     port: u16,
     silence: Duration,
+    /// How long a connection may take to be made.
+    patience: Duration,
     begun: Instant,
 }
 
-impl<R: Net<Stream = TcpStream> + Clock + Drop> Server for Target<R> {
+impl<R: Net<Stream = TcpStream> + Clock + AllocGlobal + Drop> Server for Target<R> {
     type Line = TcpStream;
 
-    fn connect(&self) -> Option<TcpStream> {
-        let stream = TcpStream::connect(&self.rt, (self.host.as_str(), self.port)).ok()?;
-        stream.set_write_timeout(Some(self.silence)).ok()?;
-        stream.set_nodelay(true).ok()?;
-        Some(stream)
+    fn connect(&self) -> Result<TcpStream, WireFault> {
+        let limit = Limit::begin(&self.rt, self.patience).map_err(|_| WireFault::ClockFailed)?;
+        let place = Place::new(self.host.as_str(), self.port);
+        match connect(&self.rt, self.rt.alloc(), place, limit) {
+            Ok(stream) => {
+                // A connection on which no time can be set is broken, and a read tells of that.
+                let _set = stream.set_write_timeout(Some(self.silence));
+                Ok(stream)
+            }
+            Err(failure) => Err(WireFault::NoConnection(failure.note)),
+        }
     }
 
     fn now(&self) -> Option<u64> {
@@ -72,25 +86,13 @@ struct Found {
     answers: Vec<Option<Result<Ended, WireFault>>>,
 }
 
-/// The cases of a run that have ended, by their places, until they are told of in their order.
-#[derive(Drop)]
-struct Desk {
-    alloc: Global,
-    waiting: Vec<Option<Ended>>,
-    /// The place of the case that is told of next.
-    next: usize,
-    is_verbose: bool,
-    /// Whether no more are run: the server answers no more, or one failed and that is enough.
-    is_over: bool,
-}
-
-/// Lists the wire cases, or runs those that the words choose, and tells what came of each. Where `is_shown`, standard error is a
-/// terminal, and shows how far it is.
+/// Lists the wire cases, or runs those that the words choose, and tells what came of each: `Failed`, where one failed the run, or
+/// the server answers no more. Where `is_shown`, standard error is a terminal, and shows how far it is.
 ///
 /// # Errors
 ///
-/// `BadKnown` where the file of known failures is none; `Failed` where a line or a file can't be written or read. Standard error
-/// says why.
+/// `BadKnown` where the file of known failures is none; `Failed` where a line or a file can't be written or read, or where there
+/// was no connection for a case: it isn't tested, and nothing is told of those after it. Standard error says why.
 pub fn run_wire<R, W>(
     rt: R,
     words: WireWords<'_>,
@@ -133,11 +135,36 @@ where
     let mut sinks = Sinks::open(rt, alloc, run)?;
     for _ in 0..words.reporting.repeat {
         let chosen = picked(alloc, cases.as_slice(), places.as_slice())?;
-        if !run_round(rt, alloc, chosen, &words, &mut sinks, output)? {
-            break;
+        match run_round(rt, alloc, chosen, &words, &mut sinks, output)? {
+            Round::Done => {}
+            Round::Enough => break,
+            Round::Dead => {
+                sinks.bail_out(NO_ANSWER, output)?;
+                sinks.close(output)?;
+                return Ok(Verdict::Failed);
+            }
+            Round::Lost(why) => return lose(&rt, why.as_str(), &mut sinks, output),
         }
     }
     Ok(Verdict::from(sinks.close(output)?))
+}
+
+/// Ends a run for which there is no connection to the server any more, and says why.
+fn lose<R, W>(
+    rt: &R,
+    why: &str,
+    sinks: &mut Sinks<'_, R>,
+    output: &mut W,
+) -> Result<Verdict, TrialFault>
+where
+    R: Files + Clock + Eprint + AllocGlobal + Drop,
+    W: ConnWrite,
+{
+    sinks.bail_out(why, output)?;
+    sinks.close(output)?;
+    // The exit status tells of it even where nothing can be said here.
+    let _said = eprintln!(rt; "interop: {why}");
+    Err(TrialFault::Failed)
 }
 
 /// Says that there is no case of this name, and which there are.
@@ -184,7 +211,7 @@ fn picked(alloc: Global, cases: &[Case], places: &[usize]) -> Result<Vec<Case>, 
     Ok(picked)
 }
 
-/// Runs cases, each once, and tells what came of each. It answers whether more are to be run.
+/// Runs cases, each once, and tells what came of each.
 fn run_round<R, W>(
     rt: R,
     alloc: Global,
@@ -192,7 +219,7 @@ fn run_round<R, W>(
     words: &WireRun<'_>,
     sinks: &mut Sinks<'_, R>,
     output: &mut W,
-) -> Result<bool, TrialFault>
+) -> Result<Round, TrialFault>
 where
     R: Net<Stream = TcpStream, Listener = TcpListener> + Files + Eprint + AllocGlobal,
     R: Clock + Threads + Wait + Copy + Send + Sync + Drop + 'static,
@@ -211,17 +238,17 @@ where
     if threads.is_empty() {
         return Err(TrialFault::OutOfMemory);
     }
-    let told = board.tell_all(&rt, &mut desk, sinks, output);
+    let told = board.tell_all(&rt, alloc, &mut desk, sinks, output);
     board.is_over.store(true, Ordering::SeqCst);
     for thread in threads {
         thread.join(&rt);
     }
     told?;
-    Ok(!desk.is_over)
+    Ok(desk.round())
 }
 
 /// These cases, none of them run.
-fn board_of<R: Net<Stream = TcpStream> + Clock + Drop>(
+fn board_of<R: Net<Stream = TcpStream> + Clock + AllocGlobal + Drop>(
     rt: R,
     alloc: Global,
     cases: Vec<Case>,
@@ -240,6 +267,7 @@ fn board_of<R: Net<Stream = TcpStream> + Clock + Drop>(
             host: String::from_str(alloc, words.host)?,
             port: words.port,
             silence: Duration::from_millis(silence),
+            patience: Duration::from_secs(u64::from(words.limit)),
             begun,
         },
         pace: Pace {
@@ -253,7 +281,7 @@ fn board_of<R: Net<Stream = TcpStream> + Clock + Drop>(
     })
 }
 
-impl<R: Net<Stream = TcpStream> + Clock + Drop> Board<R> {
+impl<R: Net<Stream = TcpStream> + Clock + AllocGlobal + Drop> Board<R> {
     /// Runs one case after another, each the next that no other thread has begun, but those that no other is to run beside.
     fn work(&self, rt: &impl Wait, alloc: Global) {
         for _ in self.cases.as_slice() {
@@ -276,6 +304,7 @@ impl<R: Net<Stream = TcpStream> + Clock + Drop> Board<R> {
     fn tell_all<S, W>(
         &self,
         rt: &S,
+        alloc: Global,
         desk: &mut Desk,
         sinks: &mut Sinks<'_, R>,
         output: &mut W,
@@ -286,24 +315,24 @@ impl<R: Net<Stream = TcpStream> + Clock + Drop> Board<R> {
         W: ConnWrite,
     {
         for case in self.cases.as_slice() {
-            if desk.is_over {
+            if desk.is_over() {
                 break;
             }
             if !case.opens_many() {
                 let (place, answer) = self.wait_for_next(rt);
-                desk.take(place, answer?, sinks, output)?;
+                desk.take(place, answer, sinks, output)?;
             }
         }
         for (place, case) in self.cases.as_slice().iter().enumerate() {
-            if desk.is_over {
+            if desk.is_over() {
                 break;
             }
             if case.opens_many() {
-                let ended = run_case(desk.alloc, *case, self.pace, &self.target)?;
-                desk.take(place, ended, sinks, output)?;
+                let answer = run_case(alloc, *case, self.pace, &self.target);
+                desk.take(place, answer, sinks, output)?;
             }
         }
-        desk.tell_rest(sinks, output)
+        desk.tell_rest(self.cases.as_slice(), sinks, output)
     }
 
     /// What came of the next case that ends, and its place.
@@ -333,91 +362,5 @@ impl Found {
         let place = self.answers.iter().position(|slot| slot.is_some())?;
         let answer = self.answers.as_mut_slice().get_mut(place)?.take()?;
         Some((place, answer))
-    }
-}
-
-impl Desk {
-    /// One for these cases, none of which has ended.
-    fn new(alloc: Global, cases: &[Case], is_verbose: bool) -> Result<Desk, TrialFault> {
-        let mut waiting = Vec::new(alloc);
-        for _ in cases {
-            waiting.push(None)?;
-        }
-        Ok(Desk {
-            alloc,
-            waiting,
-            next: 0,
-            is_verbose,
-            is_over: false,
-        })
-    }
-
-    /// Takes what came of the case at a place, and tells of those whose turn it is.
-    fn take<R, W>(
-        &mut self,
-        place: usize,
-        mut ended: Ended,
-        sinks: &mut Sinks<'_, R>,
-        output: &mut W,
-    ) -> Result<(), TrialFault>
-    where
-        R: Files + Clock + Eprint + AllocGlobal + Drop,
-        W: ConnWrite,
-    {
-        sinks.ended(&mut ended.outcome, output)?;
-        self.is_over = sinks.is_over() || !ended.is_alive;
-        if let Some(slot) = self.waiting.as_mut_slice().get_mut(place) {
-            *slot = Some(ended);
-        }
-        for _ in self.next..self.waiting.len() {
-            let Some(ended) = self.next_ended() else {
-                break;
-            };
-            self.tell(ended, sinks, output)?;
-        }
-        Ok(())
-    }
-
-    /// The case whose turn it is, if it has ended.
-    fn next_ended(&mut self) -> Option<Ended> {
-        let ended = self.waiting.as_mut_slice().get_mut(self.next)?.take()?;
-        self.next = self.next.saturating_add(1);
-        Some(ended)
-    }
-
-    /// Tells of the cases that have ended, though others before them have not.
-    fn tell_rest<R, W>(
-        &mut self,
-        sinks: &mut Sinks<'_, R>,
-        output: &mut W,
-    ) -> Result<(), TrialFault>
-    where
-        R: Files + Clock + Eprint + AllocGlobal + Drop,
-        W: ConnWrite,
-    {
-        for _ in self.next..self.waiting.len() {
-            match self.next_ended() {
-                Some(ended) => self.tell(ended, sinks, output)?,
-                None => self.next = self.next.saturating_add(1),
-            }
-        }
-        Ok(())
-    }
-
-    /// Tells what came of a case.
-    fn tell<R, W>(
-        &self,
-        ended: Ended,
-        sinks: &mut Sinks<'_, R>,
-        output: &mut W,
-    ) -> Result<(), TrialFault>
-    where
-        R: Files + Clock + Eprint + AllocGlobal + Drop,
-        W: ConnWrite,
-    {
-        let text = text_of(self.alloc, &ended, self.is_verbose)?;
-        let Ended { outcome, .. } = ended;
-        sinks.tell(outcome, text.as_bytes(), output)?;
-        Ok(())
     }
 }

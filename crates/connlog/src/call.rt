@@ -14,8 +14,8 @@ use std::alloc::{AllocError, Global};
 /// What the paths of the methods begin with.
 const SERVICE: &[u8] = b"/grpc.testing.TestService/";
 
-/// The longest request that is kept, to be looked at where it is malformed.
-const MOST_KEPT: u32 = 4_096;
+/// How much memory for requests is kept between two of them, in bytes.
+const MOST_SPARE: usize = 4_096;
 
 /// The nanoseconds of a second.
 const SECOND: u128 = 1_000_000_000;
@@ -171,7 +171,7 @@ impl Call {
         for _ in 0..bytes.len() {
             let count = self.requests.count;
             let (content, behind) = self.requests.step(rest);
-            if self.requests.length() <= MOST_KEPT {
+            if self.malformed.is_none() {
                 self.kept.extend_from_slice(content)?;
             }
             if self.requests.count > count {
@@ -185,15 +185,17 @@ impl Call {
         Ok(())
     }
 
-    /// Looks at a request that is whole, unless it is too long, or one before it was malformed.
+    /// Looks at a request that is whole, unless one before it was malformed.
     fn look(&mut self, alloc: Global) -> Result<(), AllocError> {
         if let (Some(method), None) = (self.method, self.malformed) {
-            if self.requests.length() <= MOST_KEPT {
-                let count = self.requests.count;
-                self.malformed = fault_of_request(alloc, method, count, self.kept.as_slice())?;
-            }
+            let count = self.requests.count;
+            self.malformed = fault_of_request(alloc, method, count, self.kept.as_slice())?;
         }
-        self.kept.clear();
+        if self.kept.capacity() > MOST_SPARE {
+            self.kept = Vec::new(alloc);
+        } else {
+            self.kept.clear();
+        }
         Ok(())
     }
 

@@ -81,11 +81,24 @@ pub fn trailers_fault(alloc: Global, fields: &[Field]) -> Result<Option<FieldFau
 }
 
 fn fault(alloc: Global, rule: RequestRule, field: &Field) -> Result<FieldFault, AllocError> {
+    let name = field.name.as_slice();
     Ok(FieldFault {
         rule,
-        name: shown(alloc, field.name.as_slice())?,
+        name: if has_any_byte(rule) {
+            escaped(alloc, name)?
+        } else {
+            shown(alloc, name)?
+        },
         value: escaped(alloc, field.value.as_slice())?,
     })
+}
+
+/// Whether a name that breaks this rule may have bytes that no text has.
+fn has_any_byte(rule: RequestRule) -> bool {
+    matches!(
+        rule,
+        RequestRule::Field(FieldRule::UpperCase | FieldRule::NameByte(_))
+    )
 }
 
 fn of_name(alloc: Global, rule: RequestRule, name: &[u8]) -> Result<FieldFault, AllocError> {
@@ -109,6 +122,14 @@ impl fmt::Display for FieldFault {
     fn fmt<W: fmt::Write>(&self, f: &mut fmt::Formatter<W>) -> fmt::Result {
         let (name, value) = (self.name.as_str(), self.value.as_str());
         match self.rule {
+            RequestRule::Field(FieldRule::UpperCase) => write!(
+                f,
+                "the name \"{name}\" has an upper-case letter (RFC 9113, 8.2.1)"
+            ),
+            RequestRule::Field(FieldRule::NameByte(byte)) => write!(
+                f,
+                "the name \"{name}\" has the byte {byte:02x} (RFC 9113, 8.2.1)"
+            ),
             RequestRule::Field(rule) => {
                 let broken = BrokenRule(rule, name);
                 write!(f, "{broken}")

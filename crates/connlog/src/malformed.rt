@@ -153,7 +153,8 @@ impl fmt::Display for Malformed {
         if inside > 0 {
             write!(f, ", in its field {inside}")?;
         }
-        write!(f, ", behind {before} whole fields: ")?;
+        let fields = if before == 1 { "field" } else { "fields" };
+        write!(f, ", after {before} whole {fields}: ")?;
         match fault {
             MessageFault::Wire(fault) => write!(f, "{fault}")?,
             MessageFault::Text(number) => write!(f, "the string of field {number} is no UTF-8")?,

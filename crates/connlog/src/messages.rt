@@ -91,11 +91,6 @@ impl Messages {
         self.bytes.saturating_sub(self.count.saturating_mul(5))
     }
 
-    /// How long the message is that is being sent, or was last.
-    pub fn length(&self) -> u32 {
-        self.said
-    }
-
     /// So many bytes of a message come.
     fn take(&mut self, count: u32) {
         self.left = self.left.saturating_sub(count);

@@ -139,8 +139,8 @@ timeout_on_sleeping_server. By their names alone: cacheable_unary, rpc_soak, cha
 
 const STATUS: &str = "\
 Exit status: 0 done, 1 a case failed (of wire one of level must) or a client, a known failure is
-mended, or a drain took too long, 2 bad arguments or input, 3 input, output, memory or the port
-failed; why a port can't be had, and which argument is bad, is told on standard error.";
+mended, or a drain took too long, 2 bad arguments or input, 3 input, output, memory, the port or
+wire's connection failed; why there is none, and which argument is bad, is told on standard error.";
 
 /// What words that ask for help are answered with: those words alone, or one behind a command.
 #[derive(Clone, Copy)]

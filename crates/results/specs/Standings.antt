@@ -28,12 +28,12 @@ abbrev pub is_must : Option Level → Bool
 is_must (Some Level.Must) = true
 is_must level = false
 
--- A failure fails the run: of wire cases one of level must alone. So does a misbehaviour that wasn't tested. Nothing else does:
--- unsteady accuses nobody.
+-- A failure fails the run: of wire cases one of level must alone. So does a case that wasn't tested. Nothing else does: unsteady
+-- accuses nobody.
 abbrev pub fails_by : Suite → Verdict → Option Level → Bool
 fails_by Suite.Wire Verdict.Failed level = is_must level
 fails_by suite Verdict.Failed level = true
-fails_by Suite.Misbehave Verdict.NotTested level = true
+fails_by suite Verdict.NotTested level = true
 fails_by suite verdict level = false
 
 abbrev pub fails_alone : Outcome → Bool

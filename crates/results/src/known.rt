@@ -263,7 +263,7 @@ impl Known {
 }
 
 /// Adds a line of the list.
-fn push_line(
+pub(crate) fn push_line(
     text: &mut String,
     name: &str,
     is_unsteady: bool,
@@ -277,7 +277,7 @@ fn push_line(
 }
 
 /// Whether a case may pass too, if it may fail by what was known and what came of it.
-fn listing(outcome: &Outcome) -> Option<bool>
+pub(crate) fn listing(outcome: &Outcome) -> Option<bool>
     ensures { result ≡ listing outcome.now.known outcome.now.suite outcome.now.verdict }
 {
     if let Some(known) = &outcome.known {
@@ -294,7 +294,7 @@ fn listing(outcome: &Outcome) -> Option<bool>
 }
 
 /// Why a case may fail: the reason of one that is known stays.
-fn reason_of(alloc: Global, outcome: &Outcome) -> Result<String, AllocError>
+pub(crate) fn reason_of(alloc: Global, outcome: &Outcome) -> Result<String, AllocError>
     ensures { IfOk result (λ reason. string_bytes reason
         ≡ reason_of outcome.now outcome.now.known) }
 {

@@ -2,7 +2,7 @@
 //!
 //! - `outcome`, `words`: what came of a case, and the words for it.
 //! - `standing`: what is said of an outcome beside a list of known failures, and whether it fails the run.
-//! - `known`: that list, as it is read from a file and written to one.
+//! - `known`: that list, as it is read from a file and written to one; `renewal`: the one after a run.
 //! - `pattern`, `choice`: which cases a command line chooses by their names.
 //! - `summary`: how many cases ended in which way, and the line that says so.
 //! - `cause`: why a case isn't ok, in one line, and in more.
@@ -17,6 +17,7 @@ mod junit;
 mod known;
 mod outcome;
 mod pattern;
+mod renewal;
 mod standing;
 mod summary;
 mod tap;
@@ -30,6 +31,7 @@ pub use junit::push_junit;
 pub use known::{Known, KnownFault, KnownReason, known_named, read_known, stray, write_known};
 pub use outcome::{Outcome, Rule};
 pub use pattern::is_match;
+pub use renewal::renewed;
 pub use standing::{Standing, fail_the_run};
 pub use summary::{Summary, push_summary, summary_of};
 pub use tap::{TAP_VERSION, push_plan, push_tap};

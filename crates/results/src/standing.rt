@@ -40,7 +40,7 @@ impl Outcome {
     {
         match (self.suite, self.verdict) {
             (Suite::Wire, Verdict::Failed) => matches!(self.level, Some(Level::Must)),
-            (_, Verdict::Failed) | (Suite::Misbehave, Verdict::NotTested) => true,
+            (_, Verdict::Failed | Verdict::NotTested) => true,
             _ => false,
         }
     }

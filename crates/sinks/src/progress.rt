@@ -14,7 +14,9 @@ pub struct Progress {
     is_shown: bool,
     total: usize,
     done: usize,
+    /// How many are told as failed, and how many fail the run.
     failed: usize,
+    failing: usize,
     begun: Option<Instant>,
 }
 
@@ -27,21 +29,25 @@ impl Progress {
             total,
             done: 0,
             failed: 0,
+            failing: 0,
             begun: Instant::now(clock).ok(),
         }
     }
 
     /// One more case has ended.
-    pub fn count(&mut self, has_failed: bool) {
+    pub fn count(&mut self, has_failed: bool, fails_the_run: bool) {
         self.done = self.done.saturating_add(1);
         if has_failed {
             self.failed = self.failed.saturating_add(1);
         }
+        if fails_the_run {
+            self.failing = self.failing.saturating_add(1);
+        }
     }
 
-    /// Whether a case failed.
-    pub fn has_failed(&self) -> bool {
-        self.failed > 0
+    /// Whether a case fails the run.
+    pub fn is_failing(&self) -> bool {
+        self.failing > 0
     }
 
     /// Takes the line away for good.

@@ -8,14 +8,14 @@ ghost use Rattle.sinks.specs.Told.{standing_line};
 ghost use Rattle.sinks.specs.declared.sinks.Form.TheVariants as forms;
 
 use crate::fault::SinkFault;
-use crate::files::{create, create_directory, read, unwritten, write};
+use crate::files::{create, create_directory, read, unwritten, write, write_whole};
 use crate::progress::Progress;
 use crate::saved::{is_saved, save};
 use device::{ConnWrite, write_all};
 use results::{
-    Known, KnownFault, Outcome, Standing, Suite, TAP_VERSION, fail_the_run, json_line,
-    json_summary, known_named, push_junit, push_plan, push_summary, push_tap, read_known, stray,
-    summary_of, write_known,
+    Known, KnownFault, Outcome, Standing, Suite, TAP_VERSION, Verdict, fail_the_run, json_line,
+    json_summary, known_named, push_junit, push_plan, push_summary, push_tap, read_known, renewed,
+    stray, summary_of,
 };
 use std::alloc::{AllocError, Global};
 use std::io::Write;
@@ -48,6 +48,17 @@ pub enum Form {
     Tap,
 }
 
+impl Form {
+    /// What standard output has where results go so.
+    pub fn of(reporting: &Reporting<'_>) -> Form {
+        match reporting.json {
+            Some(name) if name == STANDARD => Form::Json,
+            _ if reporting.has_tap => Form::Tap,
+            _ => Form::Text,
+        }
+    }
+}
+
 /// The places where the results of a run go, while it goes on.
 #[derive(Drop)]
 pub struct Sinks<'a, R: Files> {
@@ -59,8 +70,14 @@ pub struct Sinks<'a, R: Files> {
     /// The file for JSON.
     json: Option<R::File>,
     known: Vec<Known>,
+    /// What the list of known failures begins with: lines that name no case.
+    head: String,
     /// What was told of, in the order of the cases.
     pub outcomes: Vec<Outcome>,
+    /// Whether something was printed of a case.
+    has_told: bool,
+    /// Whether the server was gone before the end of the run.
+    is_cut: bool,
     progress: Progress,
 }
 
@@ -72,9 +89,9 @@ impl<'a, R: Files + Clock + Eprint + AllocGlobal + Drop> Sinks<'a, R> {
     /// `ReadFailed` and `BadKnown` of the list of known failures, `WriteFailed` of a file; standard error says why.
     pub fn open(rt: R, alloc: Global, run: Run<'a, '_>) -> Result<Sinks<'a, R>, SinkFault> {
         let reporting = run.reporting;
-        let known = match reporting.known {
+        let (known, head) = match reporting.known {
             Some(name) => known_failures(&rt, alloc, name, run.names)?,
-            None => Vec::new(alloc),
+            None => (Vec::new(alloc), String::new(alloc)),
         };
         if let Some(directory) = reporting.save {
             create_directory(&rt, directory)?;
@@ -83,6 +100,9 @@ impl<'a, R: Files + Clock + Eprint + AllocGlobal + Drop> Sinks<'a, R> {
             Some(name) if name != STANDARD => Some(create(&rt, name)?),
             _ => None,
         };
+        if let Some(name) = reporting.junit {
+            create(&rt, name)?;
+        }
         let total = run.chosen.saturating_mul(usize::from(reporting.repeat));
         let progress = Progress::begin(&rt, run.suite.name(), total, run.is_shown);
         progress.show(&rt);
@@ -91,10 +111,13 @@ impl<'a, R: Files + Clock + Eprint + AllocGlobal + Drop> Sinks<'a, R> {
             alloc,
             suite: run.suite,
             reporting,
-            form: form_of(reporting),
+            form: Form::of(reporting),
             json,
             known,
+            head,
             outcomes: Vec::new(alloc),
+            has_told: false,
+            is_cut: false,
             progress,
         })
     }
@@ -130,6 +153,25 @@ impl<'a, R: Files + Clock + Eprint + AllocGlobal + Drop> Sinks<'a, R> {
         if let Some(known) = known_named(self.known.as_slice(), outcome.name.as_str()) {
             outcome.known = Some(known.copy(self.alloc)?);
         }
+        self.put(outcome, output)
+    }
+
+    /// Takes what came of a case, as `ended` does, where the server is gone: that is no known failure, and no new list is written.
+    pub fn lost<W: ConnWrite>(
+        &mut self,
+        outcome: &mut Outcome,
+        output: &mut W,
+    ) -> Result<(), SinkFault> {
+        self.is_cut = true;
+        self.put(outcome, output)
+    }
+
+    /// Writes the line of JSON and the bytes of a case that has just ended, and counts it.
+    fn put<W: ConnWrite>(
+        &mut self,
+        outcome: &mut Outcome,
+        output: &mut W,
+    ) -> Result<(), SinkFault> {
         if !is_saved(outcome) {
             outcome.sent = None;
             outcome.read = None;
@@ -139,7 +181,8 @@ impl<'a, R: Files + Clock + Eprint + AllocGlobal + Drop> Sinks<'a, R> {
         if let Some(directory) = self.reporting.save {
             save(&self.rt, self.alloc, directory, outcome)?;
         }
-        self.progress.count(outcome.fails_the_run());
+        self.progress
+            .count(is_told_as_failed(outcome), outcome.fails_the_run());
         self.progress.show(&self.rt);
         Ok(())
     }
@@ -161,6 +204,13 @@ impl<'a, R: Files + Clock + Eprint + AllocGlobal + Drop> Sinks<'a, R> {
             Form::Tap => self.tell_point(&outcome, output)?,
             Form::Json => {}
         }
+        self.has_told = true;
+        self.outcomes.push(outcome)?;
+        Ok(())
+    }
+
+    /// Keeps what came of a case, for the files alone.
+    pub fn keep(&mut self, outcome: Outcome) -> Result<(), SinkFault> {
         self.outcomes.push(outcome)?;
         Ok(())
     }
@@ -193,7 +243,17 @@ impl<'a, R: Files + Clock + Eprint + AllocGlobal + Drop> Sinks<'a, R> {
 
     /// Whether no further case is run, since one failed.
     pub fn is_over(&self) -> bool {
-        self.reporting.fails_fast && self.progress.has_failed()
+        self.reporting.fails_fast && self.progress.is_failing()
+    }
+
+    /// Says that the run ends before all of its cases were run, and why, where a form has words for it.
+    pub fn bail_out<W: ConnWrite>(&mut self, why: &str, output: &mut W) -> Result<(), SinkFault> {
+        self.is_cut = true;
+        if self.form == Form::Tap {
+            let line = format!(in self.alloc; "Bail out! {why}\n")?;
+            self.print(line.as_bytes(), output)?;
+        }
+        Ok(())
     }
 
     /// Prints how many cases ended in which way, and writes the files that are written at the end. It answers whether the run
@@ -207,6 +267,8 @@ impl<'a, R: Files + Clock + Eprint + AllocGlobal + Drop> Sinks<'a, R> {
         let summary = summary_of(self.outcomes.as_slice());
         let mut text = String::new(self.alloc);
         match self.form {
+            // Nothing is to be summed up where there was no connection for any case.
+            _ if !self.has_told => {}
             Form::Text => push_summary(&mut text, self.suite, &summary, milliseconds)?,
             Form::Tap => push_plan(&mut text, self.outcomes.len())?,
             Form::Json => {}
@@ -227,10 +289,23 @@ impl<'a, R: Files + Clock + Eprint + AllocGlobal + Drop> Sinks<'a, R> {
             write(&self.rt, name, xml.as_bytes())?;
         }
         if let Some(name) = self.reporting.write_known {
-            let list = write_known(self.alloc, outcomes)?;
-            write(&self.rt, name, list.as_bytes())?;
+            self.write_list(name)?;
         }
         Ok(())
+    }
+
+    /// Writes the new list of known failures, where the server was there to the end.
+    fn write_list(&self, name: &str) -> Result<(), SinkFault> {
+        if self.is_cut {
+            let _said = eprintln!(self.rt;
+                "interop: {name} isn't written: the server was gone before the end"
+            );
+            return Ok(());
+        }
+        let list = renewed(self.alloc, self.known.as_slice(), self.outcomes.as_slice())?;
+        let mut text = String::from_str(self.alloc, self.head.as_str())?;
+        text.push_str(list.as_str())?;
+        write_whole(&self.rt, self.alloc, name, text.as_str())
     }
 
     /// Writes a line of JSON where such lines go.
@@ -262,22 +337,32 @@ impl<'a, R: Files + Clock + Eprint + AllocGlobal + Drop> Sinks<'a, R> {
     }
 }
 
-/// What standard output has where results go so.
-fn form_of(reporting: &Reporting<'_>) -> Form {
-    match reporting.json {
-        Some(name) if name == STANDARD => Form::Json,
-        _ if reporting.has_tap => Form::Tap,
-        _ => Form::Text,
-    }
+/// Whether the sum counts a case among those that failed.
+fn is_told_as_failed(outcome: &Outcome) -> bool {
+    outcome.verdict == Verdict::Failed && outcome.standing() == Standing::AsFound
 }
 
-/// The known failures that a file lists, each the name of a case.
+/// The lines that a list begins with and that name no case.
+fn head_of(alloc: Global, text: &str) -> Result<String, AllocError> {
+    let mut head = String::new(alloc);
+    for line in text.lines() {
+        let told = line.trim();
+        if !told.is_empty() && !told.starts_with("#") {
+            break;
+        }
+        head.push_str(line)?;
+        head.push_str("\n")?;
+    }
+    Ok(head)
+}
+
+/// The known failures that a file lists, each the name of a case, and the lines that it begins with and that name none.
 fn known_failures<R: Files + Eprint + AllocGlobal>(
     rt: &R,
     alloc: Global,
     file: &str,
     names: &[&str],
-) -> Result<Vec<Known>, SinkFault> {
+) -> Result<(Vec<Known>, String), SinkFault> {
     let text = read(rt, file)?;
     let known = match read_known(alloc, text.as_str()) {
         Ok(known) => known,
@@ -292,7 +377,8 @@ fn known_failures<R: Files + Eprint + AllocGlobal>(
         let _said = eprintln!(rt; "interop: {file}: {name} is the name of no case");
         return Err(SinkFault::BadKnown);
     }
-    Ok(known)
+    let head = head_of(alloc, text.as_str())?;
+    Ok((known, head))
 }
 
 /// Adds what the list of known failures has of a case, in a line.

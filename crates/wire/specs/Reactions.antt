@@ -1,7 +1,7 @@
 -- Which errors a server said, and what a judgment of its reactions rests on.
-use Rattle.std.specs.Prelude.{◌≡◌, ⊤, ℕ, ◌==◌, nat_le, Bool, true, false, ◌||◌, not, List, Option, Some, None, is_none, ◌&&◌, if◌then◌else◌, length}
+use Rattle.std.specs.Prelude.{◌≡◌, ⊤, ℕ, ◌⊎◌, ◌==◌, nat_le, Bool, true, false, ◌||◌, not, List, Option, Some, None, IsSome, is_none, ◌&&◌, if◌then◌else◌, length}
 use Rattle.std.specs.Ordering.{nat_cmp}
-use Rattle.std.specs.List.{All, list_any}
+use Rattle.std.specs.List.{All, Any, list_any}
 use Rattle.std.specs.BTreeMap.{get}
 use Rattle.wire.specs.declared.reaction.Lawful.{Lawful}
 use Rattle.wire.specs.declared.reaction.Reaction.{Reaction}
@@ -50,3 +50,7 @@ was_shut seen = seen.closed && (not seen.any_frame && (not seen.text && is_none 
 pub record IsLawful (seen : Seen) (lawful : Lawful) : Type 0 where
   pub no_wrong : seen.wrong ≡ None
   pub all : All (λ asked. Judges seen asked true) lawful.all.items
+
+-- the server did what no server may, or something that is asked for was judged not to hold
+abbrev pub IsUnlawful : Seen → Lawful → Type 0
+IsUnlawful seen lawful = IsSome seen.wrong ⊎ Any (λ asked. Judges seen asked false) lawful.all.items

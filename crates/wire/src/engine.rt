@@ -1,8 +1,8 @@
 //! One try of a case, over one connection: its steps in order, and then a wait for a lawful reaction.
 
 ghost use Rattle.std.specs.Prelude.{◌≡◌, false, IfOk, IsTrue};
-ghost use Rattle.std.specs.List.{Any};
-ghost use Rattle.wire.specs.Reactions.{IsLawful, was_shut};
+ghost use Rattle.std.specs.List.{All, Any};
+ghost use Rattle.wire.specs.Reactions.{IsLawful, IsUnlawful, was_shut};
 
 use crate::announced::{Announced, Need};
 use crate::case::Case;
@@ -381,7 +381,10 @@ fn upload<V: Server>(
 /// Waits for a lawful reaction, and answers whether there was one. Once the server has read all that was said, only an answer of a
 /// call is waited for until nothing comes, unless that was waited for already; what a server does by itself comes within a moment.
 fn judge<V: Server>(talk: &mut Talk<'_, V>, lawful: &[Lawful]) -> Result<bool, WireFault>
-    ensures { IfOk result (λ passed. IsTrue passed → Any (IsLawful talk.new.seen) lawful.now) }
+    ensures passed { IfOk result
+        (λ passed. IsTrue passed → Any (IsLawful talk.new.seen) lawful.now) }
+    ensures failed { IfOk result
+        (λ passed. passed ≡ false → All (IsUnlawful talk.new.seen) lawful.now) }
 {
     let was_silent = talk.was_silent;
     talk.ask()?;

@@ -35,7 +35,7 @@ pub use case::Case;
 pub use every::{every_case, list};
 pub use fault::WireFault;
 pub use group::Group;
-pub use outcome::Ended;
+pub use outcome::{Ended, lost_outcome};
 pub use report::{lost_text, text_of};
 pub use run::run_case;
 pub use server::{Pace, Server};

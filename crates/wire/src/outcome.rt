@@ -23,6 +23,14 @@ pub fn outcome_of(alloc: Global, case: &Case, verdict: Verdict) -> Result<Outcom
     Ok(outcome)
 }
 
+/// What came of a case for which there was no connection, for this reason.
+pub fn lost_outcome(alloc: Global, case: &Case, why: &str) -> Result<Outcome, AllocError> {
+    let mut outcome = outcome_of(alloc, case, Verdict::NotTested)?;
+    outcome.reason = Some(String::from_str(alloc, why)?);
+    outcome.tries = 0;
+    Ok(outcome)
+}
+
 /// What a case rests on: the standard and the section, and what its text has after a colon.
 fn rule_of(alloc: Global, section: &str) -> Result<Rule, AllocError> {
     let (place, sentence) = match section.split_once(": ") {

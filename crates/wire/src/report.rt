@@ -35,7 +35,14 @@ pub fn text_of(alloc: Global, ended: &Ended, is_verbose: bool) -> Result<String,
     Ok(text)
 }
 
-/// Adds the line of a case that was run.
+/// The line that is printed of a case for which there was no connection.
+pub fn lost_text(alloc: Global, outcome: &Outcome) -> Result<String, AllocError> {
+    let mut text = String::new(alloc);
+    push_line(&mut text, outcome)?;
+    Ok(text)
+}
+
+/// Adds the line of a case.
 fn push_line(text: &mut String, outcome: &Outcome) -> Result<(), AllocError> {
     let name = outcome.name.as_str();
     let title = words_of(&outcome.title);
@@ -46,7 +53,8 @@ fn push_line(text: &mut String, outcome: &Outcome) -> Result<(), AllocError> {
         Verdict::Ok => text.push_str(" .. ok")?,
         Verdict::NotApplicable | Verdict::NotTested => {
             let verdict = outcome.verdict.name();
-            write!(text, " .. {verdict}: {came}")?;
+            let why = words_of(&outcome.reason);
+            write!(text, " .. {verdict}: {why}")?;
         }
         Verdict::Failed => {
             write!(text, ": wanted {wanted}, came {came} -- failed")?;
@@ -98,22 +106,20 @@ fn push_rule(text: &mut String, outcome: &Outcome) -> Result<(), AllocError> {
     }
 }
 
-/// The line of a case that has no verdict, for this reason.
-pub fn lost_text(alloc: Global, case: &Case, why: &str) -> Result<String, AllocError> {
-    let name = case.name(alloc)?;
-    let title = case.title;
-    format!(in alloc; "wire {name} {title} .. not judged: {why}\n")
-}
-
 /// Adds what `--verbose` says of a case: its section, what came, what was written and which frames were read.
 fn push_details(text: &mut String, ended: &Ended) -> Result<(), AllocError> {
     let Ended { case, outcome, .. } = ended;
     let rule = case.section;
     let level = case.level.name();
-    let came = words_of(&outcome.came);
     let milliseconds = outcome.milliseconds;
     writeln!(text, "  {level}: {rule}")?;
-    writeln!(text, "  came {came}, in {milliseconds} ms")?;
+    match &outcome.came {
+        Some(came) => {
+            let came = came.as_str();
+            writeln!(text, "  came {came}, in {milliseconds} ms")?;
+        }
+        None => writeln!(text, "  it took {milliseconds} ms")?,
+    }
     if let Some(sent) = &outcome.sent {
         push_sent(text, sent.as_slice())?;
     }

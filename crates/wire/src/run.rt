@@ -76,8 +76,8 @@ fn unfit_of_control<V: Server>(
     }
 }
 
-/// Tries a case: once where it passes, and as often as its level asks for where it fails, while the time of the case, which began
-/// then, isn't over.
+/// Tries a case: once where it passes, and as often as its level asks for where it fails, in the time of the case, which began then. A
+/// further try that the end of that time cut short counts for nothing.
 fn find<V: Server>(
     alloc: Global,
     case: Case,
@@ -89,12 +89,15 @@ fn find<V: Server>(
     let mut passed = 0usize;
     let mut first: Option<Try> = None;
     for _ in 0..tries_of(case.level) {
-        tries = tries.saturating_add(1);
-        let tried = try_rounds(alloc, case, pace, server)?;
+        let tried = try_rounds(alloc, case, pace, server, begun)?;
         if let Judgment::Unfit(unfit) = tried.judgment {
             return unfit_outcome(alloc, case, unfit, tried);
         }
         let has_passed = tried.judgment == Judgment::Passed;
+        if tries > 0 && tried.seen.endless && !has_passed {
+            break;
+        }
+        tries = tries.saturating_add(1);
         if has_passed {
             passed = passed.saturating_add(1);
         }
@@ -112,20 +115,24 @@ fn find<V: Server>(
     }
 }
 
-/// A try of a case: over one connection, or over as many as its lines say, up to the first over which it doesn't pass.
+/// A try of a case whose time began then: over one connection, or over as many as its lines say, up to the first over which it doesn't
+/// pass.
 fn try_rounds<V: Server>(
     alloc: Global,
     case: Case,
     pace: Pace,
     server: &V,
+    begun: u64,
 ) -> Result<Try, WireFault> {
     for _ in 1..rounds_of(case.script)? {
-        let tried = try_case(alloc, case, pace, server, false)?;
+        let left = pace.after(spent(server, begun)?);
+        let tried = try_case(alloc, case, left, server, false)?;
         if tried.judgment != Judgment::Passed {
             return Ok(tried);
         }
     }
-    try_case(alloc, case, pace, server, false)
+    let left = pace.after(spent(server, begun)?);
+    try_case(alloc, case, left, server, false)
 }
 
 /// Whether the try that is told of failed.
@@ -194,7 +201,7 @@ fn not_applicable(
     tried: Try,
 ) -> Result<Outcome, WireFault> {
     let mut outcome = outcome_of(alloc, &case, Verdict::NotApplicable)?;
-    outcome.came = Some(reason);
+    outcome.reason = Some(reason);
     note(alloc, &mut outcome, tried)?;
     Ok(outcome)
 }

@@ -1,8 +1,8 @@
 //! What came on a connection, and whether a reaction is among it.
 
-ghost use Rattle.std.specs.Prelude.{◌≡◌, true, IfOk, IsTrue};
+ghost use Rattle.std.specs.Prelude.{◌≡◌, false, true, IfOk, IsTrue};
 ghost use Rattle.std.specs.BTreeMap.{get};
-ghost use Rattle.std.specs.List.{Any};
+ghost use Rattle.std.specs.List.{All, Any};
 ghost use Rattle.std.specs.Ordering.{nat_cmp};
 
 use crate::announced::Announced;
@@ -68,7 +68,7 @@ pub struct Seen {
 }
 
 impl Seen {
-    ghost use Rattle.wire.specs.Reactions.{IsLawful, Judges, has_ended, was_reset, was_shut};
+    ghost use Rattle.wire.specs.Reactions.{IsLawful, IsUnlawful, Judges, has_ended, was_reset, was_shut};
 
     pub fn new(alloc: Global) -> Seen {
         Seen {
@@ -140,7 +140,9 @@ impl Seen {
 
     /// Whether one of these ways to pass is what came.
     pub fn is_one_lawful(&self, ways: &[Lawful]) -> Result<bool, WireFault>
-        ensures { IfOk result (λ passed. IsTrue passed → Any (IsLawful self.now) ways.now) }
+        ensures passed { IfOk result (λ passed. IsTrue passed → Any (IsLawful self.now) ways.now) }
+        ensures failed { IfOk result
+            (λ passed. passed ≡ false → All (IsUnlawful self.now) ways.now) }
     {
         for lawful in ways {
             if self.is_lawful(lawful)? {
@@ -152,7 +154,9 @@ impl Seen {
 
     /// Whether all of these reactions hold, and the server did nothing that no server may.
     pub fn is_lawful(&self, lawful: &Lawful) -> Result<bool, WireFault>
-        ensures { IfOk result (λ passed. IsTrue passed → IsLawful self.now lawful.now) }
+        ensures passed { IfOk result (λ passed. IsTrue passed → IsLawful self.now lawful.now) }
+        ensures failed { IfOk result
+            (λ passed. passed ≡ false → IsUnlawful self.now lawful.now) }
     {
         for reaction in lawful.all.as_slice() {
             if !self.holds(reaction)? {
@@ -453,7 +457,11 @@ impl Seen {
             push_part(text, start, "the end of the connection")?;
         }
         if self.endless {
-            push_part(text, start, "frames without an end")?;
+            push_part(
+                text,
+                start,
+                "frames until the time of the case was over (--timeout)",
+            )?;
         }
         if text.len() == start {
             text.push_str(if self.synced {

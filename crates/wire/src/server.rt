@@ -25,7 +25,7 @@ pub trait Server {
 pub struct Pace {
     /// So many milliseconds in which nothing comes are silence.
     pub silence: u64,
-    /// A connection takes so many milliseconds at most.
+    /// No connection lasts longer, in milliseconds.
     pub limit: u64,
 }
 
@@ -33,6 +33,14 @@ pub struct Pace {
 const MOMENT: u64 = 10;
 
 impl Pace {
+    /// The pace of a connection that is made when so many milliseconds of a case's time have passed.
+    pub fn after(self, spent: u64) -> Pace {
+        Pace {
+            silence: self.silence,
+            limit: self.limit.saturating_sub(spent),
+        }
+    }
+
     /// How many milliseconds are enough for what a server does by itself once it has read all that was written.
     pub fn moment(self) -> u64 {
         self.silence / MOMENT

@@ -74,8 +74,6 @@ pub struct Talk<'a, V: Server> {
     pace: Pace,
     /// When the connection was made.
     begun: u64,
-    /// How many milliseconds writes took. They aren't the server's time.
-    writing: u64,
     reader: FrameReader,
     decoder: Decoder,
     pub seen: Seen,
@@ -113,7 +111,6 @@ impl<'a, V: Server> Talk<'a, V> {
             socket,
             pace,
             begun: server.now().ok_or(WireFault::ClockFailed)?,
-            writing: 0,
             reader: FrameReader::new(alloc),
             decoder: Decoder::new(alloc),
             seen: Seen::new(alloc),
@@ -250,26 +247,9 @@ impl<'a, V: Server> Talk<'a, V> {
         self.mute = true;
     }
 
-    /// Writes what was said, and notes how long that took.
-    fn flush_timed(&mut self) -> Result<(), WireFault> {
-        if self.written < self.sent.len() {
-            let begun = self.now()?;
-            self.flush();
-            let took = self.now()?.saturating_sub(begun);
-            self.writing = self.writing.saturating_add(took);
-        }
-        Ok(())
-    }
-
-    /// When the connection's time is up: the time that writes took is added, up to as much again.
-    fn limit(&self) -> u64 {
-        let writing = self.writing.min(self.pace.limit);
-        self.pace.limit.saturating_add(writing)
-    }
-
     /// Writes what was said, waits for a frame until then, and notes what it brings.
     pub fn hear(&mut self, until: u64) -> Result<Heard, WireFault> {
-        self.flush_timed()?;
+        self.flush();
         if self.heard >= MANY_FRAMES {
             self.seen.endless = true;
             return Ok(Heard::Silence);
@@ -313,7 +293,7 @@ impl<'a, V: Server> Talk<'a, V> {
     /// Reads what there is, or comes until then. A connection whose time is up is read no more.
     fn read(&mut self, until: u64) -> Result<Heard, WireFault> {
         let now = self.now()?;
-        let limit = self.limit();
+        let limit = self.pace.limit;
         if now >= limit {
             self.seen.endless = true;
             return Ok(Heard::Silence);

@@ -1,8 +1,5 @@
 -- Texts of options that may be given several times.
-use Rattle.std.proofs.Common.{◌≡◌, ◌∙◌, ◌++◌, ◌+◌, ◌<◌, ap, ap₂, sym, subst, refl, arith, List, ℕ, [], ◌∷◌, length, map, take, get_or, Bor, Option, Some, None}
-use Rattle.std.specs.List.{flat_map}
-use Rattle.std.proofs.lemmas.List.{append-nil, map-append, map_more}
-use Rattle.std.proofs.lemmas.List.Concat.{flat_map-append}
+use Rattle.std.proofs.Common.{◌≡◌, subst, refl, arith, List, [], ◌∷◌, length, map, Bor, Option, Some, None}
 use Rattle.clap.specs.Walk.{Text}
 use Rattle.words.specs.Case.{names_by}
 use Rattle.words.specs.Options.{some_texts}
@@ -29,13 +26,3 @@ pub too_many_names : (name : Text) (texts : List (Bor Text)) (all : List Text) �
 too_many_names name [] all same some = absurd (some refl)
 too_many_names name (text ∷ texts) all same some =
     subst (λ (x : List Text). ◌≡◌ {A = Option (List Text)} None (names_by (Some name) x)) same refl
-
--- the parts of one more text
-pub more_parts : (f : Text → List Text) (texts : List (Bor Text)) (i : ℕ) (d : Bor Text) (words parts : List (Bor Text)) → i < length texts
-    → nows words ≡ flat_map f (nows (take i texts)) → nows parts ≡ f (get_or texts i d).now
-    → nows (words ++ parts) ≡ flat_map f (nows (take (i + 1) texts))
-more_parts f texts i d words parts below before last =
-    map-append (λ text. text.now) words parts
-    ∙ (ap₂ (λ (x y : List Text). x ++ y) before (last ∙ sym (append-nil (f (get_or texts i d).now)))
-    ∙ (sym (flat_map-append f (nows (take i texts)) ((get_or texts i d).now ∷ []))
-    ∙ ap (flat_map f) (sym (map_more (λ text. text.now) texts i d below))))

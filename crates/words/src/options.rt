@@ -137,9 +137,10 @@ pub(crate) fn some_texts_of<'a>(
 {
     let texts = texts_of(alloc, options, name)?;
     if texts.is_empty() {
-        return Ok(None);
+        Ok(None)
+    } else {
+        Ok(Some(texts))
     }
-    Ok(Some(texts))
 }
 
 // Whether a flag was given.

@@ -117,9 +117,18 @@ fn command_of<'a>(
     ensures in_range { IfOk result (λ told. IfSome told IsInRange) }
 {
     match name {
-        "case" => Ok(trial_of(alloc, options)?.map(|told| Words::Case(told))),
-        "misbehave" => Ok(misbehaving_of(alloc, options)?.map(|told| Words::Misbehave(told))),
-        "wire" => Ok(wire_of(alloc, options)?.map(|told| Words::Wire(told))),
+        "case" => match trial_of(alloc, options)? {
+            Some(told) => Ok(Some(Words::Case(told))),
+            None => Ok(None),
+        },
+        "misbehave" => match misbehaving_of(alloc, options)? {
+            Some(told) => Ok(Some(Words::Misbehave(told))),
+            None => Ok(None),
+        },
+        "wire" => match wire_of(alloc, options)? {
+            Some(told) => Ok(Some(Words::Wire(told))),
+            None => Ok(None),
+        },
         _ => Ok(plain_command_of(name, options)),
     }
 }

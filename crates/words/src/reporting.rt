@@ -2,8 +2,8 @@
 //! their outcomes are told. `--json FILE`, `--junit FILE`, `--tap`, `--save DIR`, `--known FILE`, `--write-known FILE`, `--skip
 //! WORDS`, `--level LEVEL`, `--repeat N`, `--fail-fast`.
 
-ghost use Rattle.std.specs.Prelude.{◌≡◌, ◌==◌, ◌≤◌, false, IfOk, IfSome, map, option_map};
-ghost use Rattle.std.specs.List.{slice_split};
+ghost use Rattle.std.specs.Prelude.{◌≡◌, ◌==◌, ◌≤◌, ◌++◌, false, IfOk, IfSome, OnOk, map, option_map};
+ghost use Rattle.std.specs.List.{flat_map, slice_split};
 ghost use Rattle.clap.specs.Simple.{App};
 ghost use Rattle.clap.specs.Words.{found_of, rows_of};
 ghost use Rattle.words.specs.Options.{IsCommand, IsOption};
@@ -99,18 +99,34 @@ fn parts_of<'a>(alloc: Global, text: &'a str) -> Result<Vec<&'a str>, AllocError
     text.split(',').collect(alloc)
 }
 
+// Adds the parts of a text between commas.
+fn push_parts<'a>(alloc: Global, words: &mut Vec<&'a str>, text: &'a str) -> Result<(), AllocError>
+    ensures { OnOk result (map (λ word. word.now) words.new.items
+        ≡ map (λ word. word.now) words.old.items ++ slice_split (λ byte. byte == 44) text.now) }
+{
+    let parts = parts_of(alloc, text)?;
+    words.extend_from_slice(parts.as_slice())
+}
+
+// The parts of texts between commas.
+fn all_parts_of<'a>(alloc: Global, texts: &[&'a str]) -> Result<Vec<&'a str>, AllocError>
+    ensures { IfOk result (λ words. map (λ word. word.now) words.items
+        ≡ flat_map (λ text. slice_split (λ byte. byte == 44) text.now) texts.now) }
+{
+    let mut words = Vec::new(alloc);
+    for text in texts {
+        push_parts(alloc, &mut words, text)?;
+    }
+    Ok(words)
+}
+
 // The words that choose the cases that are left out.
 fn skipped_of<'a>(alloc: Global, options: &ArgMatches<'a>) -> Result<Vec<&'a str>, AllocError>
     ensures { IfOk result (λ words. map (λ word. word.now) words.items
         ≡ skipped_of (rows_of (found_of options.now))) }
 {
-    let mut words = Vec::new(alloc);
     let texts = texts_of(alloc, options, "skip")?;
-    for text in texts.as_slice() {
-        let parts = parts_of(alloc, text)?;
-        words.extend_from_slice(parts.as_slice())?;
-    }
-    Ok(words)
+    all_parts_of(alloc, texts.as_slice())
 }
 
 // The level, if one is named; nothing where its name is no level's.

@@ -246,7 +246,7 @@ a deadline passes behind a reply
 nothing comes of a call behind its deadline
   must RFC 9113, 5.1 (closed): \"MUST NOT send frames other than PRIORITY on a closed stream\"
   needs streams at least 16
-  rounds 6
+  rounds 16
   several 16 FullDuplexCall grpc-timeout=10m
   await failed 1
   quiet

@@ -41,7 +41,7 @@ GET is answered by 405
   want http 1 405
 
 scheme https
-  ours it is accepted, as a trusted gateway's (RFC 9110, 7.4: else it \"MUST be rejected\")
+  ours it is accepted, as a trusted gateway's (RFC 9110, 7.4; else it \"MUST be rejected\")
   headers 1 04 83 87 path:EmptyCall 01 str:localhost te=trailers content-type=application/grpc
   data 1 01 0000000000
   want status 1 0

@@ -1,18 +1,14 @@
-use Rattle.std.proofs.Common.{◌≡◌, ◌∙◌, ap, List}
-use Rattle.account.specs.Runs.{run}
-use Rattle.account.specs.declared.call.Account.{Account}
-use Rattle.account.specs.declared.call.CallEvent.{CallEvent}
-use Rattle.commands.specs.Body.{fault_at_end}
-use Rattle.commands.specs.Call.{account_of}
-use Rattle.commands.proofs.CallLemmas.{run_whole_call}
+use Rattle.std.proofs.Common.{◌≡◌, ◌∙◌, ◌++◌, ap, sym, List, ℕ, append_assoc, rules}
 use Rattle.commands.proofs.body.report_of.Goals as goal
 
-pub returns : goal.returns
-returns c =
-    let bytes = c.args.bytes.items in
-    let made : c.in_ok-account.account ≡ account_of bytes =
-    c.in_ok-account.ensures.run
-    ∙ (ap (λ (events : List CallEvent). run events) c.as_slice.ensures.value ∙ run_whole_call c.args.cut bytes c.in_ok-events.events.items c.in_ok-events.ensures) in
-    let taken = c.as_slice-2.ensures ∙ ap (λ (account : Account). account.taken) made in
-    let told = c.fault_told.ensures (fault_at_end bytes) (ap (λ (account : Account). account.told) made) in
-    rw (taken, told) at c.report.ensures
+pub pieces-preserved : goal.pieces-preserved
+pieces-preserved c =
+    let before = c.pieces.invariant in
+    let fed = before.0 in
+    let piece = c.split_at.result.0.now in
+    let behind = c.split_at.result.1.now in
+    let parts : c.pieces.rest.now ≡ piece ++ behind = search rules in (
+      fed ++ piece,
+      before.1 ∙ (ap (λ (b : List ℕ). fed ++ b) parts ∙ sym (append_assoc fed piece behind)),
+      c.in_ok-feed.ensures fed (before.2.0, before.2.1),
+    )

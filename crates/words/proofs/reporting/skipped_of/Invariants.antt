@@ -1,8 +1,0 @@
-use Rattle.std.proofs.Common.{◌≡◌, ◌==◌, map, take}
-use Rattle.std.specs.List.{flat_map, slice_split}
-use Rattle.words.proofs.reporting.skipped_of.Given as goal
-
-abbrev pub invariant-loop-text : goal.invariant-loop-text
-invariant-loop-text l =
-    map (λ word. word.now) l.words.items
-    ≡ flat_map (slice_split (λ byte. byte == 44)) (map (λ text. text.now) (take l.text-index l.texts.items))
