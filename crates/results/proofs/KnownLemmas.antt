@@ -12,7 +12,7 @@ use Rattle.results.specs.declared.known.Known.{Known}
 use Rattle.results.specs.declared.known.KnownFault.{KnownFault}
 use Rattle.results.specs.declared.known.KnownFault.TheVariants.{BadLine, OutOfMemory}
 
-contains_one : (x y : List ℕ) → Contains (x ∷ []) y → x ≡ y
+pub contains_one : (x y : List ℕ) → Contains (x ∷ []) y → x ≡ y
 contains_one x y (zero, lt, e) = e
 contains_one x y (suc k, lt, e) = absurd (omega arith)
 

@@ -3,10 +3,11 @@ use Rattle.std.specs.Prelude.{ℕ, ◌/◌, ◌%◌, ◌+◌, ◌&&◌, ◌||◌
 use Rattle.std.specs.Fmt.{decimal}
 use Rattle.std.specs.List.{flat_map}
 use Rattle.results.specs.Causes.{cause_of, details_of}
+use Rattle.results.specs.Outcomes.{titled}
 use Rattle.results.specs.Standings.{fails_the_run, standing_of}
 use Rattle.results.specs.Summaries.{same_verdict}
 use Rattle.results.specs.Words.{level_word, suite_word, verdict_word}
-use Rattle.results.specs.Xml.{attributes, element, empty_element, xml_text}
+use Rattle.results.specs.Xml.{declaration, element, empty_element, xml_text}
 use Rattle.results.specs.declared.known.Known.{Known}
 use Rattle.results.specs.declared.outcome.Outcome.{Outcome}
 use Rattle.results.specs.declared.standing.Standing.{Standing}
@@ -67,34 +68,49 @@ type_by Standing.Mended verdict = codes "no longer fails"
 type_by Standing.AsFound verdict = verdict_word verdict
 type_by Standing.Known verdict = verdict_word verdict
 
--- a failure, where it fails the run; else skipped
-abbrev pub inside : Outcome → List ℕ
-inside outcome =
-    if fails_the_run outcome
-    then element (codes "failure")
+-- one that fails the run, with why and what is known of it
+unfoldable pub failure : Outcome → List ℕ
+failure outcome =
+    element (codes "failure")
     ((codes "message", xml_text (message_of outcome)) ∷ (codes "type", type_by (standing_of outcome) outcome.verdict) ∷ [])
     (xml_text (details_of outcome))
-    else empty_element (codes "skipped") ((codes "message", xml_text (message_of outcome)) ∷ [])
+
+-- one that doesn't and isn't ok
+unfoldable pub skipped : Outcome → List ℕ
+skipped outcome =
+    empty_element (codes "skipped") ((codes "message", xml_text (message_of outcome)) ∷ [])
     ++ element (codes "system-out") [] (xml_text (details_of outcome))
+
+abbrev pub inside : Outcome → List ℕ
+inside outcome = if fails_the_run outcome then failure outcome else skipped outcome
 
 abbrev pub case_attributes : Outcome → List (List ℕ × List ℕ)
 case_attributes outcome =
     (codes "classname", suite_word outcome.suite)
-    ∷ (codes "name", xml_text (string_bytes outcome.name))
+    ∷ (codes "name", xml_text (titled outcome))
     ∷ (codes "time", seconds outcome.milliseconds)
     ∷ []
 
 -- a case; one that is ok has nothing inside
-abbrev pub case_text : Outcome → List ℕ
-case_text outcome =
-    (if is_told outcome
+abbrev pub case_element : Outcome → List ℕ
+case_element outcome =
+    if is_told outcome
     then element (codes "testcase") (case_attributes outcome) (inside outcome)
-    else empty_element (codes "testcase") (case_attributes outcome)) ++ codes "\n"
+    else empty_element (codes "testcase") (case_attributes outcome)
 
--- the document: all suites, with one of them, which has a case for each outcome
+unfoldable pub case_line : Outcome → List ℕ
+case_line outcome = case_element outcome ++ codes "\n"
+
+-- a suite has a case for each outcome
+unfoldable pub suite_element : Suite → List Outcome → ℕ → List ℕ
+suite_element suite outcomes milliseconds =
+    element (codes "testsuite") (counts suite outcomes milliseconds) (codes "\n" ++ flat_map case_line outcomes)
+
+-- all suites, of which there is one
+unfoldable pub suites_element : Suite → List Outcome → ℕ → List ℕ
+suites_element suite outcomes milliseconds =
+    element (codes "testsuites") (counts suite outcomes milliseconds)
+    (codes "\n" ++ suite_element suite outcomes milliseconds ++ codes "\n")
+
 abbrev pub document : Suite → List Outcome → ℕ → List ℕ
-document suite outcomes milliseconds =
-    codes "<?xml version=\"1.0\" encoding=\"UTF-8\"?>\n"
-    ++ element (codes "testsuites") (counts suite outcomes milliseconds)
-    (codes "\n" ++ element (codes "testsuite") (counts suite outcomes milliseconds) (codes "\n" ++ flat_map case_text outcomes) ++ codes "\n")
-    ++ codes "\n"
+document suite outcomes milliseconds = declaration ++ suites_element suite outcomes milliseconds ++ codes "\n"

@@ -1,19 +1,15 @@
--- The list of known failures, as it is read and written.
-use Rattle.std.specs.Prelude.{◌≡◌, ◌≢◌, ⊤, ℕ, ◌==◌, ◌+◌, Bool, true, false, List, [], ◌∷◌, ◌++◌, Option, Some, None, if◌then◌else◌, codes, length, not, slice_index, option_map, string_bytes, Contains}
+-- The list of known failures, as it is read.
+use Rattle.std.specs.Prelude.{◌≡◌, ◌≢◌, ⊤, ℕ, ◌==◌, ◌+◌, Bool, true, false, List, [], ◌∷◌, ◌++◌, Option, Some, None, if◌then◌else◌, codes, length, not, slice_index, string_bytes, Contains}
 use Rattle.std.specs.Borrow.{Bor}
-use Rattle.std.specs.List.{after_first, before_first, filter_map, flat_map, list_any}
+use Rattle.std.specs.List.{after_first, before_first, filter_map, list_any}
 use Rattle.std.specs.Str.{trim}
 use Rattle.std.specs.Str.{bytes_eq}
 use Rattle.std.specs.Str.Lines.{lines}
-use Rattle.results.specs.Causes.{cause_of}
 use Rattle.results.specs.declared.known.Known.{Known}
 use Rattle.results.specs.declared.known.KnownFault.{KnownFault}
 use Rattle.results.specs.declared.known.KnownFault.TheVariants as fault
 use Rattle.results.specs.declared.known.KnownReason.{KnownReason}
 use Rattle.results.specs.declared.known.Said.{Said}
-use Rattle.results.specs.declared.outcome.Outcome.{Outcome}
-use Rattle.results.specs.declared.words.Suite.{Suite}
-use Rattle.results.specs.declared.words.Verdict.{Verdict}
 
 -- a case that may fail: its name, why, and whether it may pass too
 pub record Entry : Type 0 where
@@ -106,42 +102,3 @@ has_name name known = bytes_eq (string_bytes known.name) name
 -- a known failure whose name is none of these
 abbrev pub is_stray : List (Bor (List ℕ)) → Known → Bool
 is_stray all known = not (list_any (λ name. bytes_eq name.now (string_bytes known.name)) all)
-
--- whether a case may pass too, if it may fail by what was known and what came of it
-abbrev pub new_listing : Suite → Verdict → Option Bool
-new_listing suite Verdict.Failed = Some false
-new_listing suite Verdict.Unsteady = Some true
-new_listing Suite.Misbehave Verdict.NotTested = Some false
-new_listing suite verdict = None
-
-abbrev pub listing : Option Known → Suite → Verdict → Option Bool
-listing None suite verdict = new_listing suite verdict
-listing (Some known) suite verdict = if known.is_unsteady then Some true else new_listing suite verdict
-
--- the reason of one that is known stays
-abbrev pub reason_of : Outcome → Option Known → List ℕ
-reason_of outcome None = cause_of outcome
-reason_of outcome (Some known) = string_bytes known.reason
-
-abbrev pub listed : Outcome → Option Entry
-listed outcome =
-    option_map (λ is_unsteady. record {
-      name = string_bytes outcome.name;
-      reason = reason_of outcome outcome.known;
-      is_unsteady = is_unsteady;
-    }) (listing outcome.known outcome.suite outcome.verdict)
-
--- `NAME  REASON`, or `NAME  sometimes REASON`
-abbrev pub line_by : List ℕ → Bool → List ℕ → List ℕ
-line_by name is_unsteady reason =
-    name ++ codes "  " ++ (if is_unsteady then codes "sometimes " else []) ++ reason ++ 10 ∷ []
-
-abbrev pub line_of : Option Entry → List ℕ
-line_of None = []
-line_of (Some told) = line_by told.name told.is_unsteady told.reason
-
-abbrev pub listed_text : Outcome → List ℕ
-listed_text outcome = line_of (listed outcome)
-
-abbrev pub list_text : List Outcome → List ℕ
-list_text outcomes = flat_map listed_text outcomes

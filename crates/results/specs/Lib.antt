@@ -5,6 +5,7 @@ pub mod Junit
 pub mod KnownList
 pub mod Outcomes
 pub mod Patterns
+pub mod Renewals
 pub mod Standings
 pub mod Summaries
 pub mod Tap

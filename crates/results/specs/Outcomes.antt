@@ -1,5 +1,5 @@
--- An outcome of which nothing is known but its verdict.
-use Rattle.std.specs.Prelude.{◌≡◌, List, [], ℕ, None, string_bytes}
+-- An outcome of which nothing is known but its verdict, and a case's name with its title.
+use Rattle.std.specs.Prelude.{◌≡◌, List, [], ◌++◌, ℕ, Option, None, Some, codes, option_map, string_bytes}
 use Rattle.results.specs.declared.outcome.Outcome.{Outcome}
 use Rattle.results.specs.declared.words.Suite.{Suite}
 use Rattle.results.specs.declared.words.Verdict.{Verdict}
@@ -25,3 +25,12 @@ pub record IsBare (kind : Suite) (text : List ℕ) (ending : Verdict) (outcome :
   pub read_count : outcome.read_count ≡ None
   pub frames : outcome.frames.items ≡ []
   pub known : outcome.known ≡ None
+
+-- ` TITLE`, where there is one
+abbrev pub title_note : Option (List ℕ) → List ℕ
+title_note None = []
+title_note (Some title) = codes " " ++ title
+
+-- the name that a command line has, and what the case is about: `grpc/4 END_STREAM on HEADERS`
+abbrev pub titled : Outcome → List ℕ
+titled outcome = string_bytes outcome.name ++ title_note (option_map string_bytes outcome.title)

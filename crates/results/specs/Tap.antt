@@ -6,6 +6,7 @@ use Rattle.std.specs.Str.{chars}
 use Rattle.serde_json.specs.Data.{string}
 use Rattle.serde_json.specs.Written.{compact_text}
 use Rattle.results.specs.Causes.{cause_of}
+use Rattle.results.specs.Outcomes.{titled}
 use Rattle.results.specs.Standings.{fails_the_run, standing_of}
 use Rattle.results.specs.Words.{level_word, suite_word, verdict_word}
 use Rattle.results.specs.declared.known.Known.{Known}
@@ -67,7 +68,7 @@ directive Point.Skips outcome = codes " # SKIP " ++ escaped (why outcome)
 directive Point.Todo outcome = codes " # TODO " ++ escaped (why outcome)
 
 -- a line of a block, where there is a text for it: a text of JSON, which is one of YAML 1.2
-abbrev pub entry : List ℕ → Option (List ℕ) → List ℕ
+unfoldable pub entry : List ℕ → Option (List ℕ) → List ℕ
 entry name None = []
 entry name (Some text) = codes "  " ++ name ++ codes ": " ++ compact_text (string text) ++ 10 ∷ []
 
@@ -76,13 +77,13 @@ verdict_note Standing.Mended verdict = codes "no longer fails: take it off the l
 verdict_note Standing.AsFound verdict = verdict_word verdict
 verdict_note Standing.Known verdict = verdict_word verdict
 
-abbrev pub rule_entries : Option Rule → List ℕ
+unfoldable pub rule_entries : Option Rule → List ℕ
 rule_entries None = []
 rule_entries (Some rule) =
     entry (codes "rule") (Some (string_bytes rule.place)) ++ entry (codes "sentence") (option_map string_bytes rule.sentence)
 
 -- what stands after a test point that isn't ok: a block of YAML, indented by two blanks
-abbrev pub yaml_block : Outcome → List ℕ
+unfoldable pub yaml_block : Outcome → List ℕ
 yaml_block outcome =
     codes "  ---\n"
     ++ entry (codes "verdict") (Some (verdict_note (standing_of outcome) outcome.verdict))
@@ -99,9 +100,13 @@ block_of Point.Skips outcome = []
 block_of Point.Fails outcome = yaml_block outcome
 block_of Point.Todo outcome = yaml_block outcome
 
--- a test point, with a directive where it isn't to count: `not ok 3 - wire grpc/4`
+-- the line of a test point, with a directive where it isn't to count: `not ok 3 - wire grpc/4 END_STREAM on HEADERS`
+unfoldable pub point_line : ℕ → Point → Outcome → List ℕ
+point_line number how outcome =
+    status how ++ codes " " ++ decimal number ++ codes " - " ++ suite_word outcome.suite ++ codes " "
+    ++ escaped (titled outcome) ++ directive how outcome ++ codes "\n"
+
+-- a test point, and what stands after it
 abbrev pub point_text : ℕ → Outcome → List ℕ
 point_text number outcome =
-    status (point_of outcome) ++ codes " " ++ decimal number ++ codes " - " ++ suite_word outcome.suite ++ codes " "
-    ++ escaped (string_bytes outcome.name) ++ directive (point_of outcome) outcome ++ codes "\n"
-    ++ block_of (point_of outcome) outcome
+    point_line number (point_of outcome) outcome ++ block_of (point_of outcome) outcome

@@ -26,14 +26,28 @@ char_text c =
 abbrev pub xml_text : List ℕ → List ℕ
 xml_text text = flat_map char_text (chars text)
 
--- attributes with their values as they are written: ` NAME="VALUE"` for each (section 3.1)
+-- what a document begins with (section 2.8)
+unfoldable pub declaration : List ℕ
+declaration = codes "<?xml version=\"1.0\" encoding=\"UTF-8\"?>\n"
+
+-- how an element begins, up to its attributes: `<NAME` (section 3.1)
+unfoldable pub open_tag : List ℕ → List ℕ
+open_tag name = codes "<" ++ name
+
+-- an attribute with its value as it is written: ` NAME="VALUE"` (section 3.1)
+unfoldable pub attribute : List ℕ → List ℕ → List ℕ
+attribute name value = codes " " ++ name ++ codes "=\"" ++ value ++ codes "\""
+
 abbrev pub attributes : List (List ℕ × List ℕ) → List ℕ
-attributes all = flat_map (λ (each : List ℕ × List ℕ). codes " " ++ each.0 ++ codes "=\"" ++ each.1 ++ codes "\"") all
+attributes all = flat_map (λ (each : List ℕ × List ℕ). attribute each.0 each.1) all
+
+-- how an element ends that has content: `</NAME>` (section 3.1)
+unfoldable pub end_tag : List ℕ → List ℕ
+end_tag name = codes "</" ++ name ++ codes ">"
 
 -- an element with content, and one without (section 3.1)
 abbrev pub element : List ℕ → List (List ℕ × List ℕ) → List ℕ → List ℕ
-element name all content =
-    codes "<" ++ name ++ attributes all ++ codes ">" ++ content ++ codes "</" ++ name ++ codes ">"
+element name all content = open_tag name ++ attributes all ++ codes ">" ++ content ++ end_tag name
 
 abbrev pub empty_element : List ℕ → List (List ℕ × List ℕ) → List ℕ
-empty_element name all = codes "<" ++ name ++ attributes all ++ codes "/>"
+empty_element name all = open_tag name ++ attributes all ++ codes "/>"

@@ -5,15 +5,15 @@
 ghost use Rattle.std.specs.Prelude.{◌≡◌, ◌++◌, IfOk, OnOk, count_by, string_bytes};
 ghost use Rattle.std.specs.List.{flat_map};
 ghost use Rattle.results.specs.Causes.{details_of};
-ghost use Rattle.results.specs.Junit.{case_attributes, case_text, counts, document, inside, is_skipped, is_told, known_message, level_note, message_of, plain_message, seconds, type_by};
+ghost use Rattle.results.specs.Junit.{case_attributes, case_element, case_line, counts, document, failure, inside, is_skipped, is_told, known_message, level_note, message_of, plain_message, seconds, skipped, suite_element, suites_element, type_by};
 ghost use Rattle.results.specs.Standings.{standing_of};
 ghost use Rattle.results.specs.Xml.{attributes, xml_text};
 
 use crate::cause::{cause_text, push_details};
-use crate::outcome::Outcome;
+use crate::outcome::{Outcome, titled};
 use crate::standing::{Standing, failure_count};
 use crate::words::{Level, Suite, Verdict};
-use crate::xml::escaped;
+use crate::xml::{escaped, push_attribute, push_declaration, push_end, push_number, push_open};
 use std::alloc::{AllocError, Global};
 
 /// A number of milliseconds as seconds with three places.
@@ -52,24 +52,24 @@ fn skipped_count(outcomes: &[Outcome]) -> usize
         .count()
 }
 
-/// The attributes of a suite, or of all.
-fn counts_text(
+/// Adds the attributes of a suite, or of all.
+fn push_counts(
     alloc: Global,
+    xml: &mut String,
     suite: Suite,
     outcomes: &[Outcome],
     milliseconds: u64,
-) -> Result<String, AllocError>
-    ensures { IfOk result (λ text. string_bytes text
-        ≡ attributes (counts suite outcomes.now milliseconds)) }
+) -> Result<(), AllocError>
+    ensures { OnOk result (string_bytes xml.new
+        ≡ string_bytes xml.old ++ attributes (counts suite outcomes.now milliseconds)) }
 {
-    let name = suite.name();
-    let tests = outcomes.len();
-    let failures = failure_count(outcomes);
-    let skipped = skipped_count(outcomes);
     let time = seconds(alloc, milliseconds)?;
-    format!(in alloc;
-        " name=\"{name}\" tests=\"{tests}\" failures=\"{failures}\" skipped=\"{skipped}\" errors=\"0\" time=\"{time}\""
-    )
+    push_attribute(xml, "name", suite.name())?;
+    push_number(xml, "tests", outcomes.len())?;
+    push_number(xml, "failures", failure_count(outcomes))?;
+    push_number(xml, "skipped", skipped_count(outcomes))?;
+    push_attribute(xml, "errors", "0")?;
+    push_attribute(xml, "time", time.as_str())
 }
 
 /// A level in parentheses, if there is one.
@@ -144,53 +144,142 @@ fn details_text(alloc: Global, outcome: &Outcome) -> Result<String, AllocError>
     escaped(alloc, details.as_str())
 }
 
-/// What is inside of a case that isn't simply ok.
-fn inside_text(alloc: Global, outcome: &Outcome) -> Result<String, AllocError>
-    ensures { IfOk result (λ text. string_bytes text ≡ inside outcome.now) }
+/// What is said of an outcome, as XML has it.
+fn message_text(alloc: Global, outcome: &Outcome) -> Result<String, AllocError>
+    ensures { IfOk result (λ text. string_bytes text ≡ xml_text (message_of outcome.now)) }
 {
-    let told = message_of(alloc, outcome)?;
-    let message = escaped(alloc, told.as_str())?;
+    let message = message_of(alloc, outcome)?;
+    escaped(alloc, message.as_str())
+}
+
+/// Adds the failure of an outcome that fails the run.
+#[tactic(auto, unfolding(crate::specs::Junit::failure))]
+fn push_failure(alloc: Global, xml: &mut String, outcome: &Outcome) -> Result<(), AllocError>
+    ensures { OnOk result (string_bytes xml.new ≡ string_bytes xml.old ++ failure outcome.now) }
+{
+    let message = message_text(alloc, outcome)?;
     let details = details_text(alloc, outcome)?;
+    push_open(xml, "failure")?;
+    push_attribute(xml, "message", message.as_str())?;
+    push_attribute(xml, "type", failure_type(outcome))?;
+    xml.push_str(">")?;
+    xml.push_str(details.as_str())?;
+    push_end(xml, "failure")
+}
+
+/// Adds what is said of an outcome that is skipped.
+#[tactic(auto, unfolding(crate::specs::Junit::skipped))]
+fn push_skipped(alloc: Global, xml: &mut String, outcome: &Outcome) -> Result<(), AllocError>
+    ensures { OnOk result (string_bytes xml.new ≡ string_bytes xml.old ++ skipped outcome.now) }
+{
+    let message = message_text(alloc, outcome)?;
+    let details = details_text(alloc, outcome)?;
+    push_open(xml, "skipped")?;
+    push_attribute(xml, "message", message.as_str())?;
+    xml.push_str("/>")?;
+    push_open(xml, "system-out")?;
+    xml.push_str(">")?;
+    xml.push_str(details.as_str())?;
+    push_end(xml, "system-out")
+}
+
+/// Adds what is inside of a case.
+fn push_inside(alloc: Global, xml: &mut String, outcome: &Outcome) -> Result<(), AllocError>
+    ensures { OnOk result (string_bytes xml.new ≡ string_bytes xml.old ++ inside outcome.now) }
+{
     if outcome.fails_the_run() {
-        let kind = failure_type(outcome);
-        format!(in alloc; "<failure message=\"{message}\" type=\"{kind}\">{details}</failure>")
+        push_failure(alloc, xml, outcome)
     } else {
-        format!(in alloc; "<skipped message=\"{message}\"/><system-out>{details}</system-out>")
+        push_skipped(alloc, xml, outcome)
     }
 }
 
-/// The attributes of a case.
-fn case_attributes(alloc: Global, outcome: &Outcome) -> Result<String, AllocError>
-    ensures { IfOk result (λ text. string_bytes text ≡ attributes (case_attributes outcome.now)) }
+/// Adds the attributes of a case.
+fn push_attributes(alloc: Global, xml: &mut String, outcome: &Outcome) -> Result<(), AllocError>
+    ensures { OnOk result (string_bytes xml.new
+        ≡ string_bytes xml.old ++ attributes (case_attributes outcome.now)) }
 {
-    let suite = outcome.suite.name();
-    let name = escaped(alloc, outcome.name.as_str())?;
+    let titled = titled(alloc, outcome)?;
+    let name = escaped(alloc, titled.as_str())?;
     let time = seconds(alloc, outcome.milliseconds)?;
-    format!(in alloc; " classname=\"{suite}\" name=\"{name}\" time=\"{time}\"")
+    push_attribute(xml, "classname", outcome.suite.name())?;
+    push_attribute(xml, "name", name.as_str())?;
+    push_attribute(xml, "time", time.as_str())
 }
 
-/// Adds a case.
+/// Adds a case, without the end of its line.
 fn push_case(alloc: Global, xml: &mut String, outcome: &Outcome) -> Result<(), AllocError>
-    ensures { OnOk result (string_bytes xml.new ≡ string_bytes xml.old ++ case_text outcome.now) }
+    ensures { OnOk result (string_bytes xml.new
+        ≡ string_bytes xml.old ++ case_element outcome.now) }
 {
-    let attributes = case_attributes(alloc, outcome)?;
+    push_open(xml, "testcase")?;
+    push_attributes(alloc, xml, outcome)?;
     if is_told(outcome) {
-        let inside = inside_text(alloc, outcome)?;
-        writeln!(xml, "<testcase{attributes}>{inside}</testcase>")
+        xml.push_str(">")?;
+        push_inside(alloc, xml, outcome)?;
+        push_end(xml, "testcase")
     } else {
-        writeln!(xml, "<testcase{attributes}/>")
+        xml.push_str("/>")
     }
 }
 
-/// The cases of a suite.
-fn cases_text(alloc: Global, outcomes: &[Outcome]) -> Result<String, AllocError>
-    ensures { IfOk result (λ text. string_bytes text ≡ flat_map case_text outcomes.now) }
+/// Adds a case with the end of its line.
+#[tactic(auto, unfolding(crate::specs::Junit::case_line))]
+fn push_line(alloc: Global, xml: &mut String, outcome: &Outcome) -> Result<(), AllocError>
+    ensures { OnOk result (string_bytes xml.new ≡ string_bytes xml.old ++ case_line outcome.now) }
 {
-    let mut xml = String::new(alloc);
+    push_case(alloc, xml, outcome)?;
+    xml.push_str("\n")
+}
+
+/// Adds the cases of a suite, a line each.
+fn push_cases(alloc: Global, xml: &mut String, outcomes: &[Outcome]) -> Result<(), AllocError>
+    ensures { OnOk result (string_bytes xml.new
+        ≡ string_bytes xml.old ++ flat_map case_line outcomes.now) }
+{
     for outcome in outcomes {
-        push_case(alloc, &mut xml, outcome)?;
+        push_line(alloc, xml, outcome)?;
     }
-    Ok(xml)
+    Ok(())
+}
+
+/// Adds a suite, which has a case for each outcome.
+#[tactic(auto, unfolding(crate::specs::Junit::suite_element))]
+fn push_suite(
+    alloc: Global,
+    xml: &mut String,
+    suite: Suite,
+    outcomes: &[Outcome],
+    milliseconds: u64,
+) -> Result<(), AllocError>
+    ensures { OnOk result (string_bytes xml.new
+        ≡ string_bytes xml.old ++ suite_element suite outcomes.now milliseconds) }
+{
+    push_open(xml, "testsuite")?;
+    push_counts(alloc, xml, suite, outcomes, milliseconds)?;
+    xml.push_str(">\n")?;
+    push_cases(alloc, xml, outcomes)?;
+    push_end(xml, "testsuite")
+}
+
+/// Adds all suites, of which there is one.
+#[tactic(auto, unfolding(crate::specs::Junit::suites_element))]
+fn push_suites(
+    alloc: Global,
+    xml: &mut String,
+    suite: Suite,
+    outcomes: &[Outcome],
+    milliseconds: u64,
+) -> Result<(), AllocError>
+    ensures { OnOk result (string_bytes xml.new
+        ≡ string_bytes xml.old ++ suites_element suite outcomes.now milliseconds) }
+{
+    push_open(xml, "testsuites")?;
+    push_counts(alloc, xml, suite, outcomes, milliseconds)?;
+    xml.push_str(">\n")?;
+    push_suite(alloc, xml, suite, outcomes, milliseconds)?;
+    xml.push_str("\n")?;
+    push_end(xml, "testsuites")
 }
 
 /// Adds a document with the outcomes of a run, which took so many milliseconds.
@@ -204,11 +293,7 @@ pub fn push_junit(
     ensures { OnOk result (string_bytes xml.new
         ≡ string_bytes xml.old ++ document suite outcomes.now milliseconds) }
 {
-    let counts = counts_text(alloc, suite, outcomes, milliseconds)?;
-    let cases = cases_text(alloc, outcomes)?;
-    xml.push_str("<?xml version=\"1.0\" encoding=\"UTF-8\"?>\n")?;
-    write!(
-        xml,
-        "<testsuites{counts}>\n<testsuite{counts}>\n{cases}</testsuite>\n</testsuites>\n"
-    )
+    push_declaration(xml)?;
+    push_suites(alloc, xml, suite, outcomes, milliseconds)?;
+    xml.push_str("\n")
 }

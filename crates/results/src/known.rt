@@ -6,12 +6,9 @@
 ghost use Rattle.std.specs.Prelude.{◌≡◌, ◌==◌, [], ◌∷◌, ◌++◌, IfErr, IfOk, IfNone, IfSome, OnOk, find, map, option_map, string_bytes};
 ghost use Rattle.std.specs.List.{after_first, before_first};
 ghost use Rattle.std.specs.Str.Lines.{lines};
-ghost use Rattle.results.specs.KnownList.{AreGood, Explains, IsFaultOf, IsRightAfter, IsWrongAfter, after_word, entries, entry, entry_by, entry_of, first_word, has_name, is_stray, line_by, list_text, listed_text, listing, reason_of, said};
+ghost use Rattle.results.specs.KnownList.{AreGood, Explains, IsFaultOf, IsRightAfter, IsWrongAfter, after_word, entries, entry, entry_by, entry_of, first_word, has_name, is_stray, said};
 ghost use Rattle.results.specs.declared.known.KnownFault.TheVariants.{OutOfMemory};
 
-use crate::cause::cause_text;
-use crate::outcome::Outcome;
-use crate::words::{Suite, Verdict};
 use std::alloc::{AllocError, AllocFailed, Global};
 use std::fmt;
 
@@ -260,70 +257,4 @@ impl Known {
             is_unsteady: self.is_unsteady,
         })
     }
-}
-
-/// Adds a line of the list.
-pub(crate) fn push_line(
-    text: &mut String,
-    name: &str,
-    is_unsteady: bool,
-    reason: &str,
-) -> Result<(), AllocError>
-    ensures { OnOk result (string_bytes text.new
-        ≡ string_bytes text.old ++ line_by name.now is_unsteady reason.now) }
-{
-    let sometimes = if is_unsteady { "sometimes " } else { "" };
-    writeln!(text, "{name}  {sometimes}{reason}")
-}
-
-/// Whether a case may pass too, if it may fail by what was known and what came of it.
-pub(crate) fn listing(outcome: &Outcome) -> Option<bool>
-    ensures { result ≡ listing outcome.now.known outcome.now.suite outcome.now.verdict }
-{
-    if let Some(known) = &outcome.known {
-        if known.is_unsteady {
-            return Some(true);
-        }
-    }
-    match (outcome.suite, outcome.verdict) {
-        (_, Verdict::Failed) => Some(false),
-        (_, Verdict::Unsteady) => Some(true),
-        (Suite::Misbehave, Verdict::NotTested) => Some(false),
-        _ => None,
-    }
-}
-
-/// Why a case may fail: the reason of one that is known stays.
-pub(crate) fn reason_of(alloc: Global, outcome: &Outcome) -> Result<String, AllocError>
-    ensures { IfOk result (λ reason. string_bytes reason
-        ≡ reason_of outcome.now outcome.now.known) }
-{
-    match &outcome.known {
-        Some(known) => String::from_str(alloc, known.reason.as_str()),
-        None => cause_text(alloc, outcome),
-    }
-}
-
-/// Adds the line of an outcome, where it belongs on the list.
-fn push_listed(alloc: Global, text: &mut String, outcome: &Outcome) -> Result<(), AllocError>
-    ensures { OnOk result (string_bytes text.new
-        ≡ string_bytes text.old ++ listed_text outcome.now) }
-{
-    let Some(is_unsteady) = listing(outcome) else {
-        return Ok(());
-    };
-    let reason = reason_of(alloc, outcome)?;
-    push_line(text, outcome.name.as_str(), is_unsteady, reason.as_str())
-}
-
-/// The list of the cases that failed or are unsteady, in their order. The reason of one that is known stays; that of another
-/// is why it failed.
-pub fn write_known(alloc: Global, outcomes: &[Outcome]) -> Result<String, AllocError>
-    ensures { IfOk result (λ text. string_bytes text ≡ list_text outcomes.now) }
-{
-    let mut text = String::new(alloc);
-    for outcome in outcomes {
-        push_listed(alloc, &mut text, outcome)?;
-    }
-    Ok(text)
 }

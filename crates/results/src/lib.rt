@@ -28,7 +28,7 @@ pub use cause::{push_cause, push_details};
 pub use choice::{Choice, ChoiceFault, Entry, chosen};
 pub use json::{json_line, json_summary};
 pub use junit::push_junit;
-pub use known::{Known, KnownFault, KnownReason, known_named, read_known, stray, write_known};
+pub use known::{Known, KnownFault, KnownReason, known_named, read_known, stray};
 pub use outcome::{Outcome, Rule};
 pub use pattern::is_match;
 pub use renewal::renewed;

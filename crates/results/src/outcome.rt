@@ -1,7 +1,7 @@
 //! What came of a case.
 
-ghost use Rattle.std.specs.Prelude.{◌≡◌, IfOk, option_map, string_bytes};
-ghost use Rattle.results.specs.Outcomes.{IsBare};
+ghost use Rattle.std.specs.Prelude.{◌≡◌, ◌++◌, IfOk, OnOk, option_map, string_bytes};
+ghost use Rattle.results.specs.Outcomes.{IsBare, title_note, titled};
 
 use crate::known::Known;
 use crate::words::{Level, Suite, Verdict};
@@ -94,4 +94,27 @@ pub(crate) fn shown(text: &Option<String>) -> Option<&str>
         Some(text) => Some(text.as_str()),
         None => None,
     }
+}
+
+/// Adds a space and a title, where there is one.
+fn push_title(text: &mut String, title: &Option<String>) -> Result<(), AllocError>
+    ensures { OnOk result (string_bytes text.new
+        ≡ string_bytes text.old ++ title_note (option_map string_bytes title.now)) }
+{
+    match title {
+        Some(title) => {
+            text.push_str(" ")?;
+            text.push_str(title.as_str())
+        }
+        None => Ok(()),
+    }
+}
+
+/// The name of a case, and its title after it where it has one.
+pub(crate) fn titled(alloc: Global, outcome: &Outcome) -> Result<String, AllocError>
+    ensures { IfOk result (λ text. string_bytes text ≡ titled outcome.now) }
+{
+    let mut text = String::from_str(alloc, outcome.name.as_str())?;
+    push_title(&mut text, &outcome.title)?;
+    Ok(text)
 }

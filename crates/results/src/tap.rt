@@ -2,16 +2,16 @@
 //!
 //! A test point is `not ok` without a directive exactly where the case fails the run, so that a harness and the exit status agree.
 
-ghost use Rattle.std.specs.Prelude.{◌≡◌, ◌++◌, [], ◌∷◌, IfOk, OnOk, codes, option_map, string_bytes};
+ghost use Rattle.std.specs.Prelude.{◌≡◌, ◌++◌, [], ◌∷◌, IfOk, OnOk, Some, codes, option_map, string_bytes};
 ghost use Rattle.std.specs.Fmt.{decimal};
 ghost use Rattle.std.specs.List.{flat_map};
 ghost use Rattle.serde_json.specs.Data.{string};
 ghost use Rattle.serde_json.specs.Written.{compact_text};
-ghost use Rattle.results.specs.Tap.{block_of, char_text, directive, entry, escaped, known_why, plain_why, point_of, point_text, rule_entries, status, verdict_note, why, yaml_block};
+ghost use Rattle.results.specs.Tap.{block_of, char_text, directive, entry, escaped, known_why, plain_why, point_line, point_of, point_text, rule_entries, status, verdict_note, why, yaml_block};
 ghost use Rattle.results.specs.Standings.{standing_of};
 
 use crate::cause::cause_text;
-use crate::outcome::{Outcome, Rule, shown};
+use crate::outcome::{Outcome, Rule, shown, titled};
 use crate::standing::Standing;
 use crate::words::{Verdict, level_word};
 use serde_json::Value;
@@ -152,28 +152,44 @@ fn quoted(alloc: Global, text: &str) -> Result<String, AllocError>
     value.to_string(alloc)
 }
 
-/// A line of a block, where there is a text for it. A text of JSON is one of YAML.
-fn entry(alloc: Global, name: &str, text: Option<&str>) -> Result<String, AllocError>
-    ensures { IfOk result (λ line. string_bytes line
-        ≡ entry name.now (option_map (λ shown. shown.now) text.entry)) }
+/// Adds a line with a name and a text. A text of JSON is one of YAML.
+#[tactic(auto, unfolding(crate::specs::Tap::entry))]
+fn push_some(alloc: Global, block: &mut String, name: &str, text: &str) -> Result<(), AllocError>
+    ensures { OnOk result (string_bytes block.new
+        ≡ string_bytes block.old ++ entry name.now (Some text.now)) }
 {
-    let Some(text) = text else {
-        return Ok(String::new(alloc));
-    };
     let json = quoted(alloc, text)?;
-    format!(in alloc; "  {name}: {json}\n")
+    writeln!(block, "  {name}: {json}")
 }
 
-/// The lines of a rule, if there is one.
-fn rule_entries(alloc: Global, rule: &Option<Rule>) -> Result<String, AllocError>
-    ensures { IfOk result (λ lines. string_bytes lines ≡ rule_entries rule.now) }
+/// Adds a line of a block, where there is a text for it.
+#[tactic(auto, unfolding(crate::specs::Tap::entry))]
+fn push_entry(
+    alloc: Global,
+    block: &mut String,
+    name: &str,
+    text: Option<&str>,
+) -> Result<(), AllocError>
+    ensures { OnOk result (string_bytes block.new
+        ≡ string_bytes block.old ++ entry name.now (option_map (λ shown. shown.now) text.entry)) }
+{
+    match text {
+        Some(text) => push_some(alloc, block, name, text),
+        None => Ok(()),
+    }
+}
+
+/// Adds the lines of a rule, if there is one.
+#[tactic(auto, unfolding(crate::specs::Tap::rule_entries))]
+fn push_rule(alloc: Global, block: &mut String, rule: &Option<Rule>) -> Result<(), AllocError>
+    ensures { OnOk result (string_bytes block.new
+        ≡ string_bytes block.old ++ rule_entries rule.now) }
 {
     let Some(rule) = rule else {
-        return Ok(String::new(alloc));
+        return Ok(());
     };
-    let place = entry(alloc, "rule", Some(rule.place.as_str()))?;
-    let sentence = entry(alloc, "sentence", shown(&rule.sentence))?;
-    format!(in alloc; "{place}{sentence}")
+    push_some(alloc, block, "rule", rule.place.as_str())?;
+    push_entry(alloc, block, "sentence", shown(&rule.sentence))
 }
 
 /// What a block says of the verdict.
@@ -186,27 +202,60 @@ fn verdict_note(outcome: &Outcome) -> &'static str
     }
 }
 
-/// The block of a test point that isn't ok.
-fn yaml_block(alloc: Global, outcome: &Outcome) -> Result<String, AllocError>
-    ensures { IfOk result (λ block. string_bytes block ≡ yaml_block outcome.now) }
+/// Adds the block of a test point that isn't ok.
+#[tactic(auto, unfolding(crate::specs::Tap::yaml_block))]
+fn push_block(alloc: Global, text: &mut String, outcome: &Outcome) -> Result<(), AllocError>
+    ensures { OnOk result (string_bytes text.new
+        ≡ string_bytes text.old ++ yaml_block outcome.now) }
 {
-    let verdict = entry(alloc, "verdict", Some(verdict_note(outcome)))?;
-    let level = entry(alloc, "level", level_word(outcome.level))?;
-    let wanted = entry(alloc, "wanted", shown(&outcome.wanted))?;
-    let came = entry(alloc, "came", shown(&outcome.came))?;
-    let reason = entry(alloc, "reason", shown(&outcome.reason))?;
-    let rule = rule_entries(alloc, &outcome.rule)?;
-    format!(in alloc; "  ---\n{verdict}{level}{wanted}{came}{reason}{rule}  ...\n")
+    text.push_str("  ---\n")?;
+    push_some(alloc, text, "verdict", verdict_note(outcome))?;
+    push_entry(alloc, text, "level", level_word(outcome.level))?;
+    push_entry(alloc, text, "wanted", shown(&outcome.wanted))?;
+    push_entry(alloc, text, "came", shown(&outcome.came))?;
+    push_entry(alloc, text, "reason", shown(&outcome.reason))?;
+    push_rule(alloc, text, &outcome.rule)?;
+    text.push_str("  ...\n")
 }
 
-/// What stands after a test point.
-fn block_of(alloc: Global, how: Point, outcome: &Outcome) -> Result<String, AllocError>
-    ensures { IfOk result (λ block. string_bytes block ≡ block_of how outcome.now) }
+/// Adds what stands after a test point.
+fn push_after(
+    alloc: Global,
+    text: &mut String,
+    how: Point,
+    outcome: &Outcome,
+) -> Result<(), AllocError>
+    ensures { OnOk result (string_bytes text.new
+        ≡ string_bytes text.old ++ block_of how outcome.now) }
 {
     match how {
-        Point::Passes | Point::Skips => Ok(String::new(alloc)),
-        Point::Fails | Point::Todo => yaml_block(alloc, outcome),
+        Point::Passes | Point::Skips => Ok(()),
+        Point::Fails | Point::Todo => push_block(alloc, text, outcome),
     }
+}
+
+/// Adds the line of a test point.
+#[tactic(auto, unfolding(crate::specs::Tap::point_line))]
+fn push_line(
+    alloc: Global,
+    text: &mut String,
+    number: usize,
+    how: Point,
+    outcome: &Outcome,
+) -> Result<(), AllocError>
+    ensures { OnOk result (string_bytes text.new
+        ≡ string_bytes text.old ++ point_line number how outcome.now) }
+{
+    let titled = titled(alloc, outcome)?;
+    let name = escaped(alloc, titled.as_str())?;
+    let directive = directive_text(alloc, how, outcome)?;
+    text.push_str(how.status())?;
+    write!(text, " {number} - ")?;
+    text.push_str(outcome.suite.name())?;
+    text.push_str(" ")?;
+    text.push_str(name.as_str())?;
+    text.push_str(directive.as_str())?;
+    text.push_str("\n")
 }
 
 /// Adds the test point of an outcome, with this number from 1 on.
@@ -220,15 +269,8 @@ pub fn push_tap(
         ≡ string_bytes text.old ++ point_text number outcome.now) }
 {
     let how = point_of(outcome);
-    let status = how.status();
-    let suite = outcome.suite.name();
-    let name = escaped(alloc, outcome.name.as_str())?;
-    let directive = directive_text(alloc, how, outcome)?;
-    let block = block_of(alloc, how, outcome)?;
-    write!(
-        text,
-        "{status} {number} - {suite} {name}{directive}\n{block}"
-    )
+    push_line(alloc, text, number, how, outcome)?;
+    push_after(alloc, text, how, outcome)
 }
 
 /// Adds the plan: how many test points there are.

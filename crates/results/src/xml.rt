@@ -1,8 +1,9 @@
 //! Texts in XML (XML 1.0, fifth edition).
 
 ghost use Rattle.std.specs.Prelude.{◌≡◌, ◌++◌, IfOk, OnOk, string_bytes};
+ghost use Rattle.std.specs.Fmt.{decimal};
 ghost use Rattle.std.specs.List.{flat_map};
-ghost use Rattle.results.specs.Xml.{char_text, is_allowed, xml_text};
+ghost use Rattle.results.specs.Xml.{attribute, char_text, declaration, end_tag, is_allowed, open_tag, xml_text};
 
 use std::alloc::{AllocError, Global};
 
@@ -60,4 +61,46 @@ pub fn escaped(alloc: Global, text: &str) -> Result<String, AllocError>
     let mut xml = String::new(alloc);
     push_text(alloc, &mut xml, text)?;
     Ok(xml)
+}
+
+/// Adds what a document begins with (section 2.8).
+#[tactic(auto, unfolding(crate::specs::Xml::declaration))]
+pub fn push_declaration(xml: &mut String) -> Result<(), AllocError>
+    ensures { OnOk result (string_bytes xml.new ≡ string_bytes xml.old ++ declaration) }
+{
+    xml.push_str("<?xml version=\"1.0\" encoding=\"UTF-8\"?>\n")
+}
+
+/// Adds how an element begins, up to its attributes (section 3.1).
+#[tactic(auto, unfolding(crate::specs::Xml::open_tag))]
+pub fn push_open(xml: &mut String, name: &str) -> Result<(), AllocError>
+    ensures { OnOk result (string_bytes xml.new ≡ string_bytes xml.old ++ open_tag name.now) }
+{
+    write!(xml, "<{name}")
+}
+
+/// Adds an attribute, with its value as it is written.
+#[tactic(auto, unfolding(crate::specs::Xml::attribute))]
+pub fn push_attribute(xml: &mut String, name: &str, value: &str) -> Result<(), AllocError>
+    ensures { OnOk result (string_bytes xml.new
+        ≡ string_bytes xml.old ++ attribute name.now value.now) }
+{
+    write!(xml, " {name}=\"{value}\"")
+}
+
+/// Adds an attribute whose value is a number.
+#[tactic(auto, unfolding(crate::specs::Xml::attribute))]
+pub fn push_number(xml: &mut String, name: &str, value: usize) -> Result<(), AllocError>
+    ensures { OnOk result (string_bytes xml.new
+        ≡ string_bytes xml.old ++ attribute name.now (decimal value)) }
+{
+    write!(xml, " {name}=\"{value}\"")
+}
+
+/// Adds how an element ends that has content.
+#[tactic(auto, unfolding(crate::specs::Xml::end_tag))]
+pub fn push_end(xml: &mut String, name: &str) -> Result<(), AllocError>
+    ensures { OnOk result (string_bytes xml.new ≡ string_bytes xml.old ++ end_tag name.now) }
+{
+    write!(xml, "</{name}>")
 }
