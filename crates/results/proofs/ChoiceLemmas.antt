@@ -1,5 +1,5 @@
 -- Words and cases one after another.
-use Rattle.std.proofs.Common.{◌≡◌, ◌<◌, ◌≤◌, arith, sym, subst, refl, Bool, true, false, List, ℕ, [], ◌∷◌, length, get_or, MatchBool}
+use Rattle.std.proofs.Common.{◌<◌, arith, sym, subst, refl, Bool, true, false, List, ℕ, [], ◌∷◌, length, get_or, MatchBool}
 use Rattle.std.specs.Prelude.{Any, IsTrue}
 use Rattle.std.specs.List.{AllWithin, HoldsAt}
 use Rattle.std.proofs.lemmas.List.Elements.{Contains-get_or}

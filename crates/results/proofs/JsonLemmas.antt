@@ -2,7 +2,7 @@
 use Rattle.std.proofs.Common.{◌≡◌, ◌||◌, Bool, true, false, List, Option, Some, None, ℕ, [], ◌∷◌, refl, sym, subst, map, option_map, string_bytes, Ordering, Less, Equal, Greater, nat_cmp}
 use Rattle.std.specs.Ordering.{match_ordering}
 use Rattle.std.specs.Cmp.Lexicographic.{slice_cmp}
-use Rattle.serde_json.specs.Data.{Data, Members, array, member, no_members, put, string}
+use Rattle.serde_json.specs.Data.{Data, Members, member, no_members, put, string}
 use Rattle.serde_json.specs.View.{items_of}
 use Rattle.serde_json.specs.Written.{compact_text, has_float, items_have_float, members_have_float}
 use Rattle.results.specs.Json.{hex_data, json_text, number_data, ending_list, outcome_data, rule_list, standing_data, subject_list, text_data, traffic_list, with_all}

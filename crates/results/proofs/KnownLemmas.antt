@@ -1,7 +1,7 @@
 -- Names of known failures, and lines one after another.
 use Rattle.std.proofs.Common.{◌≡◌, ◌≢◌, ◌∙◌, ◌++◌, ◌+◌, ◌<◌, ap, sym, subst, refl, inl, inr, arith, Bool, true, false, cond, List, drop, Option, Some, None, ℕ, suc, zero, [], ◌∷◌, Bor, find, length, map, take, get_or, string_bytes, option_map, is_some, ◌==◌}
 use Rattle.std.specs.Prelude.{Contains}
-use Rattle.std.specs.List.{cons_option, filter_map}
+use Rattle.std.specs.List.{cons_option}
 use Rattle.std.proofs.lemmas.List.{append-nil, length-map, length-take-le, map-append, map_push, take_more}
 use Rattle.std.proofs.Math.Seq.{split_at}
 use Rattle.std.proofs.lemmas.List.Elements.{Contains-append_cases, Contains-append_left, Contains-append_right, filter_map-append}

@@ -1,5 +1,5 @@
 -- Places of cases, in their order.
-use Rattle.std.proofs.Common.{◌≡◌, ◌∙◌, ◌++◌, ◌+◌, ◌-◌, ◌<◌, ◌≤◌, ◌⊎◌, ap, sym, subst, refl, inl, inr, arith, List, ℕ, [], ◌∷◌, length, slice_index, get_or}
+use Rattle.std.proofs.Common.{◌≡◌, ◌++◌, ◌+◌, ◌<◌, ◌≤◌, sym, subst, refl, inl, inr, arith, List, ℕ, [], ◌∷◌, length, get_or}
 use Rattle.std.specs.Prelude.{Contains}
 use Rattle.std.specs.List.Sorted.{IsStrictlyIncreasing}
 use Rattle.std.proofs.lemmas.Bool.{cases_lt}

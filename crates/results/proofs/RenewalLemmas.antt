@@ -1,9 +1,9 @@
 -- Lists of known failures that grow by entries of new names.
-use Rattle.std.proofs.Common.{◌≡◌, ◌∙◌, ◌++◌, ◌+◌, ◌<◌, ◌||◌, ap, sym, subst, refl, arith, inl, inr, Bool, true, false, IfOk, Ok, Err, Result, List, Option, ℕ, [], ◌∷◌, length, map, take, get_or, string_bytes}
+use Rattle.std.proofs.Common.{◌≡◌, ◌∙◌, ◌++◌, ◌+◌, ◌<◌, ◌||◌, ap, sym, subst, refl, arith, inl, inr, Bool, true, false, IfOk, Ok, Err, Result, List, Option, ℕ, [], ◌∷◌, length, map, take, get_or}
 use Rattle.std.specs.Prelude.{Contains}
 use Rattle.std.specs.List.{filter_map, flat_map, list_any}
 use Rattle.std.proofs.lemmas.List.{take_more}
-use Rattle.std.proofs.lemmas.List.Elements.{Contains-append_cases, Contains-append_left, Contains-append_right, filter_map-append}
+use Rattle.std.proofs.lemmas.List.Elements.{Contains-append_cases, filter_map-append}
 use Rattle.std.proofs.lemmas.Slice.Eq.{bytes_eq-Decides}
 use Rattle.results.specs.KnownList.{Entry, entry, has_name, names}
 use Rattle.results.proofs.KnownLemmas.{contains_one}

@@ -1,5 +1,5 @@
 -- Which cases are run.
-use Rattle.std.specs.Prelude.{◌≡◌, ◌≢◌, ◌≤◌, ◌⊎◌, ◌↔◌, ⊤, ℕ, Bool, IsTrue, List, All, Any, Contains, Option, Some, None, codes, slice_get, take}
+use Rattle.std.specs.Prelude.{◌≡◌, ◌≢◌, ◌≤◌, ◌⊎◌, ◌↔◌, ⊤, ℕ, IsTrue, List, All, Any, Contains, Option, Some, None, codes, slice_get, take}
 use Rattle.std.specs.Borrow.{Bor}
 use Rattle.std.specs.List.Sorted.{IsStrictlyIncreasing}
 use Rattle.results.specs.Patterns.{Matches}

@@ -1,5 +1,5 @@
 -- Outcomes as values of JSON, and their lines.
-use Rattle.std.specs.Prelude.{ℕ, List, [], ◌∷◌, ◌++◌, Bool, true, Option, Some, None, codes, map, option_map, string_bytes}
+use Rattle.std.specs.Prelude.{ℕ, List, [], ◌∷◌, ◌++◌, true, Option, Some, None, codes, map, option_map, string_bytes}
 use Rattle.hex.specs.Hex.{encode_lower}
 use Rattle.serde_json.specs.Data.{Data, Members, null, boolean, number, unsigned, string, array, object, no_members, put}
 use Rattle.serde_json.specs.View.{items_of}
@@ -8,7 +8,6 @@ use Rattle.results.specs.Standings.{fails_the_run, standing_of}
 use Rattle.results.specs.Words.{level_word, suite_word, verdict_word}
 use Rattle.results.specs.declared.outcome.Outcome.{Outcome}
 use Rattle.results.specs.declared.outcome.Rule.{Rule}
-use Rattle.results.specs.declared.known.Known.{Known}
 use Rattle.results.specs.declared.standing.Standing.{Standing}
 use Rattle.results.specs.declared.summary.Summary.{Summary}
 use Rattle.results.specs.declared.words.Suite.{Suite}

@@ -4,7 +4,6 @@ use Rattle.std.specs.Borrow.{Bor}
 use Rattle.std.specs.List.{after_first, before_first, filter_map, list_any}
 use Rattle.std.specs.Str.{trim}
 use Rattle.std.specs.Str.{bytes_eq}
-use Rattle.std.specs.Str.Lines.{lines}
 use Rattle.results.specs.declared.known.Known.{Known}
 use Rattle.results.specs.declared.known.KnownFault.{KnownFault}
 use Rattle.results.specs.declared.known.KnownFault.TheVariants as fault

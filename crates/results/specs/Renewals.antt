@@ -1,5 +1,5 @@
 -- The list of known failures after a run of some of the cases.
-use Rattle.std.specs.Prelude.{◌≡◌, ⊤, ℕ, ◌&&◌, ◌||◌, Bool, true, false, List, [], ◌∷◌, ◌++◌, Option, Some, None, if◌then◌else◌, codes, option_map, string_bytes, Contains}
+use Rattle.std.specs.Prelude.{⊤, ℕ, ◌&&◌, ◌||◌, Bool, true, false, List, [], ◌∷◌, ◌++◌, Option, Some, None, if◌then◌else◌, codes, option_map, string_bytes, Contains}
 use Rattle.std.specs.List.{filter_map, flat_map, list_any}
 use Rattle.std.specs.Str.{bytes_eq}
 use Rattle.results.specs.Causes.{cause_of}

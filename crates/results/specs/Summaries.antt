@@ -1,5 +1,5 @@
 -- How many cases of a run ended in which way, and the line that says so.
-use Rattle.std.specs.Prelude.{◌≡◌, ◌≤◌, ℕ, ◌+◌, ◌&&◌, ◌==◌, Bool, true, false, List, [], ◌∷◌, ◌++◌, Option, Some, None, if◌then◌else◌, codes, count_by, length}
+use Rattle.std.specs.Prelude.{◌≡◌, ◌≤◌, ℕ, ◌+◌, ◌&&◌, ◌==◌, Bool, true, false, List, [], ◌++◌, Option, Some, if◌then◌else◌, codes, count_by, length}
 use Rattle.std.specs.Fmt.{decimal}
 use Rattle.results.specs.Standings.{fails_the_run, standing_of}
 use Rattle.results.specs.Words.{suite_word}

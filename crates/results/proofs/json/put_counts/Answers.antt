@@ -1,4 +1,3 @@
-use Rattle.std.proofs.Common.{ap}
 use Rattle.results.proofs.json.put_counts.Goals as goal
 
 pub returns : goal.returns
