@@ -205,12 +205,13 @@ impl<'a, R: Files + Clock + Eprint + AllocGlobal + Drop> Sinks<'a, R> {
             Form::Json => {}
         }
         self.has_told = true;
-        self.outcomes.push(outcome)?;
-        Ok(())
+        self.keep(outcome)
     }
 
     /// Keeps what came of a case, for the files alone.
-    pub fn keep(&mut self, outcome: Outcome) -> Result<(), SinkFault> {
+    pub fn keep(&mut self, outcome: Outcome) -> Result<(), SinkFault>
+        ensures { OnOk result (self.new.outcomes.items ≡ self.old.outcomes.items ++ outcome ∷ []) }
+    {
         self.outcomes.push(outcome)?;
         Ok(())
     }

@@ -263,7 +263,10 @@ fn run_of<'a>(
     let times = small_number_of(options, "times")?;
     let patience = small_number_of(options, "timeout")?;
     let soak = soak_of(options)?;
-    let told = CaseRun {
+    if !is_cleartext(options) {
+        return None;
+    }
+    Some(CaseRun {
         names,
         host,
         port,
@@ -272,8 +275,7 @@ fn run_of<'a>(
         patience,
         soak,
         reporting,
-    };
-    is_cleartext(options).then_some(told)
+    })
 }
 
 pub(crate) fn trial_of<'a>(
