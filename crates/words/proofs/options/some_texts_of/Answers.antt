@@ -7,8 +7,3 @@ pub returns-then-is_empty : goal.returns-then-is_empty
 returns-then-is_empty c =
     none_given c.in_ok-texts.texts.items _ c.in_ok-texts.ensures
     (omega (arith, c.in_ok-texts.texts.ok.0, eqb-true _ _ (sym c.is_empty.ensures ∙ c.if-is_empty.true)))
-
-pub returns-else-is_empty : goal.returns-else-is_empty
-returns-else-is_empty c =
-    some_given c.in_ok-texts.texts.items _ c.in_ok-texts.ensures
-    (λ none. let bad : false ≡ true = sym c.if-is_empty.false ∙ (c.is_empty.ensures ∙ eq-eqb _ 0 (omega (arith, c.in_ok-texts.texts.ok.0))) in cc)
