@@ -8,6 +8,9 @@ use std::rt::Files;
 use std::time::Clock;
 use wire::{Case, Ended, WireFault, lost_outcome, lost_text, text_of};
 
+/// Why nothing more is run of a server that a case has ended.
+pub(crate) const NO_ANSWER: &str = "the server answers no more";
+
 /// How a run of cases ended.
 #[derive(Drop)]
 pub(crate) enum Round {
@@ -21,7 +24,7 @@ pub(crate) enum Round {
     Lost(String),
 }
 
-/// A case for which there was no connection.
+/// A case that couldn't be tested.
 #[derive(Drop)]
 struct Lost {
     place: usize,
@@ -68,9 +71,11 @@ impl Desk {
 
     /// How the run ended.
     pub(crate) fn round(self) -> Round {
+        if self.is_dead {
+            return Round::Dead;
+        }
         match self.lost {
             Some(lost) => Round::Lost(lost.why),
-            None if self.is_dead => Round::Dead,
             None if self.is_enough => Round::Enough,
             None => Round::Done,
         }
@@ -132,7 +137,8 @@ impl Desk {
         Some(ended)
     }
 
-    /// Tells of the cases that have ended, though others before them have not, and of one for which there was no connection.
+    /// Tells of the cases that have ended, though others before them have not, and of one that couldn't be tested: of a server
+    /// that a case has ended, the first that wasn't run, or else the last.
     pub(crate) fn tell_rest<R, W>(
         &mut self,
         cases: &[Case],
@@ -143,6 +149,11 @@ impl Desk {
         R: Files + Clock + Eprint + AllocGlobal + Drop,
         W: ConnWrite,
     {
+        if self.is_dead {
+            let last = self.waiting.len().saturating_sub(1);
+            let why = String::from_str(self.alloc, NO_ANSWER)?;
+            self.lost = Some(Lost { place: self.next.min(last), why });
+        }
         for _ in self.next..self.waiting.len() {
             match self.next_ended() {
                 Some(ended) => self.tell(ended, sinks, output)?,
@@ -169,7 +180,7 @@ impl Desk {
         Ok(())
     }
 
-    /// Tells of a case for which there was no connection. Where none had one, the text of that stands on standard error alone.
+    /// Tells of a case that couldn't be tested. Where none had a connection, the text of that stands on standard error alone.
     fn tell_lost<R, W>(
         &self,
         cases: &[Case],

@@ -67,8 +67,7 @@ enum Afterwards {
 }
 
 /// Serves connections that come, until the server has stopped, if it does, and has printed its reports. A thread of its own takes
-/// them where it does. What comes while it stops may go unreported. It answers which connections are left, for which it had no more
-/// patience.
+/// them where it does. It answers which connections are left, for which it had no more patience.
 pub fn serve_port<R, L>(
     rt: R,
     alloc: Global,
@@ -177,7 +176,8 @@ where
     }
 }
 
-/// Takes the next connection, and starts a thread that serves it. One that no thread can be made for is ended.
+/// Takes the next connection, and starts a thread that serves it. One that no thread can be made for is ended, as is one that comes
+/// while the server stops.
 fn serve_next<R, L>(
     rt: R,
     alloc: Global,
@@ -189,15 +189,16 @@ where
     L: Logs + Send + Sync + Drop + 'static,
 {
     let shared = Arc::try_clone(port)?;
-    let (stream, connection) = port.accept()?;
-    let is_awaited = port.note_taken(&rt, connection)?;
+    let Some((stream, connection)) = port.take_next(&rt)? else {
+        return Ok(());
+    };
     let serving = Builder::new().stack_size(STACK).spawn(&rt, move || {
         // (it is kept first: what shows that a thread may have it gives up where this comes last)
         let port = shared;
-        serve_first(rt, alloc, &port, stream, connection, is_awaited, afterwards);
+        serve_first(rt, alloc, &port, stream, connection, afterwards);
     });
     if serving.is_err() {
-        port.note_ended(&rt, connection, is_awaited, true);
+        port.note_ended(&rt, connection, true);
         return Err(io::Error::from(io::ErrorKind::OutOfMemory));
     }
     Ok(())
@@ -210,7 +211,6 @@ fn serve_first<R, L>(
     port: &Port<L>,
     stream: TcpStream,
     connection: Connection,
-    is_awaited: bool,
     afterwards: Afterwards,
 )
 where
@@ -221,7 +221,7 @@ where
     if let Afterwards::StopsServer = afterwards {
         port.service.stop_all(&rt);
     }
-    port.note_ended(&rt, connection, is_awaited, lacks);
+    port.note_ended(&rt, connection, lacks);
     if let Afterwards::MayTakeMore = afterwards {
         if port.room.stay(&rt) {
             take_more(rt, alloc, port);
@@ -246,49 +246,41 @@ where
     unreachable!()
 }
 
-/// Takes the next connection and serves it. It fails where none could be taken.
+/// Takes the next connection and serves it, unless the server stops. It fails where none could be taken.
 fn serve_taken<R, L>(rt: R, alloc: Global, port: &Port<L>) -> io::Result<()>
 where
     R: Print + Threads + Wait + Clock + Copy + Send + Sync + Drop + 'static,
     L: Logs + Send + Sync + Drop + 'static,
 {
-    let (stream, connection) = port.accept()?;
-    let is_awaited = port.note_taken(&rt, connection)?;
+    let Some((stream, connection)) = port.take_next(&rt)? else {
+        return Ok(());
+    };
     let lacks = serve_one(rt, alloc, &port.service, stream, connection);
-    port.note_ended(&rt, connection, is_awaited, lacks);
+    port.note_ended(&rt, connection, lacks);
     Ok(())
 }
 
 impl<L> Port<L> {
-    /// Takes the next connection.
-    fn accept(&self) -> io::Result<(TcpStream, Connection)> {
+    /// Takes the next connection. One that comes while the server stops is closed at once, so that its client looks for another
+    /// server.
+    fn take_next(&self, rt: &impl Wait) -> io::Result<Option<(TcpStream, Connection)>> {
         let (stream, peer) = self.listener.accept()?;
         let number = self.taken.fetch_add(1, Ordering::SeqCst).wrapping_add(1);
-        Ok((stream, Connection { number, peer }))
-    }
-
-    /// A connection was taken. Whether a server that stops waits for it.
-    fn note_taken(&self, rt: &impl Wait, connection: Connection) -> Result<bool, AllocError> {
-        let is_awaited = match &self.service.stop {
-            Some(stop) => stop.take(rt, connection)?,
-            None => false,
-        };
+        let connection = Connection { number, peer };
+        if let Some(stop) = &self.service.stop {
+            if !stop.take(rt, connection)? {
+                return Ok(None);
+            }
+        }
         self.room.enter(rt);
-        Ok(is_awaited)
+        Ok(Some((stream, connection)))
     }
 
     /// A connection has ended, and was reported on, or couldn't be served for want of threads or memory.
-    fn note_ended(
-        &self,
-        rt: &(impl Wait + Clock),
-        connection: Connection,
-        is_awaited: bool,
-        lacks: bool,
-    ) {
+    fn note_ended(&self, rt: &(impl Wait + Clock), connection: Connection, lacks: bool) {
         self.room.leave(rt, lacks);
-        match &self.service.stop {
-            Some(stop) if is_awaited => stop.let_go(rt, connection.number),
-            _ => {}
+        if let Some(stop) = &self.service.stop {
+            stop.let_go(rt, connection.number);
         }
     }
 }

@@ -51,7 +51,7 @@ pub struct Stop {
 #[derive(Drop)]
 struct State {
     is_stopping: bool,
-    /// The connections that live, of those that were taken before it stops.
+    /// The connections that live.
     live: Vec<Connection>,
     /// Of those that weren't drained.
     signals: Vec<Arc<Signal>>,
@@ -89,20 +89,18 @@ impl Stop {
         }
     }
 
-    /// A connection was taken. Whether the server waits for it: not where it stops already, else a client that connects again and
-    /// again would hold it.
+    /// A connection has come. Whether it is served, and waited for: not where the server stops already.
     pub fn take(&self, rt: &impl Wait, connection: Connection) -> Result<bool, AllocError> {
         self.state.lock(rt).take(connection)
     }
 
-    /// A connection for which the server waits has ended, and was reported on.
+    /// A connection that was served has ended, and was reported on.
     pub fn let_go(&self, rt: &impl Wait, number: u64) {
         self.state.lock(rt).let_go(number);
         self.changed.ring();
     }
 
-    /// The server stops: all connections that live are drained, and each that comes afterwards is before its first byte. It returns
-    /// once those that live are.
+    /// The server stops: no more connections are taken, and all that live are drained. It returns once they are.
     pub fn begin(&self, rt: &impl Wait) {
         self.state.lock(rt).begin();
         self.changed.ring();
@@ -274,10 +272,10 @@ impl Signal {
 
 impl State {
     fn take(&mut self, connection: Connection) -> Result<bool, AllocError>
-        ensures awaited { IfOk result (λ is_awaited. is_awaited ≡ not self.old.is_stopping) }
-        ensures counted { IfOk result (λ is_awaited. is_awaited ≡ true
+        ensures taken { IfOk result (λ is_taken. is_taken ≡ not self.old.is_stopping) }
+        ensures counted { IfOk result (λ is_taken. is_taken ≡ true
             → vec_len self.new.live ≡ vec_len self.old.live + 1) }
-        ensures uncounted { IfOk result (λ is_awaited. is_awaited ≡ false
+        ensures uncounted { IfOk result (λ is_taken. is_taken ≡ false
             → self.new.live ≡ self.old.live) }
         ensures same { self.new.is_stopping ≡ self.old.is_stopping }
     {

@@ -1,7 +1,7 @@
 //! `interop wire`: wire cases against a server, several side by side.
 
 use crate::connecting::{Place, connect};
-use crate::desk::{Desk, Round};
+use crate::desk::{Desk, NO_ANSWER, Round};
 use crate::stopping::LOOK;
 use crate::trial::{TrialFault, Verdict, choice_of, refuse_choice};
 use cases::Limit;
@@ -23,9 +23,6 @@ use words::{WireRun, WireWords};
 /// The words that choose cases.
 const KNOWN: &str = "all, a group (start, conn, hpack, stream, flow, control, grpc), or some of \
     wire --list, as grpc/4, grpc/4-6 or 'grpc/1*'";
-
-/// Why nothing more is run of a server that a case has ended.
-const NO_ANSWER: &str = "the server answers no more";
 
 /// Milliseconds in a second.
 const SECOND: u64 = 1_000;
