@@ -25,7 +25,8 @@ impl<'a> Place<'a> {
     }
 }
 
-fn without_brackets(host: &str) -> &str {
+/// The host without the brackets of an IPv6 address.
+pub(crate) fn without_brackets(host: &str) -> &str {
     match host.strip_prefix("[") {
         Some(rest) => rest.strip_suffix("]").unwrap_or(host),
         None => host,

@@ -1,5 +1,6 @@
 //! The port that is listened on.
 
+use crate::connecting::without_brackets;
 use sinks::write_whole;
 use std::alloc::Global;
 use std::io;
@@ -63,7 +64,7 @@ fn number_of(port: Port) -> u16 {
 /// try comes after a second.
 fn bind(rt: &impl Net, host: &str, port: u16) -> io::Result<TcpListener> {
     let mut last = io::Error::new(ErrorKind::InvalidInput, "the name has no address");
-    for address in (host, port).to_socket_addrs(rt)? {
+    for address in (without_brackets(host), port).to_socket_addrs(rt)? {
         match mio::net::TcpListener::bind(rt, address) {
             Ok(listener) => {
                 let listener = TcpListener::from(listener);

@@ -67,8 +67,15 @@ with_soak app =
     request_size_option)
     response_size_option
 
+-- a command that takes what gRPC's runners say of TLS, which means nothing without it
+abbrev pub with_credentials : App → App
+with_credentials app =
+    with_rule (with_rule app
+    (text_option (codes "use_test_ca")))
+    (text_option (codes "server_host_override"))
+
 abbrev pub case_command : App
-case_command = with_reporting (with_soak (
+case_command = with_reporting (with_soak (with_credentials (
     with_rule (with_rule (with_rule (with_rule (with_rule (with_rule (with_rule (with_rule (with_rule (new_app (codes "case"))
     (several (codes "NAME")))
     (text_option (codes "test_case")))
@@ -78,7 +85,7 @@ case_command = with_reporting (with_soak (
     times_option)
     streams_option)
     timeout_option)
-    tls_option))
+    tls_option)))
 
 -- what a soak is told
 pub record Soak : Type 0 where

@@ -8,7 +8,7 @@ ghost use Rattle.clap.specs.Simple.{App};
 ghost use Rattle.clap.specs.Words.{app_of, found_of, rows_of};
 ghost use Rattle.words.specs.Options.{IsCommand, IsOption};
 ghost use Rattle.words.specs.Reporting.{reporting as reporting_told};
-ghost use Rattle.words.specs.Case.{IsRun, IsTrial, acceptable_option, case_command, gap_option, host_option, is_cleartext, iterations_option, max_failures_option, names_of, overall_option, port_option, request_size_option, response_size_option, run_of, soak, soak_of, streams_option, timeout_option, times_option, tls_option, trial, trial_of, trial_run, with_soak};
+ghost use Rattle.words.specs.Case.{IsRun, IsTrial, acceptable_option, case_command, gap_option, host_option, is_cleartext, iterations_option, max_failures_option, names_of, overall_option, port_option, request_size_option, response_size_option, run_of, soak, soak_of, streams_option, timeout_option, times_option, tls_option, trial, trial_of, trial_run, with_credentials, with_soak};
 
 use crate::options::{
     LOOPBACK, amount_of, amount_option, flag, has_flag, number_option, several, small_number_of,
@@ -183,7 +183,17 @@ pub(crate) fn case_command<'a>(alloc: Global) -> Result<Command<'a>, AllocError>
         .arg(streams_option(alloc))?
         .arg(timeout_option(alloc))?
         .arg(tls_option(alloc))?;
-    with_reporting(alloc, with_soak(alloc, command)?)
+    with_reporting(alloc, with_soak(alloc, with_credentials(alloc, command)?)?)
+}
+
+// A command that takes what gRPC's runners say of TLS, which means nothing without it.
+fn with_credentials<'a>(alloc: Global, command: Command<'a>) -> Result<Command<'a>, AllocError>
+    ensures { (app : App) → IsCommand app command.entry
+        → IfOk result (IsCommand (with_credentials app)) }
+{
+    command
+        .arg(text_option(alloc, "use_test_ca", "true or false"))?
+        .arg(text_option(alloc, "server_host_override", "a host's name"))
 }
 
 // A command with the options of soaks too.
