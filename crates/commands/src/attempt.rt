@@ -38,7 +38,7 @@ pub(crate) struct Attempt {
 }
 
 /// Runs a case over a connection that it makes: the time for both is one.
-pub(crate) fn attempt<R: Net + Clock + AllocGlobal>(
+pub(crate) fn connect_and_run<R: Net + Clock + AllocGlobal>(
     rt: &R,
     name: &str,
     target: Target<'_>,
@@ -87,7 +87,7 @@ pub(crate) fn try_case<R: Net + Clock + Eprint + AllocGlobal>(
     if Case::named(name).is_none() {
         return Err(CaseFault::UnknownCase);
     }
-    match attempt(rt, name, target).failure {
+    match connect_and_run(rt, name, target).failure {
         None => Ok(()),
         Some(failure) => {
             let Failure { fault, note } = failure;

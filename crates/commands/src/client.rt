@@ -6,7 +6,7 @@ ghost use Rattle.cases.specs.Report.{all_cases, line_of, lines_of};
 ghost use Rattle.cases.specs.declared.fault.CaseFault.TheVariants.{UnknownCase};
 ghost use Rattle.cases.specs.declared.report.Outcome.{Outcome as Ended};
 
-use crate::attempt::{Target, attempt, fault_of, outcome_by, outcome_of, try_case};
+use crate::attempt::{Target, connect_and_run, fault_of, outcome_by, outcome_of, try_case};
 use crate::connecting::{Place, connect};
 use crate::load::load_case;
 use crate::soak::run_soak;
@@ -233,7 +233,7 @@ fn run_once<R: Net + Files + Clock + Eprint + AllocGlobal + Drop>(
     sinks: &Sinks<'_, R>,
     lines: &mut Vec<u8>,
 ) -> Result<Outcome, TrialFault> {
-    let attempt = attempt(rt, name, Target::of(words));
+    let attempt = connect_and_run(rt, name, Target::of(words));
     if let Some(failure) = &attempt.failure {
         sinks.note(name, failure.note.as_str());
     }
@@ -258,7 +258,7 @@ fn run_often<R: Net + Files + Clock + Eprint + AllocGlobal + Drop>(
     let mut milliseconds = 0u64;
     let mut first: Option<Outcome> = None;
     for _ in 0..words.times {
-        let attempt = attempt(rt, name, Target::of(words));
+        let attempt = connect_and_run(rt, name, Target::of(words));
         milliseconds = milliseconds.saturating_add(attempt.milliseconds);
         match &attempt.failure {
             None => tally.count(Ok(())),

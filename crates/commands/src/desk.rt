@@ -152,7 +152,10 @@ impl Desk {
         if self.is_dead {
             let last = self.waiting.len().saturating_sub(1);
             let why = String::from_str(self.alloc, NO_ANSWER)?;
-            self.lost = Some(Lost { place: self.next.min(last), why });
+            self.lost = Some(Lost {
+                place: self.next.min(last),
+                why,
+            });
         }
         for _ in self.next..self.waiting.len() {
             match self.next_ended() {
