@@ -1,5 +1,6 @@
 -- What `self` and `drain` print: a line that sums up stands behind those of cases.
-use Rattle.std.specs.Prelude.{ℕ, List, [], ◌∷◌, ◌++◌, Option, Some, None, Result, Ok, Err}
+use Rattle.std.specs.Prelude.{ℕ, List, [], ◌∷◌, ◌++◌, Option, Some, None, Result}
+use Rattle.std.specs.Result.{result_err}
 use Rattle.cases.specs.Report.{lines_of}
 use Rattle.cases.specs.declared.fault.CaseFault.{CaseFault}
 use Rattle.cases.specs.declared.report.Outcome.{Outcome as Ended}
@@ -16,8 +17,7 @@ verdict_by None = Verdict.Ok
 verdict_by (Some fault) = Verdict.Failed
 
 abbrev pub verdict_of : Result (Unit {0}) CaseFault → Verdict
-verdict_of (Ok done) = Verdict.Ok
-verdict_of (Err fault) = Verdict.Failed
+verdict_of answer = verdict_by (result_err answer)
 
 abbrev pub verdict_on : Ended → Verdict
 verdict_on ended = verdict_of ended.answer

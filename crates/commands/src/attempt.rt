@@ -87,15 +87,14 @@ pub(crate) fn try_case<R: Net + Clock + Eprint + AllocGlobal>(
     if Case::named(name).is_none() {
         return Err(CaseFault::UnknownCase);
     }
-    match connect_and_run(rt, name, target).failure {
-        None => Ok(()),
-        Some(failure) => {
-            let Failure { fault, note } = failure;
-            // The line that is printed tells of the fault even where nothing can be said here.
-            let _said = eprintln!(rt; "{name}: {note}");
-            Err(fault)
-        }
-    }
+    let Attempt { failure, .. } = connect_and_run(rt, name, target);
+    let Some(failure) = failure else {
+        return Ok(());
+    };
+    // The line that is printed tells of the fault even where nothing can be said here.
+    let note = failure.note.as_str();
+    let _said = eprintln!(rt; "{name}: {note}");
+    Err(failure.fault)
 }
 
 /// What came of a case that was run once, by the model of results.

@@ -71,12 +71,18 @@ impl Desk {
 
     /// How the run ended.
     pub(crate) fn round(self) -> Round {
-        if self.is_dead {
+        let Desk {
+            is_dead,
+            is_enough,
+            lost,
+            ..
+        } = self;
+        if is_dead {
             return Round::Dead;
         }
-        match self.lost {
+        match lost {
             Some(lost) => Round::Lost(lost.why),
-            None if self.is_enough => Round::Enough,
+            None if is_enough => Round::Enough,
             None => Round::Done,
         }
     }

@@ -93,15 +93,8 @@ where
     let begun = Instant::now(&rt);
     let (answer, goaways) = run_client(rt, alloc, stream, stop);
     serving.join(&rt);
-    print_drain(alloc, goaways.as_slice(), answer, output)?;
-    let outcome = outcome_by(alloc, Suite::Drain, CASE, answer.err())?;
-    print_summary(
-        alloc,
-        Suite::Drain,
-        &[outcome],
-        passed_since(&rt, begun),
-        output,
-    )?;
+    let milliseconds = passed_since(&rt, begun);
+    print_summed(alloc, goaways.as_slice(), answer, milliseconds, output)?;
     Ok(answer.is_ok())
 }
 
@@ -148,6 +141,24 @@ fn connect<R: Net<Stream = TcpStream>>(rt: &R, port: u16) -> io::Result<TcpStrea
     let stream = TcpStream::connect(rt, (LOOPBACK, port))?;
     set_ticks(&stream)?;
     Ok(stream)
+}
+
+/// Prints a line of each GOAWAY, that of the case, and one that sums up.
+fn print_summed<W: ConnWrite>(
+    alloc: Global,
+    goaways: &[Goaway],
+    answer: Result<(), CaseFault>,
+    milliseconds: u64,
+    output: &mut W,
+) -> Result<(), ReportFault>
+    ensures { OnOk result ((outcome : Outcome) × (outcome.verdict ≡ verdict_of answer)
+        × Appends (W.contents output.old) (W.contents output.new)
+        (summed_drain goaways.now answer outcome milliseconds)) }
+{
+    print_drain(alloc, goaways, answer, output)?;
+    let outcome = outcome_by(alloc, Suite::Drain, CASE, answer.err())?;
+    print_summary(alloc, Suite::Drain, &[outcome], milliseconds, output)?;
+    Ok(())
 }
 
 /// Prints a line of each GOAWAY, and that of the case.
