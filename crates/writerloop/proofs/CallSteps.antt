@@ -101,6 +101,7 @@ module _ {J : Type 0} {naming : Ghosts J} where
   -- they stand beside one another again once both have lost the first of a stream
   pub aligned-out : (id : ℕ) (sender : OutSender) (sent after : List (Sent J naming)) (core cores : List (ℕ × OutSender)) (from to : List (Returning J naming)) → keys sent ≡ core_keys core
       → HandsHome id sender sent after from to → Releases id sender core cores → keys after ≡ core_keys cores
+  unfolding first-of
   aligned-out id sender sent after core cores from to aligned hands releases =
       let first = first-of id sender sent core cores aligned releases in
       let place : hands.place ≡ releases.0 = one-place id sent hands.place releases.0 hands.at hands.below first.1 first.3 hands.call in

@@ -1,7 +1,8 @@
 -- The senders that a writer has at its end, handed over one after another.
-use Rattle.std.proofs.Common.{◌≡◌, ◌∙◌, ℕ, List, [], ◌∷◌, ◌++◌, Option, None, Some, map, length, ap, sym, refl, subst, arith, length-append}
+use Rattle.std.proofs.Common.{◌≡◌, ◌∙◌, ◌<◌, ℕ, true≢false, List, [], ◌∷◌, ◌++◌, Option, None, Some, map, length, ap, sym, refl, subst, arith, length-append}
 use Rattle.std.specs.Prelude.{IfNone, IfSome, option_map}
 use Rattle.std.specs.List.Sorted.{IsPermutation}
+use Rattle.std.specs.Option.{IsSome, is_some}
 use Rattle.std.proofs.lemmas.List.{append_cancel_right, length-map, map-append}
 use Rattle.std.proofs.lemmas.List.Sorted.{IsPermutation-append_comm, IsPermutation-refl}
 use Rattle.account.specs.declared.call.OutItem.{OutItem}
@@ -43,6 +44,10 @@ unsent None fresh = absurd (none fresh)
     none e = cc
 unsent (Some sender) fresh = ap (some-of []) fresh
 
+-- none is there
+pub none-there : {X : Type 0} (one : Option X) → one ≡ None → IsSome one → ⊥
+none-there one none some = true≢false (sym some ∙ ap is_some none)
+
 module _ {J : Type 0} {naming : Ghosts J} where
   -- the last call is that of the last sender
   pub last-of : (id : ℕ) (sender : OutSender) (sent : List (Sent J naming)) (core cores : List (ℕ × OutSender)) → keys sent ≡ core_keys core → core ≡ cores ++ (id, sender) ∷ [] → IsLastOf sender sent
@@ -50,9 +55,9 @@ module _ {J : Type 0} {naming : Ghosts J} where
       (core_keys cores, id, aligned ∙ (ap (λ (all : List (ℕ × OutSender)). core_keys all) is ∙ map-append key-of cores ((id, sender) ∷ [])))
 
   -- there is a last call
-  pub missing-last : (sender : OutSender) (sent : List (Sent J naming)) → IsLastOf sender sent → length sent ≡ 0 → ⊥
-  missing-last sender sent last none =
-      omega (arith, length-map sent key, ap (λ (all : List (ℕ × Option LaneName)). length all) last.2, length-append last.0 ((last.1, Some (out_name sender.rx)) ∷ []), none)
+  pub some-last : (sender : OutSender) (sent : List (Sent J naming)) → IsLastOf sender sent → 0 < length sent
+  some-last sender sent last =
+      omega (arith, length-map sent key, ap (λ (all : List (ℕ × Option LaneName)). length all) last.2, length-append last.0 ((last.1, Some (out_name sender.rx)) ∷ []))
 
   -- its lane is the sender's
   pub last-lane : (sender : OutSender) (sent rest : List (Sent J naming)) (call : Sent J naming) → IsLastOf sender sent → sent ≡ rest ++ call ∷ [] → lane_of call.sending.value ≡ Some (out_name sender.rx)

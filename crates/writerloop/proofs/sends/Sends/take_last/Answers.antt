@@ -1,12 +1,15 @@
-use Rattle.std.proofs.Common.{ap, refl, rules}
-use Rattle.writerloop.proofs.RestSteps.{last-lane, missing-last}
+use Rattle.std.proofs.Common.{◌∙◌, ap, refl}
+use Rattle.writerloop.specs.Sent.{lane_of}
+use Rattle.writerloop.proofs.RestSteps.{last-lane, none-there, some-last}
 use Rattle.writerloop.proofs.sends.Sends.take_last.Goals as goal
 
 pub unreachable-requires : goal.unreachable-requires
-unreachable-requires g c = missing-last c.args.sender c.args.self.now.calls.items c.requires.whose (search rules)
+unreachable-requires g c = none-there c.pop.result c.in_default.is (c.pop.ensures.variant.1 (some-last c.args.sender c.args.self.now.calls.items c.requires.whose))
 
-pub invariant_of-sending : goal.invariant_of-sending
-invariant_of-sending g c = record { out_lane = last-lane c.args.sender c.args.self.now.calls.items c.pop.new.self.items c.in-Some.call c.requires.whose c.in-Some.ensures.items }
+pub invariant_of-deref_mut : goal.invariant_of-deref_mut
+invariant_of-deref_mut g c = record {
+  out_lane = ap (λ sending. lane_of sending) c.deref_mut.ensures.value ∙ last-lane c.args.sender c.args.self.now.calls.items c.pop.new.self.items c.in-Some.call c.requires.whose c.in-Some.ensures.items;
+}
 
 pub returns-clause-takes : goal.returns-clause-takes
 returns-clause-takes g c = record {
