@@ -39,4 +39,4 @@ returns-in-Open-clause-back g c =
     let again = same-sender c.args.id _ c.in-Some.sender c.in-Open.again (sym c.in-Open.is ∙ c.in-HandedBack.ensures.whose) in
     ap (λ opening. control.Open c.args.id opening)
     (sym (same-opening c.args.opening _ _
-    (same-sending c.args.opening.sending.value _ (sym (ap (λ sending. sending.number) c.deref_mut-2.ensures.value ∙ ap (λ sending. sending.number) c.deref_mut.ensures.value)) (is ∙ ap (λ sender. Some sender) (sym again)))))
+    (same-sending c.args.opening.sending.value _ (sym (ap (λ sending. sending.number) c.deref_mut-in-HandedBack.ensures.value ∙ ap (λ sending. sending.number) c.deref_mut.ensures.value)) (is ∙ ap (λ sender. Some sender) (sym again)))))
