@@ -3,7 +3,7 @@
 //! An open stream that isn't among those that take turns is looked at once in a while, one of them with each frame. A
 //! stream that a window holds isn't among them, so it costs the others that look and no more.
 
-ghost use Rattle.std.specs.Prelude.{◌≡◌, ◌<◌, List, true, false, None, Err, IfOk, IfErr, IfSome, IfNone};
+ghost use Rattle.std.specs.Prelude.{◌≡◌, ◌<◌, ℕ, List, true, false, None, Err, IfOk, IfErr, IfSome, IfNone};
 
 use crate::control::OutFault;
 use crate::out_core::OutCore;

@@ -11,9 +11,10 @@ use Rattle.outwriter.specs.Cores.{calls, lanes}
 use Rattle.outwriter.specs.Releases.{HasNoneBelow, Releases}
 use Rattle.callparts.specs.declared.order.Returning.{Returning}
 use Rattle.callparts.specs.declared.order.Sending.{Sending}
+use Rattle.callparts.specs.declared.register.CallNumber.{CallNumber}
 use Rattle.callparts.specs.declared.register.Naming.{Ghosts}
 use Rattle.callparts.specs.Lanes.{OutSender}
-use Rattle.callparts.specs.Numbers.{IsOfLane}
+use Rattle.callparts.specs.Numbers.{IsOfLane, out_lane_at}
 use Rattle.writerloop.specs.declared.sends.Sent.{Sent}
 use Rattle.writerloop.specs.Sent as places
 use Rattle.writerloop.specs.Sent.{Adds, HandsHome, HasNone, IsAt, IsFirstOf, SameCalls, core_keys, keys, lane_of, numbered, numbers}
@@ -21,11 +22,12 @@ use Rattle.writerloop.specs.Sent.{Adds, HandsHome, HasNone, IsAt, IsFirstOf, Sam
 -- ---- lists
 
 map-removed : {X Y : Type 0} (f : X → Y) (xs : List X) (i : ℕ) (d : X) → 0 < length xs → map f (swap_remove xs i d) ≡ swap_remove (map f xs) i (f d)
-map-removed f xs i d some =
+map-removed {X} {Y} f xs i d some =
     let n = length xs - 1 in
-    let same : length (map f xs) ≡ length xs = length-map xs f in
-    let e = sym (take-map f n (set xs i (get_or xs n d))) ∙ ap (take n) (map-set f xs i _) in
-    e ∙ (λ j. take (ap (λ l. l - 1) (sym same) j) (set (map f xs) i (sym (get_or-map f xs n d (f d) (omega arith)) j))) ∙ ap (λ m. take (length (map f xs) - 1) (set (map f xs) i (get_or (map f xs) m (f d)))) (ap (λ l. l - 1) (sym same))
+    sym (take-map f n (set xs i (get_or xs n d)))
+    ∙ (ap (λ (ys : List Y). take n ys) (map-set f xs i (get_or xs n d))
+    ∙ (ap (λ (y : Y). take n (set (map f xs) i y)) (sym (get_or-map f xs n d (f d) (omega arith)))
+    ∙ ap (λ m. take (m - 1) (set (map f xs) i (get_or (map f xs) (m - 1) (f d)))) (sym (length-map xs f))))
 
 -- ---- a core
 
@@ -99,6 +101,7 @@ module _ {J : Type 0} {naming : Ghosts J} where
   -- they stand beside one another again once both have lost the first of a stream
   pub aligned-out : (id : ℕ) (sender : OutSender) (sent after : List (Sent J naming)) (core cores : List (ℕ × OutSender)) (from to : List (Returning J naming)) → keys sent ≡ core_keys core
       → HandsHome id sender sent after from to → Releases id sender core cores → keys after ≡ core_keys cores
+  unfolding first-of
   aligned-out id sender sent after core cores from to aligned hands releases =
       let first = first-of id sender sent core cores aligned releases in
       let place : hands.place ≡ releases.0 = one-place id sent hands.place releases.0 hands.at hands.below first.1 first.3 hands.call in
@@ -122,6 +125,13 @@ module _ {J : Type 0} {naming : Ghosts J} where
     numbers =
         ap (λ (all : List (Sent J naming)). numbers all) is
         ∙ (map-append number old (call ∷ []) ∙ (ap (λ n. map number old ++ numbered n call.sending.value ∷ []) same_id ∙ ap (λ one. map number old ++ numbered id one ∷ []) same_sending));
+  }
+
+  -- without its sender it is the same call
+  pub adds-from : (id : ℕ) (sending taken : Sending J naming) (old mid new : List (Sent J naming)) → mid ≡ old → taken.number ≡ sending.number → Adds id taken mid new → Adds id sending old new
+  adds-from id sending taken old mid new same number adds = record {
+    keys = adds.keys ∙ (ap (λ (all : List (Sent J naming)). keys all ++ (id, lane_of taken) ∷ []) same ∙ ap (λ (n : CallNumber J naming). keys old ++ (id, out_lane_at n.seen.log n.value) ∷ []) number);
+    numbers = adds.numbers ∙ (ap (λ (all : List (Sent J naming)). numbers all ++ numbered id taken ∷ []) same ∙ ap (λ (n : CallNumber J naming). numbers old ++ (n.value, id) ∷ []) number);
   }
 
   -- of a call something is noted

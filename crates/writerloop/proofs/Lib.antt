@@ -2,9 +2,10 @@ pub mod BlamedSteps
 pub mod CallSteps
 pub mod CreditSteps
 pub mod EndSteps
+pub mod OpeningSteps
 pub mod OrderSteps
-pub mod SentSteps
-pub mod WrittenSteps
-pub mod SpelledLemmas
-pub mod WroteSteps
 pub mod RestSteps
+pub mod SentSteps
+pub mod SpelledLemmas
+pub mod WrittenSteps
+pub mod WroteSteps

@@ -1,8 +1,9 @@
 -- The senders that a writer has at its end, handed over one after another.
-use Rattle.std.proofs.Common.{◌≡◌, ◌∙◌, ℕ, List, [], ◌∷◌, ◌++◌, Option, None, Some, map, length, ap, sym, refl, subst, arith}
+use Rattle.std.proofs.Common.{◌≡◌, ◌∙◌, ◌<◌, ℕ, true≢false, List, [], ◌∷◌, ◌++◌, Option, None, Some, map, length, ap, sym, refl, subst, arith, length-append}
 use Rattle.std.specs.Prelude.{IfNone, IfSome, option_map}
 use Rattle.std.specs.List.Sorted.{IsPermutation}
-use Rattle.std.proofs.lemmas.List.{append_cancel_right, map-append}
+use Rattle.std.specs.Option.{IsSome, is_some}
+use Rattle.std.proofs.lemmas.List.{append_cancel_right, length-map, map-append}
 use Rattle.std.proofs.lemmas.List.Sorted.{IsPermutation-append_comm, IsPermutation-refl}
 use Rattle.account.specs.declared.call.OutItem.{OutItem}
 use Rattle.lane.specs.Lawful.{last_of}
@@ -20,7 +21,7 @@ use Rattle.writerloop.specs.declared.sends.Sent.{Sent}
 use Rattle.writerloop.specs.declared.writing.Senders.{Senders}
 use Rattle.writerloop.specs.Orders.{order_in}
 use Rattle.writerloop.specs.Rest.{HandsOver, rest_calls, rest_numbers}
-use Rattle.writerloop.specs.Sent.{IsLastOf, TakesLast, core_keys, got_of, keys, numbered, numbers, opens}
+use Rattle.writerloop.specs.Sent.{IsLastOf, TakesLast, core_keys, got_of, keys, lane_of, numbered, numbers, opens}
 use Rattle.writerloop.proofs.CallSteps.{key, key-of, number, same-length}
 
 -- ---- lists
@@ -43,11 +44,27 @@ unsent None fresh = absurd (none fresh)
     none e = cc
 unsent (Some sender) fresh = ap (some-of []) fresh
 
+-- none is there
+pub none-there : {X : Type 0} (one : Option X) → one ≡ None → IsSome one → ⊥
+none-there one none some = true≢false (sym some ∙ ap is_some none)
+
 module _ {J : Type 0} {naming : Ghosts J} where
   -- the last call is that of the last sender
   pub last-of : (id : ℕ) (sender : OutSender) (sent : List (Sent J naming)) (core cores : List (ℕ × OutSender)) → keys sent ≡ core_keys core → core ≡ cores ++ (id, sender) ∷ [] → IsLastOf sender sent
   last-of id sender sent core cores aligned is =
       (core_keys cores, id, aligned ∙ (ap (λ (all : List (ℕ × OutSender)). core_keys all) is ∙ map-append key-of cores ((id, sender) ∷ [])))
+
+  -- there is a last call
+  pub some-last : (sender : OutSender) (sent : List (Sent J naming)) → IsLastOf sender sent → 0 < length sent
+  some-last sender sent last =
+      omega (arith, length-map sent key, ap (λ (all : List (ℕ × Option LaneName)). length all) last.2, length-append last.0 ((last.1, Some (out_name sender.rx)) ∷ []))
+
+  -- its lane is the sender's
+  pub last-lane : (sender : OutSender) (sent rest : List (Sent J naming)) (call : Sent J naming) → IsLastOf sender sent → sent ≡ rest ++ call ∷ [] → lane_of call.sending.value ≡ Some (out_name sender.rx)
+  last-lane sender sent rest call last is =
+      ap (λ (one : ℕ × Option LaneName). one.1)
+      (same-last (keys rest) last.0 (key call) (last.1, Some (out_name sender.rx))
+      (sym (map-append key rest (call ∷ [])) ∙ (sym (ap (λ (all : List (Sent J naming)). keys all) is) ∙ last.2)))
 
   last-keys : (id : ℕ) (sender : OutSender) (sent after : List (Sent J naming)) (call : Sent J naming) (core cores : List (ℕ × OutSender)) → keys sent ≡ core_keys core → core ≡ cores ++ (id, sender) ∷ []
       → sent ≡ after ++ call ∷ [] → keys after ++ key call ∷ [] ≡ core_keys cores ++ key-of (id, sender) ∷ []

@@ -53,10 +53,10 @@ pub(crate) fn begin<J: Naming, W: ConnWrite>(
             Ok(())
         }
         Taking::HandedBack(back) => {
-            let Control::Open(_, sender) = back else {
+            let Control::Open(_, again) = back else {
                 unreachable!();
             };
-            sending.sender = Some(sender);
+            sending.sender = Some(again);
             Err(Control::Open(id, Opening { sending, line }))
         }
         Taking::Ended(_) => unreachable!(),

@@ -151,9 +151,10 @@ impl<J: Naming> Sends<J> {
         ensures takes { TakesLast sender self.old.calls.items self.new.calls.items result }
         ensures way { self.new.home ≡ self.old.home }
     {
-        let Some(Sent { mut sending, .. }) = self.calls.pop() else {
+        let Some(call) = self.calls.pop() else {
             unreachable!();
         };
+        let Sent { mut sending, .. } = call;
         sending.sender = Some(sender);
         Returning { sending }
     }

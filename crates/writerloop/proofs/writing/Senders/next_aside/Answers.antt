@@ -1,4 +1,4 @@
-use Rattle.std.proofs.Common.{◌≡◌, ◌∙◌, [], Some, ap, refl, rules, subst, sym}
+use Rattle.std.proofs.Common.{◌≡◌, ◌∙◌, [], Some, ap, refl, subst, sym}
 use Rattle.writerloop.specs.Orders.{order_in}
 use Rattle.writerloop.specs.Sent.{opens}
 use Rattle.writerloop.proofs.RestSteps.{hands-aside}
@@ -8,10 +8,10 @@ use Rattle.writerloop.proofs.writing.Senders.next_aside.Goals as goal
 
 pub returns-in-Ok-clause-none : goal.returns-in-Ok-clause-none
 returns-in-Ok-clause-none g c =
-    let is : c.args.self.now.aside ≡ Some c.in_ok-order.order = search rules in
+    let is : c.args.self.now.aside ≡ Some c.in_ok-order.order = cc in
     subst (λ aside. opens (order_in aside) ≡ []) (sym is) (opens-none c.in_ok-order.order (as-plain c.in_ok-order.order c.in-Ok._plain (sym c.in-Ok.ensures.same) c.in-Ok.ensures.plain))
 
 pub returns-in-Err-clause-some : goal.returns-in-Err-clause-some
 returns-in-Err-clause-some g c =
-    let is : c.args.self.now.aside ≡ Some c.in_ok-order.order = search rules in
+    let is : c.args.self.now.aside ≡ Some c.in_ok-order.order = cc in
     hands-aside c.in-Err._id c.in-Err.opening _ c.args.self.now _ (is ∙ ap (λ order. Some order) c.in-Err.ensures.opens) refl refl refl refl

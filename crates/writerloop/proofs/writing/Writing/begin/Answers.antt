@@ -1,4 +1,4 @@
-use Rattle.std.proofs.Common.{ap, refl}
+use Rattle.std.proofs.Common.{ap, refl, true}
 use Rattle.writerloop.specs.Sent.{numbers}
 use Rattle.lane.specs.Ring.{put_in}
 use Rattle.writerloop.proofs.WrittenSteps.{begins-on, goes-none, runs-same}
