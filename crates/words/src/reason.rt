@@ -4,8 +4,9 @@
 //! of them that the command does not take; where each is taken, something is missing, or two things exclude each other.
 
 use crate::read::{COMMANDS, command_line};
+use crate::frames::side_named;
 use crate::serve::{form_of, time_form_of};
-use crate::{body, case, misbehave, own_server, reporting, serve, wire};
+use crate::{body, case, frames, misbehave, own_server, reporting, serve, tracing, wire};
 use clap::builder::ValueParser;
 use clap::{Arg, ArgAction, Command};
 use results::Level;
@@ -65,6 +66,7 @@ fn takes(command: &str) -> &'static str {
     match command {
         "body" => body::TAKES,
         "case" => case::TAKES,
+        "frames" => frames::TAKES,
         "misbehave" => misbehave::TAKES,
         "self" | "drain" => own_server::TAKES,
         "serve" => serve::TAKES,
@@ -78,13 +80,22 @@ fn has_cases(command: &str) -> bool {
     matches!(command, "case" | "misbehave" | "wire")
 }
 
-/// Adds the options for outcomes, where a command takes them.
+/// Whether a command has connections, and takes the options for what passes on them.
+fn has_connections(command: &str) -> bool {
+    has_cases(command) || command == "serve"
+}
+
+/// Adds the options that commands share, where a command takes them.
 fn push_shared<W: fmt::Write>(f: &mut fmt::Formatter<W>, command: &str) -> fmt::Result {
-    if !has_cases(command) {
-        return Ok(());
+    if has_connections(command) {
+        let shared = tracing::TAKES;
+        write!(f, "; {shared}")?;
     }
-    let shared = reporting::TAKES;
-    write!(f, "; and {shared}")
+    if has_cases(command) {
+        let shared = reporting::TAKES;
+        write!(f, "; and {shared}")?;
+    }
+    Ok(())
 }
 
 impl<'a> fmt::Display for Reason<'a> {
@@ -220,6 +231,8 @@ impl<'c, 'a> Given<'c, 'a> {
             _ => match self.arg.get_id() {
                 "log" => form_of(value).is_some(),
                 "time" => time_form_of(value).is_some(),
+                "trace" => tracing::form_of(value).is_some(),
+                "side" => side_named(value).is_some(),
                 "use_tls" => value == "false",
                 "level" => Level::named(value).is_some(),
                 _ => true,
@@ -342,6 +355,7 @@ fn reason_of_whole<'a>(command: &'a str, words: &[String], is_placed: bool) -> R
         "case" => "NAME.. or --test_case NAME, or --list",
         "wire" if is_placed => "--port P",
         "wire" => "all, GROUP, GROUP/N or GROUP/N-M, or --list",
+        "frames" => "at most two files",
         _ => takes(command),
     };
     Reason::Missing { command, what }
