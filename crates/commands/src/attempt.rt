@@ -11,19 +11,25 @@ use crate::connecting::{Place, connect};
 use crate::kept::{Bytes, Kept};
 use cases::{Case, CaseFault, Failure, Limit, ReportFault, Timed, Windows};
 use device::{ConnWrite, write_all};
+use recorder::{Recorder, look_at_server};
 use results::{Level, Outcome, Rule, Suite, Verdict, push_summary, summary_of};
 use std::alloc::{AllocError, Global};
+use std::fs::File;
 use std::io;
 use std::net::Net;
+use std::rt::Files;
+use std::sync::{Arc, Wait};
 use std::time::{Clock, Duration, Instant};
 
 /// The server that cases are run against, and how.
-#[derive(Clone, Copy, Debug, PartialEq, Eq)]
+#[derive(Clone, Copy)]
 pub struct Target<'a> {
     pub place: Place<'a>,
     /// How many seconds a case may take; at least 1.
     pub patience: u16,
     pub windows: Windows,
+    /// Where it is written what passes, if it is.
+    pub recorder: &'a Option<Arc<Recorder>>,
 }
 
 /// What came of a run.
@@ -38,11 +44,10 @@ pub(crate) struct Attempt {
 }
 
 /// Runs a case over a connection that it makes: the time for both is one.
-pub(crate) fn attempt<R: Net + Clock + AllocGlobal>(
-    rt: &R,
-    name: &str,
-    target: Target<'_>,
-) -> Attempt {
+pub(crate) fn attempt<R>(rt: &R, name: &str, target: Target<'_>) -> Attempt
+where
+    R: Net + Files<File = File> + Wait + Clock + Eprint + AllocGlobal + Copy + Drop,
+{
     let alloc = rt.alloc();
     let whole = Duration::from_secs(u64::from(target.patience));
     let Ok(limit) = Limit::begin(rt, whole) else {
@@ -52,10 +57,14 @@ pub(crate) fn attempt<R: Net + Clock + AllocGlobal>(
         Ok(stream) => stream,
         Err(failure) => return unmade(failure, milliseconds_of(limit.spent(rt))),
     };
-    let mut kept = Kept::new(alloc, stream);
+    let line = look_at_server(*rt, target.recorder, stream, name);
+    let mut kept = Kept::new(alloc, line);
     let line = Timed::new(rt, &mut kept, limit);
     let failure = cases::run_case(alloc, name, line, target.windows).err();
-    let Kept { bytes, .. } = kept;
+    let Kept { stream, bytes } = kept;
+    if let (Some(eye), Some(failure)) = (stream.tap(), &failure) {
+        eye.fault(failure.note.as_str());
+    }
     Attempt {
         failure,
         bytes: Some(bytes),
@@ -77,11 +86,9 @@ pub(crate) fn milliseconds_of(time: Duration) -> u64 {
 }
 
 /// Runs a case over a connection of its own. Where it fails, a line on standard error says why.
-pub(crate) fn try_case<R: Net + Clock + Eprint + AllocGlobal>(
-    rt: &R,
-    name: &str,
-    target: Target<'_>,
-) -> Result<(), CaseFault>
+pub(crate) fn try_case<R>(rt: &R, name: &str, target: Target<'_>) -> Result<(), CaseFault>
+where
+    R: Net + Files<File = File> + Wait + Clock + Eprint + AllocGlobal + Copy + Drop,
     ensures unknown { IsNoName name.now → result ≡ Err UnknownCase }
 {
     if Case::named(name).is_none() {

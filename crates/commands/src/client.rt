@@ -11,15 +11,18 @@ use crate::connecting::{Place, connect};
 use crate::load::load_case;
 use crate::soak::run_soak;
 use crate::tally::{Tally, push_tally};
-use crate::trial::{TrialFault, Verdict, choice_of, refuse_choice};
+use crate::trial::{TrialFault, Verdict, choice_of, refuse_choice, unless_failed};
 use cases::{Case, CaseFault, Limit, ReportFault, Soak, Windows, print_line, push_line, run_all};
 use device::{ConnWrite, write_all};
+use recorder::Recorder;
 use results::{ChoiceFault, Entry, Level, Outcome, Suite, chosen};
 use sinks::{Form, Run, Sinks};
 use std::alloc::Global;
+use std::fs::File;
 use std::io::Write;
 use std::net::{Net, TcpListener, TcpStream};
 use std::rt::Files;
+use std::sync::{Arc, Wait};
 use std::thread::Threads;
 use std::time::{Clock, Duration};
 use words::{CaseRun, CaseWords};
@@ -29,11 +32,12 @@ pub const PATIENCE: u16 = 10;
 
 impl<'a> Target<'a> {
     /// The one that words name, with windows held.
-    fn of(words: &CaseRun<'a>) -> Target<'a> {
+    fn of(words: &CaseRun<'a>, recorder: &'a Option<Arc<Recorder>>) -> Target<'a> {
         Target {
             place: Place::new(words.host, words.port),
             patience: words.patience,
             windows: Windows::Held,
+            recorder,
         }
     }
 }
@@ -47,8 +51,8 @@ pub fn run_case<R, W>(
     output: &mut W,
 ) -> Result<Verdict, TrialFault>
 where
-    R: Net<Stream = TcpStream, Listener = TcpListener> + Files + Eprint + AllocGlobal,
-    R: Clock + Threads + Copy + Send + Sync + Drop + 'static,
+    R: Net<Stream = TcpStream, Listener = TcpListener> + Files<File = File> + Eprint + AllocGlobal,
+    R: Clock + Threads + Wait + Copy + Send + Sync + Drop + 'static,
     W: ConnWrite,
 {
     let words = match words {
@@ -129,8 +133,8 @@ fn run_chosen<R, W>(
     output: &mut W,
 ) -> Result<Verdict, TrialFault>
 where
-    R: Net<Stream = TcpStream, Listener = TcpListener> + Files + Eprint + AllocGlobal,
-    R: Clock + Threads + Copy + Send + Sync + Drop + 'static,
+    R: Net<Stream = TcpStream, Listener = TcpListener> + Files<File = File> + Eprint + AllocGlobal,
+    R: Clock + Threads + Wait + Copy + Send + Sync + Drop + 'static,
     W: ConnWrite,
 {
     let run = Run {
@@ -140,19 +144,21 @@ where
         chosen: places.len(),
         is_shown,
     };
+    let recorder = Recorder::open(&rt, rt.alloc(), words.tracing, None)?;
     let mut sinks = Sinks::open(rt, rt.alloc(), run)?;
     'runs: for _ in 0..words.reporting.repeat {
         for place in places {
             let Some(name) = NAMES.get(*place) else {
                 continue;
             };
-            run_named(rt, name, words, &mut sinks, output)?;
+            run_named(rt, name, words, &recorder, &mut sinks, output)?;
             if sinks.is_over() {
                 break 'runs;
             }
         }
     }
-    Ok(Verdict::from(sinks.close(output)?))
+    let verdict = Verdict::from(sinks.close(output)?);
+    unless_failed(&recorder, verdict)
 }
 
 /// Runs the case or the soak of this name, as the words say, and tells what came of it.
@@ -160,12 +166,13 @@ fn run_named<R, W>(
     rt: R,
     name: &str,
     words: &CaseRun<'_>,
+    recorder: &Option<Arc<Recorder>>,
     sinks: &mut Sinks<'_, R>,
     output: &mut W,
 ) -> Result<(), TrialFault>
 where
-    R: Net<Stream = TcpStream, Listener = TcpListener> + Files + Eprint + AllocGlobal,
-    R: Clock + Threads + Copy + Send + Sync + Drop + 'static,
+    R: Net<Stream = TcpStream, Listener = TcpListener> + Files<File = File> + Eprint + AllocGlobal,
+    R: Clock + Threads + Wait + Copy + Send + Sync + Drop + 'static,
     W: ConnWrite,
 {
     let alloc = rt.alloc();
@@ -173,15 +180,17 @@ where
     let outcome = match (Soak::named(name), Case::named(name)) {
         (Some(soak), _) => {
             sinks.hide();
-            run_soak(rt, soak, words, &mut lines)?
+            run_soak(rt, soak, words, recorder, &mut lines)?
         }
         (None, Some(case)) => match words.streams {
             Some(streams) => {
                 sinks.hide();
-                load_case(rt, case, words, streams, &mut lines)?
+                load_case(rt, case, words, streams, recorder, &mut lines)?
             }
-            None if words.times > 1 => run_often(&rt, alloc, name, words, sinks, &mut lines)?,
-            None => run_once(&rt, alloc, name, words, sinks, &mut lines)?,
+            None if words.times > 1 => {
+                run_often(&rt, alloc, name, words, recorder, sinks, &mut lines)?
+            }
+            None => run_once(&rt, alloc, name, words, recorder, sinks, &mut lines)?,
         },
         (None, None) => return Ok(()),
     };
@@ -225,15 +234,19 @@ where
 }
 
 /// Runs a case once.
-fn run_once<R: Net + Files + Clock + Eprint + AllocGlobal + Drop>(
+fn run_once<R>(
     rt: &R,
     alloc: Global,
     name: &str,
     words: &CaseRun<'_>,
+    recorder: &Option<Arc<Recorder>>,
     sinks: &Sinks<'_, R>,
     lines: &mut Vec<u8>,
-) -> Result<Outcome, TrialFault> {
-    let attempt = attempt(rt, name, Target::of(words));
+) -> Result<Outcome, TrialFault>
+where
+    R: Net + Files<File = File> + Wait + Clock + Eprint + AllocGlobal + Copy + Drop,
+{
+    let attempt = attempt(rt, name, Target::of(words, recorder));
     if let Some(failure) = &attempt.failure {
         sinks.note(name, failure.note.as_str());
     }
@@ -246,19 +259,23 @@ fn run_once<R: Net + Files + Clock + Eprint + AllocGlobal + Drop>(
 }
 
 /// Runs a case so many times: what came of it is what came of the first run that failed, if one did.
-fn run_often<R: Net + Files + Clock + Eprint + AllocGlobal + Drop>(
+fn run_often<R>(
     rt: &R,
     alloc: Global,
     name: &str,
     words: &CaseRun<'_>,
+    recorder: &Option<Arc<Recorder>>,
     sinks: &Sinks<'_, R>,
     lines: &mut Vec<u8>,
-) -> Result<Outcome, TrialFault> {
+) -> Result<Outcome, TrialFault>
+where
+    R: Net + Files<File = File> + Wait + Clock + Eprint + AllocGlobal + Copy + Drop,
+{
     let mut tally = Tally::new();
     let mut milliseconds = 0u64;
     let mut first: Option<Outcome> = None;
     for _ in 0..words.times {
-        let attempt = attempt(rt, name, Target::of(words));
+        let attempt = attempt(rt, name, Target::of(words, recorder));
         milliseconds = milliseconds.saturating_add(attempt.milliseconds);
         match &attempt.failure {
             None => tally.count(Ok(())),
@@ -306,12 +323,15 @@ fn is_named(name: &str, words: &CaseRun<'_>) -> bool {
 }
 
 /// Runs the fourteen cases, prints a line of each, and answers what came of each.
-pub fn run_all_cases<R: Net + Clock + Eprint + AllocGlobal, W: ConnWrite>(
+pub fn run_all_cases<R, W>(
     rt: &R,
     alloc: Global,
     target: Target<'_>,
     output: &mut W,
 ) -> Result<Vec<cases::Outcome>, ReportFault>
+where
+    R: Net + Files<File = File> + Wait + Clock + Eprint + AllocGlobal + Copy + Drop,
+    W: ConnWrite,
     ensures order { IfOk result
         (λ outcomes. map (λ outcome. outcome.case) outcomes.items ≡ all_cases) }
     ensures lines { IfOk result (λ outcomes.

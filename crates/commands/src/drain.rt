@@ -23,9 +23,11 @@ use h2frame::{Frame, FrameKind, FrameReader, StreamId};
 use handlers::Methods;
 use results::Suite;
 use std::alloc::{AllocError, Global};
+use std::fs::File;
 use std::io;
 use std::io::{Read, Write};
 use std::net::{Net, TcpListener, TcpStream};
+use std::rt::Files;
 use std::sync::{Arc, Wait};
 use std::thread::Threads;
 use std::time::{Clock, Duration, Instant};
@@ -70,7 +72,7 @@ pub fn run_drain<R, W>(
 where
     W: ConnWrite,
     R: Net<Stream = TcpStream, Listener = TcpListener> + Print + Eprint + AllocGlobal,
-    R: Threads + Wait + Clock + Copy + Send + Sync + Drop + 'static,
+    R: Files<File = File> + Threads + Wait + Clock + Copy + Send + Sync + Drop + 'static,
     ensures { IfOk result (λ passed. (goaways : List Seen) × (answer : Result (Unit {0}) Fault)
         × (outcome : Outcome) × (milliseconds : ℕ)
         × (outcome.verdict ≡ verdict_of answer)
@@ -88,6 +90,7 @@ where
         reports: Reports::Nowhere,
         log: None,
         stop: Some(Arc::try_clone(&stop)?),
+        recorder: None,
     };
     let serving = serve_apart(rt, alloc, listener, service)?;
     let begun = Instant::now(&rt);

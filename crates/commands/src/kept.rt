@@ -12,7 +12,7 @@ const MOST: usize = 1_048_576;
 /// A connection, and the first of the bytes that were sent and read.
 #[derive(Drop)]
 pub(crate) struct Kept<S> {
-    stream: S,
+    pub(crate) stream: S,
     pub(crate) bytes: Bytes,
 }
 

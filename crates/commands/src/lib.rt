@@ -56,6 +56,6 @@ pub use listening::listen;
 pub use memory::{MemoryInput, MemoryOutput};
 pub use parts::run_parts;
 pub use server::{run_self, serve};
-pub use trial::{TrialFault, Verdict, choice_of, refuse_choice};
+pub use trial::{TrialFault, Verdict, choice_of, refuse_choice, unless_failed};
 pub use wire_cases::run_wire;
 pub use words::{CaseWords, Port, Reason, ServeWords, WireWords, Words, WordsFault, read_words};

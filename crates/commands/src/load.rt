@@ -9,10 +9,13 @@ use crate::connecting::Place;
 use crate::tally::{Tally, push_tally};
 use crate::trial::TrialFault;
 use cases::{Case, CaseFault, Windows};
+use recorder::Recorder;
 use results::{Outcome, Suite};
 use std::alloc::{AllocError, Global};
+use std::fs::File;
 use std::net::{Net, TcpListener, TcpStream};
-use std::sync::Arc;
+use std::rt::Files;
+use std::sync::{Arc, Wait};
 use std::thread;
 use std::thread::Threads;
 use std::time::{Clock, Instant};
@@ -33,6 +36,7 @@ struct Trial {
     host: String,
     port: u16,
     patience: u16,
+    recorder: Option<Arc<Recorder>>,
 }
 
 /// Runs a case as often as the words say, so many at a time. Its lines are that of the case, and one of its times: within which
@@ -42,11 +46,12 @@ pub(crate) fn load_case<R>(
     case: Case,
     words: &CaseRun<'_>,
     streams: u16,
+    recorder: &Option<Arc<Recorder>>,
     lines: &mut Vec<u8>,
 ) -> Result<Outcome, TrialFault>
 where
-    R: Net<Stream = TcpStream, Listener = TcpListener> + Eprint + AllocGlobal,
-    R: Clock + Threads + Copy + Send + Sync + Drop + 'static,
+    R: Net<Stream = TcpStream, Listener = TcpListener> + Files<File = File> + Eprint + AllocGlobal,
+    R: Clock + Threads + Wait + Copy + Send + Sync + Drop + 'static,
 {
     let alloc = rt.alloc();
     let trial = Trial {
@@ -54,6 +59,10 @@ where
         host: String::from_str(alloc, words.host)?,
         port: words.port,
         patience: words.patience,
+        recorder: match recorder {
+            Some(recorder) => Some(Arc::try_clone(recorder)?),
+            None => None,
+        },
     };
     let begun = Instant::now(&rt);
     let runs = all_runs(rt, alloc, trial, words.times, streams)?;
@@ -82,8 +91,8 @@ fn all_runs<R>(
     streams: u16,
 ) -> Result<Vec<Run>, AllocError>
 where
-    R: Net<Stream = TcpStream, Listener = TcpListener> + Eprint + AllocGlobal,
-    R: Clock + Threads + Copy + Send + Sync + Drop + 'static,
+    R: Net<Stream = TcpStream, Listener = TcpListener> + Files<File = File> + Eprint + AllocGlobal,
+    R: Clock + Threads + Wait + Copy + Send + Sync + Drop + 'static,
 {
     let trial = Arc::new(alloc, trial)?;
     let mut threads = Vec::new(alloc);
@@ -118,12 +127,13 @@ fn share(times: u16, streams: u16, place: u16) -> u16 {
 /// What came of so many runs, one after another.
 fn runs_of<R>(rt: &R, alloc: Global, trial: &Trial, count: u16) -> Result<Vec<Run>, AllocError>
 where
-    R: Net<Stream = TcpStream, Listener = TcpListener> + Eprint + AllocGlobal + Clock,
+    R: Net + Files<File = File> + Wait + Clock + Eprint + AllocGlobal + Copy + Drop,
 {
     let target = Target {
         place: Place::new(trial.host.as_str(), trial.port),
         patience: trial.patience,
         windows: Windows::Open,
+        recorder: &trial.recorder,
     };
     let mut runs = Vec::new(alloc);
     for _ in 0..count {
@@ -133,7 +143,10 @@ where
 }
 
 /// Runs a case, and looks at the clock.
-fn try_once<R: Net + Eprint + AllocGlobal + Clock>(rt: &R, name: &str, target: Target<'_>) -> Run {
+fn try_once<R>(rt: &R, name: &str, target: Target<'_>) -> Run
+where
+    R: Net + Files<File = File> + Wait + Clock + Eprint + AllocGlobal + Copy + Drop,
+{
     let begun = Instant::now(rt);
     let fault = try_case(rt, name, target).err();
     let took = match begun.and_then(|begun| begun.elapsed(rt)) {

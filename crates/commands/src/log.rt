@@ -61,6 +61,7 @@ pub trait Logs {
         methods: &Methods,
         connection: Connection,
         ended: &stream::Ended,
+        file: &Option<String>,
     );
 }
 
@@ -81,12 +82,13 @@ impl Logs for Log {
         methods: &Methods,
         connection: Connection,
         ended: &stream::Ended,
+        file: &Option<String>,
     ) {
         let lines = ended.calls.len().saturating_add(1);
         let moment = self.times.now(rt);
         let report = match self.times.form {
-            LogForm::Text => report_of(alloc, connection.peer, methods, ended),
-            LogForm::Json => self.objects(alloc, methods, connection, ended, moment),
+            LogForm::Text => report_of(alloc, connection.peer, methods, ended, file),
+            LogForm::Json => self.objects(alloc, methods, connection, ended, file, moment),
         };
         match report {
             Ok(text) => self.leave(
@@ -264,11 +266,12 @@ impl Log {
         methods: &Methods,
         connection: Connection,
         ended: &stream::Ended,
+        file: &Option<String>,
         moment: Moment,
     ) -> Result<String, AllocError> {
         let time = self.times.text(alloc, moment)?;
         let time = time.as_ref().map_or("null", |time| time.as_str());
-        objects_of(alloc, time, connection, methods, ended)
+        objects_of(alloc, time, connection, methods, ended, file)
     }
 
     /// So many lines are lost.

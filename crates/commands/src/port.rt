@@ -12,13 +12,17 @@ use crate::stopping::{Connection, Stop};
 use crate::stream::{Ended, Link, serve_stream};
 use connection::{Ending, STACK};
 use handlers::Methods;
+use recorder::{Eye, Recorder, Sight, look};
 use std::alloc::{AllocError, Global};
+use std::fs::File;
 use std::net::{TcpListener, TcpStream};
+use std::rt::Files;
 use std::sync::atomic::{AtomicU64, Ordering};
 use std::sync::{Arc, Wait};
 use std::thread::{Builder, JoinHandle, Threads};
 use std::time::{Clock, Duration};
 use std::{io, thread};
+use trace::Side;
 
 /// How long no connection is taken after one could not be, in milliseconds.
 const PAUSE: u64 = 10;
@@ -33,6 +37,8 @@ pub struct Service<L> {
     pub log: Option<Arc<L>>,
     /// How it stops, if it does before the program is interrupted.
     pub stop: Option<Arc<Stop>>,
+    /// Where it is written what passes on them, if it is.
+    pub recorder: Option<Arc<Recorder>>,
 }
 
 /// Where connections that have ended are reported on.
@@ -75,7 +81,8 @@ pub fn serve_port<R, L>(
     service: Service<L>,
 ) -> io::Result<Vec<Connection>>
 where
-    R: Print + Threads + Wait + Clock + Copy + Send + Sync + Drop + 'static,
+    R: Files<File = File> + Print + Eprint + Threads + Wait + Clock,
+    R: Copy + Send + Sync + Drop + 'static,
     L: Logs + Send + Sync + Drop + 'static,
 {
     let stop = match &service.stop {
@@ -118,7 +125,8 @@ pub fn serve_apart<R, L>(
     service: Service<L>,
 ) -> Result<JoinHandle<()>, AllocError>
 where
-    R: Print + Threads + Wait + Clock + Copy + Send + Sync + Drop + 'static,
+    R: Files<File = File> + Print + Eprint + Threads + Wait + Clock,
+    R: Copy + Send + Sync + Drop + 'static,
     L: Logs + Send + Sync + Drop + 'static,
 {
     let serving = thread::spawn(&rt, move || {
@@ -135,7 +143,8 @@ where
 /// Takes all connections that come. The threads that serve the first of them stay.
 fn take_all<R, L>(rt: R, alloc: Global, port: &Arc<Port<L>>)
 where
-    R: Print + Threads + Wait + Clock + Copy + Send + Sync + Drop + 'static,
+    R: Files<File = File> + Print + Eprint + Threads + Wait + Clock,
+    R: Copy + Send + Sync + Drop + 'static,
     L: Logs + Send + Sync + Drop + 'static,
 {
     for _ in rt.forever() {
@@ -156,7 +165,8 @@ fn pause(rt: &impl Clock) {
 /// Takes so many connections. Once the last of them has ended, the server stops.
 fn take_some<R, L>(rt: R, alloc: Global, port: &Arc<Port<L>>, count: u16)
 where
-    R: Print + Threads + Wait + Clock + Copy + Send + Sync + Drop + 'static,
+    R: Files<File = File> + Print + Eprint + Threads + Wait + Clock,
+    R: Copy + Send + Sync + Drop + 'static,
     L: Logs + Send + Sync + Drop + 'static,
 {
     let mut left = count;
@@ -185,7 +195,8 @@ fn serve_next<R, L>(
     afterwards: Afterwards,
 ) -> io::Result<()>
 where
-    R: Print + Threads + Wait + Clock + Copy + Send + Sync + Drop + 'static,
+    R: Files<File = File> + Print + Eprint + Threads + Wait + Clock,
+    R: Copy + Send + Sync + Drop + 'static,
     L: Logs + Send + Sync + Drop + 'static,
 {
     let shared = Arc::try_clone(port)?;
@@ -214,7 +225,8 @@ fn serve_first<R, L>(
     afterwards: Afterwards,
 )
 where
-    R: Print + Threads + Wait + Clock + Copy + Send + Sync + Drop + 'static,
+    R: Files<File = File> + Print + Eprint + Threads + Wait + Clock,
+    R: Copy + Send + Sync + Drop + 'static,
     L: Logs + Send + Sync + Drop + 'static,
 {
     let lacks = serve_one(rt, alloc, &port.service, stream, connection);
@@ -232,7 +244,8 @@ where
 /// Takes one connection after another, and serves each to its end, until there are too few threads for that.
 fn take_more<R, L>(rt: R, alloc: Global, port: &Port<L>)
 where
-    R: Print + Threads + Wait + Clock + Copy + Send + Sync + Drop + 'static,
+    R: Files<File = File> + Print + Eprint + Threads + Wait + Clock,
+    R: Copy + Send + Sync + Drop + 'static,
     L: Logs + Send + Sync + Drop + 'static,
 {
     for _ in rt.forever() {
@@ -249,7 +262,8 @@ where
 /// Takes the next connection and serves it, unless the server stops. It fails where none could be taken.
 fn serve_taken<R, L>(rt: R, alloc: Global, port: &Port<L>) -> io::Result<()>
 where
-    R: Print + Threads + Wait + Clock + Copy + Send + Sync + Drop + 'static,
+    R: Files<File = File> + Print + Eprint + Threads + Wait + Clock,
+    R: Copy + Send + Sync + Drop + 'static,
     L: Logs + Send + Sync + Drop + 'static,
 {
     let Some((stream, connection)) = port.take_next(&rt)? else {
@@ -294,19 +308,56 @@ impl<L> Service<L> {
     }
 }
 
+impl<L> Service<L> {
+    /// Who looks at a connection that begins, if anyone does.
+    // (kept out of its caller, whose frame is on the stack of each connection that lives)
+    #[inline(never)]
+    fn eye<R>(&self, rt: R, stream: &TcpStream, connection: Connection) -> Option<Eye<R>>
+    where
+        R: Files<File = File> + Wait + Clock + Eprint + Copy + Drop,
+    {
+        let Connection { number, peer } = connection;
+        if self.recorder.is_none() {
+            return None;
+        }
+        let own = stream.local_addr().ok()?;
+        look(
+            rt,
+            &self.recorder,
+            Sight {
+                number: Some(number),
+                side: Side::Server,
+                own,
+                peer,
+                label: None,
+            },
+        )
+    }
+
+    /// The file with what was read of a connection, where there is one.
+    fn file_of(&self, connection: Connection) -> Option<String> {
+        match &self.recorder {
+            Some(recorder) => recorder.file_of(connection.number).ok()?,
+            None => None,
+        }
+    }
+}
+
 impl<L: Logs> Service<L> {
     /// Has a connection that has ended reported on, where that is wanted.
     fn report<R>(&self, rt: &R, alloc: Global, connection: Connection, ended: Ended)
     where
-        R: Print + Threads + Wait + Clock + Copy + Send + Sync + Drop + 'static,
+        R: Print + Eprint + Threads + Wait + Clock + Copy + Send + Sync + Drop + 'static,
     {
         match (&self.reports, &self.log) {
             (Reports::Nowhere, _) => {}
             (Reports::Printed(reporter), _) => {
-                reporter.tell(rt, alloc, &self.methods, connection.peer, ended);
+                let file = self.file_of(connection);
+                reporter.tell(rt, alloc, &self.methods, connection.peer, ended, file);
             }
             (Reports::Logged, Some(log)) => {
-                log.report(rt, alloc, &self.methods, connection, &ended);
+                let file = self.file_of(connection);
+                log.report(rt, alloc, &self.methods, connection, &ended, &file);
             }
             (Reports::Logged, None) => {}
         }
@@ -323,14 +374,24 @@ fn serve_one<R, L>(
     connection: Connection,
 ) -> bool
 where
-    R: Print + Threads + Wait + Clock + Copy + Send + Sync + Drop + 'static,
+    R: Files<File = File> + Print + Eprint + Threads + Wait + Clock,
+    R: Copy + Send + Sync + Drop + 'static,
     L: Logs + Send + Sync + Drop + 'static,
 {
     let logged = match &service.log {
         Some(log) => L::begin(log, &rt, alloc, connection),
         None => None,
     };
-    let served = serve_stream(rt, alloc, stream, &service.methods, &logged, &service.stop);
+    let eye = service.eye(rt, &stream, connection);
+    let served = serve_stream(
+        rt,
+        alloc,
+        stream,
+        &service.methods,
+        &logged,
+        eye,
+        &service.stop,
+    );
     if let Some(logged) = &logged {
         logged.end(&rt, how_of(&served));
     }

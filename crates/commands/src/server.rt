@@ -20,9 +20,11 @@ use cases::{ReportFault, Windows, have_passed};
 use connlog::json;
 use device::{ConnRead, ConnWrite, Marked};
 use handlers::Methods;
+use recorder::Recorder;
 use results::Suite;
 use std::alloc::Global;
-use std::io::StdinLock;
+use std::fs::File;
+use std::io::{ErrorKind, StdinLock};
 use std::net::{Net, SocketAddr, TcpListener, TcpStream};
 use std::rt::Files;
 use std::sync::{Arc, Wait};
@@ -42,13 +44,14 @@ const PAUSE: u64 = 100;
 pub fn serve<R>(rt: R, methods: Arc<Methods>, words: ServeWords<'_>) -> io::Result<bool>
 where
     R: Net<Stream = TcpStream, Listener = TcpListener> + Input<Reader = StdinLock<'static>>,
-    R: Files + Print + Eprint + AllocGlobal,
+    R: Files<File = File> + Print + Eprint + AllocGlobal,
     R: Threads + Wait + Clock + Copy + Send + Sync + Drop + 'static,
 {
     let alloc = rt.alloc();
     let listener = listen(&rt, words.host, words.port)?;
     let address = listener.local_addr()?;
     let times = words.log.map(|form| Times::begin(&rt, form, words.time));
+    let recorder = recorder_of(&rt, alloc, words)?;
     say_listening(&rt, alloc, address, times)?;
     tell_ready(&rt, alloc, address, words)?;
     let stop = stop_of(rt, alloc, words)?;
@@ -63,9 +66,10 @@ where
             reports,
             log: None,
             stop,
+            recorder: again(&recorder)?,
         };
         let left = serve_port(rt, alloc, listener, service)?;
-        return Ok(name_left(&rt, words.patience, left.as_slice()));
+        return end(&rt, &recorder, words.patience, left.as_slice());
     };
     let log = Arc::new(alloc, Log::new(alloc, times))?;
     let service = Service {
@@ -77,9 +81,48 @@ where
         },
         log: Some(Arc::try_clone(&log)?),
         stop,
+        recorder: again(&recorder)?,
     };
     let left = serve_logged(rt, alloc, listener, service, log)?;
-    Ok(name_left(&rt, words.patience, left.as_slice()))
+    end(&rt, &recorder, words.patience, left.as_slice())
+}
+
+/// Where it is written what passes, if the words say so.
+fn recorder_of<R: Files<File = File> + Eprint>(
+    rt: &R,
+    alloc: Global,
+    words: ServeWords<'_>,
+) -> io::Result<Option<Arc<Recorder>>> {
+    match Recorder::open(rt, alloc, words.tracing, words.record) {
+        Ok(recorder) => Ok(recorder),
+        Err(_said) => Err(unwritten()),
+    }
+}
+
+/// Another one of the same recorder.
+fn again(recorder: &Option<Arc<Recorder>>) -> io::Result<Option<Arc<Recorder>>> {
+    match recorder {
+        Some(recorder) => Ok(Some(Arc::try_clone(recorder)?)),
+        None => Ok(None),
+    }
+}
+
+fn unwritten() -> io::Error {
+    io::Error::new(ErrorKind::Other, "what passes can't be written")
+}
+
+/// The server has stopped. It fails where it couldn't be written what passed.
+fn end(
+    rt: &impl Eprint,
+    recorder: &Option<Arc<Recorder>>,
+    seconds: u16,
+    left: &[Connection],
+) -> io::Result<bool> {
+    let has_ended = name_left(rt, seconds, left);
+    match recorder {
+        Some(recorder) if recorder.has_failed() => Err(unwritten()),
+        _ => Ok(has_ended),
+    }
 }
 
 /// Says where the server listens.
@@ -167,7 +210,8 @@ fn serve_logged<R>(
     log: Arc<Log>,
 ) -> io::Result<Vec<Connection>>
 where
-    R: Print + Eprint + Threads + Wait + Clock + Copy + Send + Sync + Drop + 'static,
+    R: Files<File = File> + Print + Eprint + Threads + Wait + Clock,
+    R: Copy + Send + Sync + Drop + 'static,
 {
     let shared = Arc::try_clone(&log)?;
     let stop = match &service.stop {
@@ -202,7 +246,7 @@ pub fn run_self<R, W>(
 where
     W: ConnWrite,
     R: Net<Stream = TcpStream, Listener = TcpListener> + Print + Eprint + AllocGlobal,
-    R: Threads + Wait + Clock + Copy + Send + Sync + Drop + 'static,
+    R: Files<File = File> + Threads + Wait + Clock + Copy + Send + Sync + Drop + 'static,
     ensures { IfOk result (λ passed. (ended : List Ended) × (outcomes : List Outcome)
         × (milliseconds : ℕ)
         × (map (λ one. one.case) ended ≡ all_cases)
@@ -217,12 +261,14 @@ where
         reports: Reports::Nowhere,
         log: None,
         stop: None,
+        recorder: None,
     };
     let _serving = serve_apart(rt, alloc, listener, service)?;
     let target = Target {
         place: Place::new(LOOPBACK, port),
         patience: PATIENCE,
         windows: Windows::Held,
+        recorder: &None,
     };
     let begun = Instant::now(&rt);
     let ended = run_all_cases(&rt, alloc, target, output)?;

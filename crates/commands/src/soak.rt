@@ -6,12 +6,19 @@ use crate::connecting::{Place, connect};
 use crate::load::nearest_rank;
 use crate::trial::TrialFault;
 use cases::{CaseFault, Channel, Failure, Limit, Soak, SoakSizes, Timed, push_line};
+use recorder::{Line, Recorder, look_at_server};
 use results::{Outcome, Suite};
 use std::alloc::{AllocError, Global};
+use std::fs::File;
 use std::net::{Net, TcpStream};
+use std::rt::Files;
+use std::sync::{Arc, Wait};
 use std::thread;
 use std::time::{Clock, Duration};
 use words::{CaseRun, SoakWords};
+
+/// A connection that goes on.
+type Open<R> = Channel<Timed<R, Line<TcpStream, R>>>;
 
 /// What came of a call.
 #[derive(Clone, Copy, Debug, PartialEq, Eq)]
@@ -29,6 +36,7 @@ struct Plan<'a> {
     words: SoakWords,
     sizes: SoakSizes,
     limit: Limit,
+    recorder: &'a Option<Arc<Recorder>>,
 }
 
 /// Runs a soak as the words say. Standard error has a line of each call, as gRPC's clients print
@@ -37,10 +45,12 @@ pub(crate) fn run_soak<R>(
     rt: R,
     soak: Soak,
     run: &CaseRun<'_>,
+    recorder: &Option<Arc<Recorder>>,
     lines: &mut Vec<u8>,
 ) -> Result<Outcome, TrialFault>
 where
-    R: Net<Stream = TcpStream> + Clock + Eprint + AllocGlobal + Copy + Drop,
+    R: Net<Stream = TcpStream> + Files<File = File> + Wait + Clock + Eprint + AllocGlobal,
+    R: Copy + Drop,
 {
     let alloc = rt.alloc();
     let words = run.soak;
@@ -56,6 +66,7 @@ where
             response: i32::try_from(words.response_size).unwrap_or(i32::MAX),
         },
         limit,
+        recorder,
     };
     let (iterations, closing) = iterate(rt, alloc, &plan)?;
     let answer = verdict(iterations.as_slice(), closing, words);
@@ -86,7 +97,7 @@ fn iterate<R>(
     plan: &Plan<'_>,
 ) -> Result<(Vec<Iteration>, Option<CaseFault>), AllocError>
 where
-    R: Net<Stream = TcpStream> + Clock + Eprint + Copy + Drop,
+    R: Net<Stream = TcpStream> + Files<File = File> + Wait + Clock + Eprint + Copy + Drop,
 {
     let mut iterations = Vec::new(alloc);
     let mut closing = None;
@@ -121,10 +132,10 @@ fn attempt<R>(
     alloc: Global,
     plan: &Plan<'_>,
     number: u32,
-    channel: Option<Channel<Timed<R, TcpStream>>>,
-) -> (Iteration, Option<Channel<Timed<R, TcpStream>>>)
+    channel: Option<Open<R>>,
+) -> (Iteration, Option<Open<R>>)
 where
-    R: Net<Stream = TcpStream> + Clock + Eprint + Copy + Drop,
+    R: Net<Stream = TcpStream> + Files<File = File> + Wait + Clock + Eprint + Copy + Drop,
 {
     let begun = plan.limit.spent(&rt);
     match call(rt, alloc, plan, channel) {
@@ -145,16 +156,17 @@ fn call<R>(
     rt: R,
     alloc: Global,
     plan: &Plan<'_>,
-    channel: Option<Channel<Timed<R, TcpStream>>>,
-) -> Result<Channel<Timed<R, TcpStream>>, Failure>
+    channel: Option<Open<R>>,
+) -> Result<Open<R>, Failure>
 where
-    R: Net<Stream = TcpStream> + Clock + Copy + Drop,
+    R: Net<Stream = TcpStream> + Files<File = File> + Wait + Clock + Eprint + Copy + Drop,
 {
     let mut channel = match channel {
         Some(channel) => channel,
         None => {
             let stream = connect(&rt, alloc, plan.place, plan.limit)?;
-            Channel::open(alloc, Timed::new(rt, stream, plan.limit))?
+            let line = look_at_server(rt, plan.recorder, stream, plan.soak.name());
+            Channel::open(alloc, Timed::new(rt, line, plan.limit))?
         }
     };
     channel.call(plan.sizes)?;
@@ -162,11 +174,11 @@ where
 }
 
 /// The connection, where a further call is to be made over it; else it is ended.
-fn leave<R: Clock + Eprint + Drop>(
+fn leave<R: Wait + Clock + Eprint + Drop>(
     rt: &R,
     plan: &Plan<'_>,
-    channel: Option<Channel<Timed<R, TcpStream>>>,
-) -> Result<Option<Channel<Timed<R, TcpStream>>>, CaseFault> {
+    channel: Option<Open<R>>,
+) -> Result<Option<Open<R>>, CaseFault> {
     let Some(channel) = channel else {
         return Ok(None);
     };
@@ -179,10 +191,10 @@ fn leave<R: Clock + Eprint + Drop>(
 
 /// Ends a connection. Where the server breaks a rule meanwhile, a line on standard error says so.
 /// That it ends, or that the time is over, is no fault of a soak: its calls have ended.
-fn close<R: Clock + Eprint + Drop>(
+fn close<R: Wait + Clock + Eprint + Drop>(
     rt: &R,
     plan: &Plan<'_>,
-    channel: Channel<Timed<R, TcpStream>>,
+    channel: Open<R>,
 ) -> Result<(), CaseFault> {
     match channel.close() {
         Err(failure) if failure.fault == CaseFault::Connection => {

@@ -5,9 +5,11 @@ ghost use Rattle.commands.specs.declared.trial.TrialFault.TheVariants.{OutOfMemo
 
 use cases::ReportFault;
 use device::DeviceFault;
+use recorder::{Recorder, RecorderFault};
 use results::{Choice, ChoiceFault};
 use sinks::SinkFault;
 use std::alloc::{AllocError, AllocFailed};
+use std::sync::Arc;
 use wire::WireFault;
 use words::Reporting;
 
@@ -76,6 +78,15 @@ impl From<SinkFault> for TrialFault {
     }
 }
 
+impl From<RecorderFault> for TrialFault {
+    fn from(fault: RecorderFault) -> TrialFault {
+        match fault {
+            RecorderFault::NotMade => TrialFault::Failed,
+            RecorderFault::OutOfMemory => TrialFault::OutOfMemory,
+        }
+    }
+}
+
 impl From<ReportFault> for TrialFault {
     fn from(fault: ReportFault) -> TrialFault {
         match fault {
@@ -114,4 +125,15 @@ pub fn refuse_choice(rt: &impl Eprint, fault: ChoiceFault<'_>) -> Result<Verdict
     // The exit status tells of it even where nothing can be said here.
     let _said = eprintln!(rt; "interop: {fault}");
     Ok(Verdict::UnknownCase)
+}
+
+/// The verdict, unless it couldn't be written what passed.
+pub fn unless_failed(
+    recorder: &Option<Arc<Recorder>>,
+    verdict: Verdict,
+) -> Result<Verdict, TrialFault> {
+    match recorder {
+        Some(recorder) if recorder.has_failed() => Err(TrialFault::Failed),
+        _ => Ok(verdict),
+    }
 }

@@ -3,13 +3,15 @@
 use crate::connecting::{Place, connect};
 use crate::desk::{Desk, NO_ANSWER, Round};
 use crate::stopping::LOOK;
-use crate::trial::{TrialFault, Verdict, choice_of, refuse_choice};
+use crate::trial::{TrialFault, Verdict, choice_of, refuse_choice, unless_failed};
 use cases::Limit;
 use device::ConnWrite;
 use lane::Bell;
+use recorder::{Line, Recorder, look_at_server};
 use results::{ChoiceFault, Entry, Suite, chosen};
 use sinks::{Run, Sinks};
 use std::alloc::Global;
+use std::fs::File;
 use std::net::{Net, TcpListener, TcpStream};
 use std::rt::Files;
 use std::sync::atomic::{AtomicBool, AtomicU64, Ordering};
@@ -37,12 +39,20 @@ struct Target<R> {
     /// How long a connection may take to be made.
     patience: Duration,
     begun: Instant,
+    /// Where it is written what passes, if it is.
+    recorder: Option<Arc<Recorder>>,
 }
 
-impl<R: Net<Stream = TcpStream> + Clock + AllocGlobal + Drop> Server for Target<R> {
-    type Line = TcpStream;
+/// The server under test, for the tries of one case.
+#[derive(Drop)]
+struct Tried<'a, R> {
+    target: &'a Target<R>,
+    /// The case's name, where it is written what passes.
+    name: String,
+}
 
-    fn connect(&self) -> Result<TcpStream, WireFault> {
+impl<R: Net<Stream = TcpStream> + Clock + AllocGlobal + Drop> Target<R> {
+    fn stream(&self) -> Result<TcpStream, WireFault> {
         let limit = Limit::begin(&self.rt, self.patience).map_err(|_| WireFault::ClockFailed)?;
         let place = Place::new(self.host.as_str(), self.port);
         match connect(&self.rt, self.rt.alloc(), place, limit) {
@@ -55,8 +65,34 @@ impl<R: Net<Stream = TcpStream> + Clock + AllocGlobal + Drop> Server for Target<
         }
     }
 
+    /// Runs a case.
+    fn run(&self, alloc: Global, case: Case, pace: Pace) -> Result<Ended, WireFault>
+    where
+        R: Files<File = File> + Wait + Eprint + Copy,
+    {
+        let name = match &self.recorder {
+            Some(_) => case.name(alloc)?,
+            None => String::new(alloc),
+        };
+        run_case(alloc, case, pace, &Tried { target: self, name })
+    }
+}
+
+impl<'a, R> Server for Tried<'a, R>
+where
+    R: Net<Stream = TcpStream> + Files<File = File> + Wait + Clock + Eprint + AllocGlobal,
+    R: Copy + Drop,
+{
+    type Line = Line<TcpStream, R>;
+
+    fn connect(&self) -> Result<Line<TcpStream, R>, WireFault> {
+        let Tried { target, name } = self;
+        let stream = target.stream()?;
+        Ok(look_at_server(target.rt, &target.recorder, stream, name.as_str()))
+    }
+
     fn now(&self) -> Option<u64> {
-        let passed = self.begun.elapsed(&self.rt).ok()?;
+        let passed = self.target.begun.elapsed(&self.target.rt).ok()?;
         u64::try_from(passed.as_millis()).ok()
     }
 }
@@ -97,7 +133,7 @@ pub fn run_wire<R, W>(
     output: &mut W,
 ) -> Result<Verdict, TrialFault>
 where
-    R: Net<Stream = TcpStream, Listener = TcpListener> + Files + Eprint + AllocGlobal,
+    R: Net<Stream = TcpStream, Listener = TcpListener> + Files<File = File> + Eprint + AllocGlobal,
     R: Clock + Threads + Wait + Copy + Send + Sync + Drop + 'static,
     W: ConnWrite,
 {
@@ -129,10 +165,11 @@ where
         chosen: places.len(),
         is_shown,
     };
+    let recorder = Recorder::open(&rt, alloc, words.tracing, None)?;
     let mut sinks = Sinks::open(rt, alloc, run)?;
     for _ in 0..words.reporting.repeat {
         let chosen = picked(alloc, cases.as_slice(), places.as_slice())?;
-        match run_round(rt, alloc, chosen, &words, &mut sinks, output)? {
+        match run_round(rt, alloc, chosen, &words, &recorder, &mut sinks, output)? {
             Round::Done => {}
             Round::Enough => break,
             Round::Dead => {
@@ -143,7 +180,8 @@ where
             Round::Lost(why) => return lose(&rt, why.as_str(), &mut sinks, output),
         }
     }
-    Ok(Verdict::from(sinks.close(output)?))
+    let verdict = Verdict::from(sinks.close(output)?);
+    unless_failed(&recorder, verdict)
 }
 
 /// Ends a run for which there is no connection to the server any more, and says why.
@@ -214,16 +252,17 @@ fn run_round<R, W>(
     alloc: Global,
     cases: Vec<Case>,
     words: &WireRun<'_>,
+    recorder: &Option<Arc<Recorder>>,
     sinks: &mut Sinks<'_, R>,
     output: &mut W,
 ) -> Result<Round, TrialFault>
 where
-    R: Net<Stream = TcpStream, Listener = TcpListener> + Files + Eprint + AllocGlobal,
+    R: Net<Stream = TcpStream, Listener = TcpListener> + Files<File = File> + Eprint + AllocGlobal,
     R: Clock + Threads + Wait + Copy + Send + Sync + Drop + 'static,
     W: ConnWrite,
 {
     let mut desk = Desk::new(alloc, cases.as_slice(), words.is_verbose)?;
-    let board = Arc::new(alloc, board_of(rt, alloc, cases, words)?)?;
+    let board = Arc::new(alloc, board_of(rt, alloc, cases, words, recorder)?)?;
     let mut threads = Vec::new(alloc);
     for _ in board.cases.as_slice().iter().take(usize::from(words.jobs)) {
         let shared = Arc::try_clone(&board)?;
@@ -250,6 +289,7 @@ fn board_of<R: Net<Stream = TcpStream> + Clock + AllocGlobal + Drop>(
     alloc: Global,
     cases: Vec<Case>,
     words: &WireRun<'_>,
+    recorder: &Option<Arc<Recorder>>,
 ) -> Result<Board<R>, TrialFault> {
     let silence = u64::from(words.silence);
     let begun = Instant::now(&rt).map_err(|_| TrialFault::Failed)?;
@@ -266,6 +306,10 @@ fn board_of<R: Net<Stream = TcpStream> + Clock + AllocGlobal + Drop>(
             silence: Duration::from_millis(silence),
             patience: Duration::from_secs(u64::from(words.limit)),
             begun,
+            recorder: match recorder {
+                Some(recorder) => Some(Arc::try_clone(recorder)?),
+                None => None,
+            },
         },
         pace: Pace {
             silence,
@@ -278,7 +322,11 @@ fn board_of<R: Net<Stream = TcpStream> + Clock + AllocGlobal + Drop>(
     })
 }
 
-impl<R: Net<Stream = TcpStream> + Clock + AllocGlobal + Drop> Board<R> {
+impl<R> Board<R>
+where
+    R: Net<Stream = TcpStream> + Files<File = File> + Wait + Clock + Eprint + AllocGlobal,
+    R: Copy + Drop,
+{
     /// Runs one case after another, each the next that no other thread has begun, but those that no other is to run beside.
     fn work(&self, rt: &impl Wait, alloc: Global) {
         for _ in self.cases.as_slice() {
@@ -290,7 +338,7 @@ impl<R: Net<Stream = TcpStream> + Clock + AllocGlobal + Drop> Board<R> {
                 return;
             }
             if !case.opens_many() {
-                let answer = run_case(alloc, *case, self.pace, &self.target);
+                let answer = self.target.run(alloc, *case, self.pace);
                 self.found.lock(rt).put(place, answer);
                 self.bell.ring();
             }
@@ -308,7 +356,6 @@ impl<R: Net<Stream = TcpStream> + Clock + AllocGlobal + Drop> Board<R> {
     ) -> Result<(), TrialFault>
     where
         S: Wait,
-        R: Files + Eprint + AllocGlobal,
         W: ConnWrite,
     {
         for case in self.cases.as_slice() {
@@ -325,7 +372,7 @@ impl<R: Net<Stream = TcpStream> + Clock + AllocGlobal + Drop> Board<R> {
                 break;
             }
             if case.opens_many() {
-                let answer = run_case(alloc, *case, self.pace, &self.target);
+                let answer = self.target.run(alloc, *case, self.pace);
                 desk.take(place, answer, sinks, output)?;
             }
         }

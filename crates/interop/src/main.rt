@@ -1,6 +1,6 @@
 //! The program `interop`: the gRPC interop test server, and the client that tries such a server.
 //!
-//! It has eight commands:
+//! It has nine commands:
 //!
 //! - `interop serve --port P` serves `grpc.testing.TestService` on a port of this machine.
 //! - `interop misbehave NAME --port P` misbehaves as a server, and says whether the client does right.
@@ -9,6 +9,7 @@
 //! - `interop self` runs the test cases against a server of its own.
 //! - `interop drain` drains a server of its own while a client has a call.
 //! - `interop parts` serves the bytes of one connection, read as hexadecimal text, and prints what they are answered with.
+//! - `interop frames` prints the frames in the bytes of connections, a line each.
 //! - `interop body --cut N` reads the joined DATA bytes of one call as hexadecimal text, takes them in pieces of N bytes, and
 //!   prints the messages that they spell (gRPC over HTTP/2, "Length-Prefixed-Message"), then the end or the fault. It reads all of
 //!   its input before it prints anything, and its text is a function of that input, in whatever pieces.
@@ -30,6 +31,7 @@ use commands::{
 };
 use connection::OpenGate;
 use device::Marked;
+use frames::{FramesFault, run_frames};
 use handlers::{
     CacheableUnaryCall, EmptyCall, FullDuplexCall, HalfDuplexCall, Method, Methods,
     StreamingInputCall, StreamingOutputCall, UnaryCall,
@@ -37,6 +39,7 @@ use handlers::{
 use help::Help;
 use misbehaving::run_misbehave;
 use std::alloc::{AllocError, Global};
+use std::fs::File;
 use std::io::{ErrorKind, IsTerminal, StdinLock};
 use std::net::{Net, TcpListener, TcpStream};
 use std::process::ExitCode;
@@ -45,7 +48,7 @@ use std::sync::{Arc, Wait};
 use std::thread::Threads;
 use std::time::Clock;
 use std::{env, io};
-use words::{LOOPBACK, MisbehaveWords, Port};
+use words::{FramesWords, LOOPBACK, MisbehaveWords, Port};
 
 const CASE_FAILED: u8 = 1;
 
@@ -76,6 +79,25 @@ fn print_body<R: Input + Print + Eprint + AllocGlobal>(rt: &R, cut: usize) -> u8
     }
 }
 
+// Prints the frames in the bytes that the words name, and answers the exit status.
+fn print_frames<R>(rt: &R, words: &FramesWords<'_>) -> u8
+where
+    R: Files + Input + Print + Eprint + AllocGlobal,
+{
+    let mut input = Marked::new(rt.reader());
+    let mut output = Marked::new(io::writer(rt));
+    match run_frames(rt, words, &mut input, &mut output) {
+        Ok(()) => 0,
+        Err(FramesFault::NotHex) => complain(rt, "input is not hexadecimal"),
+        Err(FramesFault::TwoInputs) => complain(rt, "a capture has both sides: give it alone"),
+        Err(FramesFault::NoCapture(fault)) => {
+            let _said = eprintln!(rt; "interop: input is no capture that is read: {fault}");
+            BAD_WORDS
+        }
+        Err(FramesFault::ReadFailed | FramesFault::WriteFailed | FramesFault::OutOfMemory) => FAILED,
+    }
+}
+
 // The exit status of a run of cases.
 fn status_of(answer: Result<Verdict, TrialFault>) -> u8 {
     match answer {
@@ -89,8 +111,8 @@ fn status_of(answer: Result<Verdict, TrialFault>) -> u8 {
 // Lists or runs the cases that the words choose, and answers the exit status.
 fn try_server<R>(rt: &R, words: CaseWords<'_>, is_shown: bool) -> u8
 where
-    R: Net<Stream = TcpStream, Listener = TcpListener> + Files + Print + Eprint + AllocGlobal,
-    R: Clock + Threads + Copy + Send + Sync + Drop + 'static,
+    R: Net<Stream = TcpStream, Listener = TcpListener> + Print + Eprint + AllocGlobal,
+    R: Files<File = File> + Threads + Wait + Clock + Copy + Send + Sync + Drop + 'static,
 {
     let mut output = Marked::new(io::writer(rt));
     status_of(run_case(*rt, words, is_shown, &mut output))
@@ -99,8 +121,8 @@ where
 // Lists or runs the misbehaviours that the words choose, and answers the exit status.
 fn try_client<R>(rt: &R, words: MisbehaveWords<'_>, is_shown: bool) -> u8
 where
-    R: Net<Stream = TcpStream, Listener = TcpListener> + Files + Print + Eprint + AllocGlobal,
-    R: Clock + Copy + Drop,
+    R: Net<Stream = TcpStream, Listener = TcpListener> + Print + Eprint + AllocGlobal,
+    R: Files<File = File> + Wait + Clock + Copy + Drop,
 {
     let mut output = Marked::new(io::writer(rt));
     status_of(run_misbehave(*rt, words, is_shown, &mut output))
@@ -109,8 +131,8 @@ where
 // Lists or runs the wire cases that the words choose, and answers the exit status.
 fn try_wire<R>(rt: &R, words: WireWords<'_>, is_shown: bool) -> u8
 where
-    R: Net<Stream = TcpStream, Listener = TcpListener> + Files + Print + Eprint + AllocGlobal,
-    R: Threads + Wait + Clock + Copy + Send + Sync + Drop + 'static,
+    R: Net<Stream = TcpStream, Listener = TcpListener> + Print + Eprint + AllocGlobal,
+    R: Files<File = File> + Threads + Wait + Clock + Copy + Send + Sync + Drop + 'static,
 {
     let mut output = Marked::new(io::writer(rt));
     status_of(run_wire(*rt, words, is_shown, &mut output))
@@ -129,7 +151,7 @@ enum Server<'a> {
 fn obey_server<R>(rt: R, server: Server<'_>) -> Result<u8, AllocError>
 where
     R: Net<Stream = TcpStream, Listener = TcpListener> + Input<Reader = StdinLock<'static>>,
-    R: Files + Print + Eprint + AllocGlobal,
+    R: Files<File = File> + Print + Eprint + AllocGlobal,
     R: Threads + Wait + Clock + Copy + Send + Sync + Drop + 'static,
 {
     let alloc = rt.alloc();
@@ -154,7 +176,7 @@ where
 fn serve_all<R>(rt: R, methods: Arc<Methods>, words: ServeWords<'_>) -> u8
 where
     R: Net<Stream = TcpStream, Listener = TcpListener> + Input<Reader = StdinLock<'static>>,
-    R: Files + Print + Eprint + AllocGlobal,
+    R: Files<File = File> + Print + Eprint + AllocGlobal,
     R: Threads + Wait + Clock + Copy + Send + Sync + Drop + 'static,
 {
     match serve(rt, methods, words) {
@@ -168,7 +190,7 @@ where
 fn try_cases<R>(rt: R, methods: Arc<Methods>, port: u16) -> u8
 where
     R: Net<Stream = TcpStream, Listener = TcpListener> + Print + Eprint + AllocGlobal,
-    R: Threads + Wait + Clock + Copy + Send + Sync + Drop + 'static,
+    R: Files<File = File> + Threads + Wait + Clock + Copy + Send + Sync + Drop + 'static,
 {
     let Ok(listener) = listen(&rt, LOOPBACK, Port::Number(port)) else {
         return FAILED;
@@ -185,7 +207,7 @@ where
 fn try_drain<R>(rt: R, methods: Arc<Methods>, port: u16) -> u8
 where
     R: Net<Stream = TcpStream, Listener = TcpListener> + Print + Eprint + AllocGlobal,
-    R: Threads + Wait + Clock + Copy + Send + Sync + Drop + 'static,
+    R: Files<File = File> + Threads + Wait + Clock + Copy + Send + Sync + Drop + 'static,
 {
     let Ok(listener) = listen(&rt, LOOPBACK, Port::Number(port)) else {
         return FAILED;
@@ -232,7 +254,7 @@ where
     R: Net<Stream = TcpStream, Listener = TcpListener> + Input<Reader = StdinLock<'static>>,
     R: Print + Eprint + AllocGlobal,
     R: Threads + Wait + Clock + Copy + Send + Sync + Drop + 'static,
-    R: Files,
+    R: Files<File = File>,
 {
     if let Some(said) = describe(rt, words) {
         return match said {
@@ -256,7 +278,7 @@ where
     R: Net<Stream = TcpStream, Listener = TcpListener> + Input<Reader = StdinLock<'static>>,
     R: Print + Eprint + AllocGlobal,
     R: Threads + Wait + Clock + Copy + Send + Sync + Drop + 'static,
-    R: Files,
+    R: Files<File = File>,
     requires { IsInRange words }
 {
     match words {
@@ -268,6 +290,7 @@ where
         Words::Drain(port) => obey_server(*rt, Server::Drain(port)),
         Words::Misbehave(words) => Ok(try_client(rt, words, is_shown)),
         Words::Wire(words) => Ok(try_wire(rt, words, is_shown)),
+        Words::Frames(words) => Ok(print_frames(rt, &words)),
     }
 }
 

@@ -1,13 +1,16 @@
 //! The command `misbehave`: a server that misbehaves, for authors of clients (the crate `misbehave`).
 
-use commands::{TrialFault, Verdict, choice_of, refuse_choice};
+use commands::{TrialFault, Verdict, choice_of, refuse_choice, unless_failed};
 use device::ConnWrite;
 use misbehave::{Misbehaviour, Place, Played, RunFault, Stage, list, misbehaviours};
+use recorder::{Overlooked, Recorder};
 use results::{ChoiceFault, Entry, Level, Suite, chosen};
 use sinks::{Run, Sinks, write_whole};
 use std::alloc::{AllocError, Global};
+use std::fs::File;
 use std::net::Net;
 use std::rt::Files;
+use std::sync::Wait;
 use std::time::Clock;
 use words::{LOOPBACK, MisbehaveRun, MisbehaveWords};
 
@@ -20,7 +23,7 @@ pub fn run_misbehave<R, W>(
     output: &mut W,
 ) -> Result<Verdict, TrialFault>
 where
-    R: Net + Files + Eprint + AllocGlobal + Clock + Copy + Drop,
+    R: Net + Files<File = File> + Eprint + AllocGlobal + Wait + Clock + Copy + Drop,
     W: ConnWrite,
 {
     let alloc = rt.alloc();
@@ -126,7 +129,7 @@ fn run_chosen<R, W>(
     output: &mut W,
 ) -> Result<Verdict, TrialFault>
 where
-    R: Net + Files + Eprint + AllocGlobal + Clock + Copy + Drop,
+    R: Net + Files<File = File> + Eprint + AllocGlobal + Wait + Clock + Copy + Drop,
     W: ConnWrite,
 {
     let count = plays.len();
@@ -143,13 +146,15 @@ where
         chosen: count,
         is_shown,
     };
+    let recorder = Recorder::open(&rt, alloc, words.tracing, None)?;
+    let net = Overlooked::new(rt, &recorder);
     let mut sinks = Sinks::open(rt, alloc, run)?;
     let place = Place {
         host: words.host,
         port: words.port,
         seconds: words.seconds,
     };
-    let mut stage = match Stage::open(rt, alloc, plays, place) {
+    let mut stage = match Stage::open(net, alloc, plays, place) {
         Ok(stage) => stage,
         Err(fault) => return Err(told(&rt, words.host, fault)),
     };
@@ -163,17 +168,23 @@ where
             }
         }
     }
-    Ok(Verdict::from(sinks.close(output)?))
+    drop(stage);
+    let verdict = Verdict::from(sinks.close(output)?);
+    unless_failed(&recorder, verdict)
 }
 
 /// Writes the files that tell that the ports are listened on: the number of the first, and a line with the name and the address of
 /// each.
-fn tell_ready<R: Net + Files + Eprint + Clock + Copy + Drop>(
+fn tell_ready<R, N>(
     rt: &R,
     alloc: Global,
-    stage: &Stage<R>,
+    stage: &Stage<N>,
     words: &MisbehaveRun<'_>,
-) -> Result<(), TrialFault> {
+) -> Result<(), TrialFault>
+where
+    R: Files + Eprint,
+    N: Net + Clock + Copy + Drop,
+{
     if let Some(file) = words.files.port {
         let mut text = String::new(alloc);
         if let Some(first) = stage.address(0) {
@@ -196,14 +207,15 @@ fn tell_ready<R: Net + Files + Eprint + Clock + Copy + Drop>(
 }
 
 /// Runs the misbehaviour at a place, and tells what the client is to do, and what came of it.
-fn run_play<R, W>(
-    stage: &mut Stage<R>,
+fn run_play<R, N, W>(
+    stage: &mut Stage<N>,
     at: usize,
     sinks: &mut Sinks<'_, R>,
     output: &mut W,
 ) -> Result<(), TrialFault>
 where
-    R: Net + Files + Eprint + AllocGlobal + Clock + Copy + Drop,
+    R: Files + Eprint + AllocGlobal + Clock + Drop,
+    N: Net + Clock + Copy + Drop,
     W: ConnWrite,
 {
     sinks.say(stage.heading(at)?.as_str(), output)?;
