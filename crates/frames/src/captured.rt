@@ -53,7 +53,9 @@ pub fn print_capture<W: ConnWrite>(
     }
     for talk in talks.all {
         let Talk {
-            begun, printing, ..
+            begun,
+            printing,
+            ..
         } = talk;
         printing.end(last.saturating_sub(begun), output)?;
     }

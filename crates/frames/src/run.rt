@@ -74,7 +74,12 @@ fn print_one<W: ConnWrite>(
     }
     let bytes = side_bytes(alloc, given)?;
     let mut printing = Printing::new(alloc, 1, form);
-    printing.sent(0, side_of(bytes.as_slice(), named), bytes.as_slice(), output)?;
+    printing.sent(
+        0,
+        side_of(bytes.as_slice(), named),
+        bytes.as_slice(),
+        output,
+    )?;
     printing.end(0, output)
 }
 

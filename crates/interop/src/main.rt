@@ -94,7 +94,8 @@ where
             let _said = eprintln!(rt; "interop: input is no capture that is read: {fault}");
             BAD_WORDS
         }
-        Err(FramesFault::ReadFailed | FramesFault::WriteFailed | FramesFault::OutOfMemory) => FAILED,
+        Err(FramesFault::ReadFailed | FramesFault::WriteFailed | FramesFault::OutOfMemory) =>
+            FAILED,
     }
 }
 

@@ -2,11 +2,10 @@
 
 use crate::outputs::Unwritten;
 use std::alloc::{AllocError, Global};
-use std::fs;
 use std::fs::File;
-use std::io;
 use std::io::{ErrorKind, Write};
 use std::rt::Files;
+use std::{fs, io};
 
 /// The files of a connection.
 #[derive(Drop)]

@@ -4,7 +4,7 @@ ghost use Rattle.std.specs.Prelude.{None};
 
 use crate::bytes::Bytes;
 use crate::ends::Ends;
-use crate::notes::{Notes, Entry};
+use crate::notes::{Entry, Notes};
 use crate::outputs::Unwritten;
 use crate::recorder::Recorder;
 use crate::start::Start;
@@ -66,11 +66,7 @@ enum Passage {
 
 impl<R: Wait + Clock + Eprint + Drop> Eye<R> {
     /// A connection begins.
-    pub fn begin(
-        rt: R,
-        recorder: &Arc<Recorder>,
-        sight: Sight<'_>,
-    ) -> Result<Eye<R>, AllocError>
+    pub fn begin(rt: R, recorder: &Arc<Recorder>, sight: Sight<'_>) -> Result<Eye<R>, AllocError>
     where
         R: Files<File = File>,
     {
@@ -128,12 +124,7 @@ impl Watch {
         }
         let passed = self.start.passed(rt);
         let mut kept = self.kept.lock(rt);
-        let entry = kept.notes.sent(
-            passed,
-            self.start.time(passed),
-            self.sender(passage),
-            bytes,
-        );
+        let entry = kept.notes.sent(passed, self.start.time(passed), self.sender(passage), bytes);
         self.recorder.write(rt, entry);
         if let Err(unwritten) = kept.add(passage, bytes) {
             self.recorder.fail(rt, unwritten);

@@ -6,13 +6,12 @@ use crate::notes::{Entry, Wish};
 use crate::outputs::{Lines, Outputs, Unwritten};
 use capture::file_head;
 use std::alloc::{AllocError, Global};
-use std::fs;
 use std::fs::File;
-use std::io;
 use std::io::{ErrorKind, Write};
 use std::rt::Files;
 use std::sync::atomic::{AtomicBool, AtomicU64, Ordering};
 use std::sync::{Arc, Mutex, Wait};
+use std::{fs, io};
 use trace::Form;
 use words::{TraceForm, Tracing};
 
@@ -155,10 +154,7 @@ fn lines_of<R: Files<File = File> + Eprint>(
 }
 
 /// Makes the file of a capture that has no records yet.
-fn new_capture<R: Files<File = File> + Eprint>(
-    rt: &R,
-    name: &str,
-) -> Result<File, RecorderFault> {
+fn new_capture<R: Files<File = File> + Eprint>(rt: &R, name: &str) -> Result<File, RecorderFault> {
     let mut file = create(rt, name)?;
     match file.write_all(&file_head()) {
         Ok(()) => Ok(file),

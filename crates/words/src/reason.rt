@@ -3,8 +3,8 @@
 //! That the words mean none was found by `clap`. Here the words are walked over once more, in `clap`'s order, for the first
 //! of them that the command does not take; where each is taken, something is missing, or two things exclude each other.
 
-use crate::read::{COMMANDS, command_line};
 use crate::frames::side_named;
+use crate::read::{COMMANDS, command_line};
 use crate::serve::{form_of, time_form_of};
 use crate::{body, case, frames, misbehave, own_server, reporting, serve, tracing, wire};
 use clap::builder::ValueParser;
