@@ -51,7 +51,8 @@ pub fn print_capture<W: ConnWrite>(
         last = micros_of(packet.time);
         talks.take(packet, last, output)?;
     }
-    for talk in talks.all {
+    let Talks { all, .. } = talks;
+    for talk in all {
         let Talk {
             begun,
             printing,

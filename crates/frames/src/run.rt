@@ -37,11 +37,11 @@ where
     };
     match words.files.as_slice() {
         [] => print_one(alloc, read_all(alloc, input)?, words.side, form, output),
-        [file] => print_one(alloc, read_file(rt, file)?, words.side, form, output),
+        [file] => print_one(alloc, read_file(rt, *file)?, words.side, form, output),
         [first, second, ..] => print_two(
             alloc,
-            side_bytes(alloc, read_file(rt, first)?)?,
-            side_bytes(alloc, read_file(rt, second)?)?,
+            side_bytes(alloc, read_file(rt, *first)?)?,
+            side_bytes(alloc, read_file(rt, *second)?)?,
             words.side,
             form,
             output,

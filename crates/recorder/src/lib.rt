@@ -23,6 +23,5 @@ mod start;
 
 pub use eye::{Eye, Line, Sight, look, look_at_server};
 pub use fault::RecorderFault;
-pub use notes::{Entry, Notes};
 pub use overlooked::{Overlooked, OverlookedListener};
 pub use recorder::Recorder;

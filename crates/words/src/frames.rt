@@ -28,7 +28,7 @@ pub struct FramesWords<'a> {
 }
 
 /// The words that it takes.
-pub(crate) const TAKES: &str = "at most two files, --side client|server, --full";
+pub(crate) const TAKES: &str = "two files at most, --side client|server, --full";
 
 pub(crate) fn frames_command<'a>(alloc: Global) -> Result<Command<'a>, AllocError>
     ensures { IfOk result (IsCommand frames_command) }

@@ -355,7 +355,7 @@ fn reason_of_whole<'a>(command: &'a str, words: &[String], is_placed: bool) -> R
         "case" => "NAME.. or --test_case NAME, or --list",
         "wire" if is_placed => "--port P",
         "wire" => "all, GROUP, GROUP/N or GROUP/N-M, or --list",
-        "frames" => "at most two files",
+        "frames" => "two files at most",
         _ => takes(command),
     };
     Reason::Missing { command, what }
