@@ -178,7 +178,7 @@ def cases(program, room):
     run(program, "case", "all", "--port", port, "--trace-file", f"{room}/c.trace", "--pcap", f"{room}/c.pcap")
     report = server.communicate(timeout=60)[0]
     want(server.returncode == 0, f"serve ends with {server.returncode}")
-    want(f"record {room}/record/14.read.hex" in report, f"the report names no record: {report[:200]}")
+    want(f"record {room}/record/14.txt" in report, f"the report names no record: {report[:200]}")
     total = tshark = 0
     sides = {}
     for name in ("c", "s"):
@@ -198,13 +198,18 @@ def cases(program, room):
 
 
 def recorded(program, room, conns):
-    """The recorded bytes have the frames of the trace, and `parts` takes them."""
+    """The recorded bytes have the lines of the trace, as they stand and as two files of digits, and `parts` takes them."""
     for conn in conns:
-        files = [f"{room}/record/{conn}.{which}.hex" for which in ("sent", "read")]
-        printed = entries_of(run(program, "frames", "--full", *files).stdout.decode())
+        text = read(room, "record", f"{conn}.txt")
+        printed = entries_of(run(program, "frames", "--full", f"{room}/record/{conn}.txt").stdout.decode())
+        want([entry[1:] for entry in printed] == [entry[1:] for entry in conns[conn]], f"record of connection {conn}: other lines than the trace has")
+        for side in ("client", "server"):
+            with open(f"{room}/{side}.hex", "w") as file:
+                file.write("".join(line.split()[2] + "\n" for line in text.splitlines() if f" {side} " in line))
+        printed = entries_of(run(program, "frames", "--full", f"{room}/server.hex", f"{room}/client.hex").stdout.decode())
         for side in ("client", "server"):
             want(without_windows(printed, side) == without_windows(conns[conn], side), f"record of connection {conn}: the {side}'s lines differ")
-    with open(f"{room}/record/1.read.hex") as file:
+    with open(f"{room}/record/1.txt") as file:
         want("ending 1" in run(program, "parts", stdin=file).stdout.decode(), "parts takes no record")
 
 

@@ -10,6 +10,7 @@ use crate::reporter::Reporter;
 use crate::room::Room;
 use crate::stopping::{Connection, Stop};
 use crate::stream::{Ended, Link, serve_stream};
+use capture::Side;
 use connection::{Ending, STACK};
 use handlers::Methods;
 use recorder::{Eye, Recorder, Sight, look};
@@ -22,7 +23,6 @@ use std::sync::{Arc, Wait};
 use std::thread::{Builder, JoinHandle, Threads};
 use std::time::{Clock, Duration};
 use std::{io, thread};
-use trace::Side;
 
 /// How long no connection is taken after one could not be, in milliseconds.
 const PAUSE: u64 = 10;
@@ -334,7 +334,7 @@ impl<L> Service<L> {
         )
     }
 
-    /// The file with what was read of a connection, where there is one.
+    /// The file with the bytes of a connection, where there is one.
     fn file_of(&self, connection: Connection) -> Option<String> {
         match &self.recorder {
             Some(recorder) => recorder.file_of(connection.number).ok()?,

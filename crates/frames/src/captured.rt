@@ -2,11 +2,13 @@
 
 use crate::fault::FramesFault;
 use crate::printing::Printing;
-use crate::sides::is_clients;
-use capture::{Packet, Path, Side as Sender, Time, side_of};
+use capture::{Packet, Path, Side, Time, side_of};
 use device::ConnWrite;
 use std::alloc::{AllocError, Global};
-use trace::{Form, Side};
+use trace::Form;
+
+/// What a client's bytes begin with (RFC 9113, section 3.4).
+const PREFACE: &[u8] = b"PRI * HTTP/2.0\r\n\r\nSM\r\n\r\n";
 
 /// The flags SYN and ACK of a segment (RFC 9293, section 3.1).
 const SYN: u8 = 0x02;
@@ -77,13 +79,9 @@ impl Talks {
         if packet.payload.is_empty() {
             return Ok(());
         }
-        let (talk, sender) = match self.of(packet) {
+        let (talk, side) = match self.of(packet) {
             Some(found) => found,
             None => self.open(packet, time)?,
-        };
-        let side = match sender {
-            Sender::Client => Side::Client,
-            Sender::Server => Side::Server,
         };
         let Some(talk) = self.all.as_mut_slice().get_mut(talk) else {
             return Ok(());
@@ -108,7 +106,7 @@ impl Talks {
     }
 
     /// The last connection that a packet may be of, by its place, and who sent it.
-    fn of(&self, packet: &Packet) -> Option<(usize, Sender)> {
+    fn of(&self, packet: &Packet) -> Option<(usize, Side)> {
         let mut found = None;
         for (place, talk) in self.all.as_slice().iter().enumerate() {
             if let Some(side) = side_of(&talk.path, packet) {
@@ -119,14 +117,14 @@ impl Talks {
     }
 
     /// A connection of which the beginning is not in the capture: a client's first bytes are its preface.
-    fn open(&mut self, packet: &Packet, time: u64) -> Result<(usize, Sender), AllocError> {
+    fn open(&mut self, packet: &Packet, time: u64) -> Result<(usize, Side), AllocError> {
         let place = self.all.len();
-        if is_clients(packet.payload.as_slice()) {
+        if packet.payload.as_slice().starts_with(PREFACE) {
             self.begin(packet.head.path, time)?;
-            return Ok((place, Sender::Client));
+            return Ok((place, Side::Client));
         }
         self.begin(packet.head.path.back(), time)?;
-        Ok((place, Sender::Server))
+        Ok((place, Side::Server))
     }
 }
 

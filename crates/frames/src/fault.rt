@@ -1,4 +1,4 @@
-//! Why no frames are told.
+//! Why no frames are printed.
 
 ghost use Rattle.std.specs.Prelude.{◌≡◌};
 ghost use Rattle.frames.specs.declared.fault.FramesFault.TheVariants.{OutOfMemory, WriteFailed};
@@ -6,16 +6,15 @@ ghost use Rattle.frames.specs.declared.fault.FramesFault.TheVariants.{OutOfMemor
 use capture::CaptureFault;
 use device::{DeviceFault, ReadFault};
 use std::alloc::{AllocError, AllocFailed};
+use trace::InputFault;
 
-/// Why no frames are told, or no more.
+/// Why no frames are printed, or no more.
 #[derive(Clone, Copy, Debug, PartialEq, Eq)]
 pub enum FramesFault {
-    /// Text isn't pairs of hexadecimal digits.
-    NotHex,
-    /// A capture isn't one of those that are read.
-    NoCapture(CaptureFault),
-    /// A capture was given beside other bytes.
-    TwoInputs,
+    /// What was read is nothing of which frames can be told.
+    BadInput(InputFault),
+    /// One of two files has both sides.
+    BothSides,
     /// Standard input, or a file, can't be read.
     ReadFailed,
     /// A line can't be written.
@@ -57,11 +56,20 @@ impl From<ReadFault> for FramesFault {
     }
 }
 
+impl From<InputFault> for FramesFault {
+    fn from(fault: InputFault) -> FramesFault {
+        match fault {
+            InputFault::OutOfMemory => FramesFault::OutOfMemory,
+            other => FramesFault::BadInput(other),
+        }
+    }
+}
+
 impl From<CaptureFault> for FramesFault {
     fn from(fault: CaptureFault) -> FramesFault {
         match fault {
             CaptureFault::OutOfMemory => FramesFault::OutOfMemory,
-            other => FramesFault::NoCapture(other),
+            other => FramesFault::BadInput(InputFault::Capture(other)),
         }
     }
 }

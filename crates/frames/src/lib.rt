@@ -1,19 +1,16 @@
 //! The frames in bytes of connections, a line for each: what a trace would have said of them.
 //!
-//! The bytes are those of one side, or of both, as hexadecimal text or as they are; or a capture that this program wrote, of any number
-//! of connections. Which side sent bytes is told by a client's preface (RFC 9113, section 3.4), where nothing else is said.
+//! A file has a capture that this program wrote, of any number of connections; or what `trace::sent_of` reads: what both sides of a
+//! connection sent, or one side, as text or as it is. Two files have a side each.
 //!
-//! Read `form` for how bytes are given, `sides` for who sent them, `printing` for lines, `captured` for those of a capture, and `run` for
-//! the command.
+//! Read `given` for what files have, `printing` for lines, `captured` for those of a capture, and `run` for the command.
 #![tactic(auto)]
 
 mod captured;
 mod fault;
-mod form;
+mod given;
 mod printing;
 mod run;
-mod sides;
 
 pub use fault::FramesFault;
-pub use form::{Form, form_of};
 pub use run::run_frames;

@@ -1,9 +1,10 @@
 //! Lines of frames.
 
 use crate::fault::FramesFault;
+use capture::Side;
 use device::{ConnWrite, write_all};
 use std::alloc::Global;
-use trace::{Form, Line, Shown, Side, Trace};
+use trace::{Form, Line, Shown, Trace};
 
 /// How many bytes a trace is told at once.
 const PIECE: usize = 65_536;

@@ -2,16 +2,14 @@
 
 use crate::captured::print_capture;
 use crate::fault::FramesFault;
-use crate::form::{Form, bytes_of, form_of};
+use crate::given::{Given, both_of, given_by};
 use crate::printing::Printing;
-use crate::sides::{first_of, side_of};
-use capture::read;
 use device::{ConnRead, ConnWrite, read_all};
 use std::alloc::Global;
 use std::fs;
 use std::rt::Files;
-use trace::Side;
-use words::{FramesWords, Side as Named};
+use trace::{Form, Sent};
+use words::FramesWords;
 
 /// Prints the frames in the files that the words name, or else in the input.
 ///
@@ -31,21 +29,22 @@ where
 {
     let alloc = rt.alloc();
     let form = if words.is_full {
-        trace::Form::Full
+        Form::Full
     } else {
-        trace::Form::Short
+        Form::Short
     };
-    match words.files.as_slice() {
-        [] => print_one(alloc, read_all(alloc, input)?, words.side, form, output),
-        [file] => print_one(alloc, read_file(rt, *file)?, words.side, form, output),
-        [first, second, ..] => print_two(
-            alloc,
-            side_bytes(alloc, read_file(rt, *first)?)?,
-            side_bytes(alloc, read_file(rt, *second)?)?,
-            words.side,
-            form,
-            output,
-        ),
+    let file = match words.files.as_slice() {
+        [] => read_all(alloc, input)?,
+        [file] => read_file(rt, *file)?,
+        [first, second, ..] => {
+            let (first, second) = (read_file(rt, *first)?, read_file(rt, *second)?);
+            let both = both_of(alloc, first.as_slice(), second.as_slice(), words.side)?;
+            return print_pieces(alloc, both.as_slice(), form, output);
+        }
+    };
+    match given_by(alloc, file.as_slice(), words.side)? {
+        Given::Packets(packets) => print_capture(alloc, packets.as_slice(), form, output),
+        Given::Pieces(pieces) => print_pieces(alloc, pieces.as_slice(), form, output),
     }
 }
 
@@ -60,53 +59,18 @@ fn read_file<R: Files + Eprint + AllocGlobal>(rt: &R, name: &str) -> Result<Vec<
     }
 }
 
-/// Prints the frames of a capture, or of one side.
-fn print_one<W: ConnWrite>(
+/// Prints the frames of what the sides of one connection sent.
+fn print_pieces<W: ConnWrite>(
     alloc: Global,
-    given: Vec<u8>,
-    named: Option<Named>,
-    form: trace::Form,
+    pieces: &[Sent],
+    form: Form,
     output: &mut W,
 ) -> Result<(), FramesFault> {
-    if form_of(given.as_slice()) == Form::Capture {
-        let packets = read(alloc, given.as_slice())?;
-        return print_capture(alloc, packets.as_slice(), form, output);
-    }
-    let bytes = side_bytes(alloc, given)?;
     let mut printing = Printing::new(alloc, 1, form);
-    printing.sent(
-        0,
-        side_of(bytes.as_slice(), named),
-        bytes.as_slice(),
-        output,
-    )?;
-    printing.end(0, output)
-}
-
-/// Prints the frames of two sides, the client's first.
-fn print_two<W: ConnWrite>(
-    alloc: Global,
-    first: Vec<u8>,
-    second: Vec<u8>,
-    named: Option<Named>,
-    form: trace::Form,
-    output: &mut W,
-) -> Result<(), FramesFault> {
-    let (client, server) = match first_of(first.as_slice(), second.as_slice(), named) {
-        Side::Client => (first, second),
-        Side::Server => (second, first),
-    };
-    let mut printing = Printing::new(alloc, 1, form);
-    printing.sent(0, Side::Client, client.as_slice(), output)?;
-    printing.sent(0, Side::Server, server.as_slice(), output)?;
-    printing.end(0, output)
-}
-
-/// The bytes of a side.
-fn side_bytes(alloc: Global, given: Vec<u8>) -> Result<Vec<u8>, FramesFault> {
-    match form_of(given.as_slice()) {
-        Form::Digits => bytes_of(alloc, given),
-        Form::Raw => Ok(given),
-        Form::Capture => Err(FramesFault::TwoInputs),
+    let mut last = 0;
+    for piece in pieces {
+        last = piece.time;
+        printing.sent(last, piece.side, piece.bytes.as_slice(), output)?;
     }
+    printing.end(last, output)
 }

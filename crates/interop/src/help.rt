@@ -48,12 +48,12 @@ const ALL: [Command; 9] = [
     Command {
         name: "frames",
         usage: "  interop frames [FILE [FILE]] [--side (client | server)] [--full]",
-        text: "  frames         print the frames in the bytes of a connection, as --trace does: of one side, or of
-                 both where there are two files, as hexadecimal text or as they are; or of all
-                 connections of a --pcap. Which side sent bytes is told by a client's preface, else
-                 those of one file are the server's, and the first of two has the client's; --side
-                 says it of the first. Without a file it reads standard input; --full prints all
-                 bytes of values, and how fields are spelled",
+        text: "  frames         print the frames in the bytes of a connection, as --trace does: of a --pcap, a file of
+                 --record, or one side's bytes, as hexadecimal text or as they are; two files have a
+                 side each. Which side sent bytes is told by a client's preface, else those of one
+                 file are the server's, and the first of two has the client's; --side says it of the
+                 first. Without a file it reads standard input; --full prints all bytes of values,
+                 and how fields are spelled",
     },
     Command {
         name: "misbehave",
@@ -98,8 +98,8 @@ const ALL: [Command; 9] = [
                  where the last of N connections has ended. What lives after S seconds of that (10
                  if not given) is named, and left, with status 1. ./interop does the same on SIGINT
                  and SIGTERM; a second one ends it at once. Once it listens --port-file has the
-                 port, and --ready-file, which is written last, the address. --record DIR has the
-                 bytes of the Nth connection, as N.read.hex and N.sent.hex",
+                 port, and --ready-file, which is written last, the address. --record DIR has what
+                 passed on the Nth connection in N.txt, which frames and parts take",
     },
     Command {
         name: "wire",

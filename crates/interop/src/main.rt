@@ -88,10 +88,9 @@ where
     let mut output = Marked::new(io::writer(rt));
     match run_frames(rt, words, &mut input, &mut output) {
         Ok(()) => 0,
-        Err(FramesFault::NotHex) => complain(rt, "input is not hexadecimal"),
-        Err(FramesFault::TwoInputs) => complain(rt, "a capture has both sides: give it alone"),
-        Err(FramesFault::NoCapture(fault)) => {
-            let _said = eprintln!(rt; "interop: input is no capture that is read: {fault}");
+        Err(FramesFault::BothSides) => complain(rt, "one of two files has both sides"),
+        Err(FramesFault::BadInput(fault)) => {
+            let _said = eprintln!(rt; "interop: bad input: {fault}");
             BAD_WORDS
         }
         Err(FramesFault::ReadFailed | FramesFault::WriteFailed | FramesFault::OutOfMemory) =>

@@ -3,25 +3,17 @@ use Rattle.std.specs.Prelude.{◌≡◌, ℕ, List, [], Option, Some, None}
 use Rattle.capture.specs.Conversations.{AreSent, closing}
 use Rattle.capture.specs.Format.{AreRecords}
 use Rattle.capture.specs.declared.conversation.Conversation.{Conversation}
-use Rattle.capture.specs.declared.conversation.Side.{Side as Sender}
-use Rattle.capture.specs.declared.conversation.Side.TheVariants as senders
+use Rattle.capture.specs.declared.conversation.Side.{Side}
 use Rattle.capture.specs.declared.packet.Packet.{Packet}
 use Rattle.capture.specs.declared.packet.Time.{Time}
 use Rattle.recorder.specs.declared.notes.Notes.{Notes}
-use Rattle.trace.specs.declared.tracing.Side.{Side}
-use Rattle.trace.specs.declared.tracing.Side.TheVariants as sides
 
 -- the segments of a connection, where there is a capture
 abbrev pub talk_of : Notes → Option Conversation
 talk_of notes = notes.talk
 
--- a side, as captures have it
-abbrev pub sender_of : Side → Sender
-sender_of sides.Client = senders.Client
-sender_of sides.Server = senders.Server
-
 -- Where there is a capture, the records are of segments with these bytes.
-abbrev pub IsCaptured : Option Conversation → Time → Sender → List ℕ → List ℕ → Option Conversation → Type 0
+abbrev pub IsCaptured : Option Conversation → Time → Side → List ℕ → List ℕ → Option Conversation → Type 0
 IsCaptured None time side bytes text next = (text ≡ []) × (next ≡ None)
 IsCaptured (Some talk) time side bytes text None = ⊥
 IsCaptured (Some talk) time side bytes text (Some next) =

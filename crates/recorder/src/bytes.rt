@@ -1,82 +1,66 @@
-//! The bytes of a connection, as hexadecimal text: a file of those that were read, and one of those that were sent.
+//! The bytes of a connection, as text that `trace::sent_of` reads: a line for what a side sent at a time, as `1204 client 505249`.
 
 use crate::outputs::Unwritten;
+use capture::Side;
 use std::alloc::{AllocError, Global};
 use std::fs::File;
 use std::io::{ErrorKind, Write};
 use std::rt::Files;
 use std::{fs, io};
 
-/// The files of a connection.
+/// What can't be written.
+const WHAT: &str = "the bytes of a connection";
+
+/// The file of a connection.
 #[derive(Drop)]
 pub struct Bytes {
     alloc: Global,
-    read: File,
-    sent: File,
+    file: File,
 }
 
-/// What is written of a connection of this number: `read` or `sent`.
-pub fn name_of(
-    alloc: Global,
-    folder: &str,
-    number: u64,
-    which: &str,
-) -> Result<String, AllocError> {
-    format!(in alloc; "{folder}/{number}.{which}.hex")
+/// The name of the file of the connection of this number.
+pub fn name_of(alloc: Global, folder: &str, number: u64) -> Result<String, AllocError> {
+    format!(in alloc; "{folder}/{number}.txt")
 }
 
 impl Bytes {
-    /// Makes the files of a connection: `NUMBER.read.hex` and `NUMBER.sent.hex`.
+    /// Makes the file of a connection, or empties it.
     pub fn create<R: Files<File = File>>(
         rt: &R,
         alloc: Global,
         folder: &str,
         number: u64,
     ) -> Result<Bytes, Unwritten> {
-        match open_both(rt, alloc, folder, number) {
-            Ok((read, sent)) => Ok(Bytes { alloc, read, sent }),
-            Err(why) => Err(Unwritten::new("the bytes of a connection", why)),
+        match open(rt, alloc, folder, number) {
+            Ok(file) => Ok(Bytes { alloc, file }),
+            Err(why) => Err(Unwritten::new(WHAT, why)),
         }
     }
 
-    /// These bytes were read.
-    pub fn add_read(&mut self, bytes: &[u8]) -> Result<(), Unwritten> {
-        write_digits(self.alloc, &mut self.read, bytes)
-    }
-
-    /// These bytes were sent.
-    pub fn add_sent(&mut self, bytes: &[u8]) -> Result<(), Unwritten> {
-        write_digits(self.alloc, &mut self.sent, bytes)
+    /// A side has sent these bytes, so many microseconds after the connection began.
+    pub fn add(&mut self, passed: u64, side: Side, bytes: &[u8]) -> Result<(), Unwritten> {
+        let written = match line_of(self.alloc, passed, side, bytes) {
+            Ok(line) => self.file.write_all(line.as_bytes()),
+            Err(AllocError) => Err(io::Error::from(ErrorKind::OutOfMemory)),
+        };
+        match written {
+            Ok(()) => Ok(()),
+            Err(why) => Err(Unwritten::new(WHAT, why)),
+        }
     }
 }
 
-fn open_both<R: Files<File = File>>(
+fn open<R: Files<File = File>>(
     rt: &R,
     alloc: Global,
     folder: &str,
     number: u64,
-) -> io::Result<(File, File)> {
-    let name = name_of(alloc, folder, number, "read")?;
-    let read = fs::create(rt, name.as_str())?;
-    let name = name_of(alloc, folder, number, "sent")?;
-    let sent = fs::create(rt, name.as_str())?;
-    Ok((read, sent))
+) -> io::Result<File> {
+    let name = name_of(alloc, folder, number)?;
+    fs::create(rt, name.as_str())
 }
 
-/// Writes bytes as a line of hexadecimal digits.
-fn write_digits(alloc: Global, file: &mut File, bytes: &[u8]) -> Result<(), Unwritten> {
-    let written = match digits_of(alloc, bytes) {
-        Ok(text) => file.write_all(text.as_bytes()),
-        Err(AllocError) => Err(io::Error::from(ErrorKind::OutOfMemory)),
-    };
-    match written {
-        Ok(()) => Ok(()),
-        Err(why) => Err(Unwritten::new("the bytes of a connection", why)),
-    }
-}
-
-fn digits_of(alloc: Global, bytes: &[u8]) -> Result<String, AllocError> {
-    let mut text = hex::encode(alloc, bytes)?;
-    text.push('\n')?;
-    Ok(text)
+fn line_of(alloc: Global, passed: u64, side: Side, bytes: &[u8]) -> Result<String, AllocError> {
+    let digits = hex::encode(alloc, bytes)?;
+    format!(in alloc; "{passed} {side} {digits}\n")
 }

@@ -1,8 +1,7 @@
 //! The two ends of a connection.
 
-use capture::{Hosts, Path};
+use capture::{Hosts, Path, Side};
 use std::net::{IpAddr, SocketAddr};
-use trace::Side;
 
 /// The two ends of a connection.
 #[derive(Clone, Copy)]

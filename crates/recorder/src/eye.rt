@@ -8,6 +8,7 @@ use crate::notes::{Entry, Notes};
 use crate::outputs::Unwritten;
 use crate::recorder::Recorder;
 use crate::start::Start;
+use capture::Side;
 use std::alloc::AllocError;
 use std::fs::File;
 use std::io;
@@ -16,7 +17,6 @@ use std::rt::Files;
 use std::sync::{Arc, Mutex, Wait};
 use std::time::Clock;
 use tap::{Tap, Tapped};
-use trace::Side;
 
 /// A connection at which someone may look.
 pub type Line<S, R> = Tapped<S, Eye<R>>;
@@ -50,7 +50,7 @@ struct Watch {
     kept: Mutex<Kept>,
 }
 
-/// What is known of it, and the files for its bytes.
+/// What is known of it, and the file for its bytes.
 #[derive(Drop)]
 struct Kept {
     notes: Notes,
@@ -109,8 +109,8 @@ impl<R: Wait + Clock + Eprint + Drop> Eye<R> {
 
     /// A fault is seen where the connection is now.
     pub fn fault(&self, text: &str) {
-        let passed = self.watch.start.passed(&self.rt);
         let kept = self.watch.kept.lock(&self.rt);
+        let passed = self.watch.start.passed(&self.rt);
         let entry = kept.notes.fault(passed, text);
         self.watch.recorder.write(&self.rt, entry);
     }
@@ -122,11 +122,14 @@ impl Watch {
         if bytes.is_empty() || self.recorder.has_failed() {
             return;
         }
-        let passed = self.start.passed(rt);
+        let side = self.sender(passage);
         let mut kept = self.kept.lock(rt);
-        let entry = kept.notes.sent(passed, self.start.time(passed), self.sender(passage), bytes);
+        let passed = self.start.passed(rt);
+        let entry = kept
+            .notes
+            .sent(passed, self.start.time(passed), side, bytes);
         self.recorder.write(rt, entry);
-        if let Err(unwritten) = kept.add(passage, bytes) {
+        if let Err(unwritten) = kept.add(passed, side, bytes) {
             self.recorder.fail(rt, unwritten);
         }
     }
@@ -134,8 +137,8 @@ impl Watch {
     /// Who sent what was read, or sent.
     fn sender(&self, passage: Passage) -> Side {
         match (passage, self.side) {
-            (Passage::Sent, Side::Client) | (Passage::Read, Side::Server) => Side::Client,
-            (Passage::Sent, Side::Server) | (Passage::Read, Side::Client) => Side::Server,
+            (Passage::Sent, side) => side,
+            (Passage::Read, side) => side.other(),
         }
     }
 
@@ -155,11 +158,10 @@ impl Watch {
 }
 
 impl Kept {
-    fn add(&mut self, passage: Passage, bytes: &[u8]) -> Result<(), Unwritten> {
-        match (&mut self.bytes, passage) {
-            (None, _) => Ok(()),
-            (Some(files), Passage::Read) => files.add_read(bytes),
-            (Some(files), Passage::Sent) => files.add_sent(bytes),
+    fn add(&mut self, passed: u64, side: Side, bytes: &[u8]) -> Result<(), Unwritten> {
+        match &mut self.bytes {
+            Some(file) => file.add(passed, side, bytes),
+            None => Ok(()),
         }
     }
 }

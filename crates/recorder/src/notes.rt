@@ -1,13 +1,13 @@
 //! What is made of what passes on a connection.
 
 ghost use Rattle.std.specs.Prelude.{◌≡◌, IfOk};
-ghost use Rattle.recorder.specs.Noted.{IsCaptured, IsClosed, sender_of, talk_of};
+ghost use Rattle.recorder.specs.Noted.{IsCaptured, IsClosed, talk_of};
 
 use crate::ends::Ends;
 use crate::start::Seconds;
-use capture::{Conversation, Side as Sender, Time};
+use capture::{Conversation, Side, Time};
 use std::alloc::{AllocError, Global};
-use trace::{Form, Line, Shown, Side, Trace};
+use trace::{Form, Line, Shown, Trace};
 
 /// What is known of a connection.
 #[derive(Drop)]
@@ -99,7 +99,7 @@ impl Notes {
         bytes: &[u8],
     ) -> Result<Entry, AllocError>
         ensures records { IfOk result (λ entry. IsCaptured
-            (talk_of self.old) time (sender_of side) bytes.now entry.records.items (talk_of self.new)) }
+            (talk_of self.old) time side bytes.now entry.records.items (talk_of self.new)) }
     {
         let lines = self.lines_of(passed, side, bytes)?;
         let records = self.records_of(time, side, bytes)?;
@@ -121,10 +121,10 @@ impl Notes {
     /// The records of their segments.
     fn records_of(&mut self, time: Time, side: Side, bytes: &[u8]) -> Result<Vec<u8>, AllocError>
         ensures { IfOk result (λ records. IsCaptured
-            (talk_of self.old) time (sender_of side) bytes.now records.items (talk_of self.new)) }
+            (talk_of self.old) time side bytes.now records.items (talk_of self.new)) }
     {
         match &mut self.talk {
-            Some(talk) => talk.send(self.alloc, time, sender_of(side), bytes),
+            Some(talk) => talk.send(self.alloc, time, side, bytes),
             None => Ok(Vec::new(self.alloc)),
         }
     }
@@ -189,14 +189,4 @@ fn push_lines(
         writeln!(text, "conn {number} {shown}")?;
     }
     Ok(())
-}
-
-/// The side, as captures have it.
-fn sender_of(side: Side) -> Sender
-    ensures { result ≡ sender_of side }
-{
-    match side {
-        Side::Client => Sender::Client,
-        Side::Server => Sender::Server,
-    }
 }

@@ -2,6 +2,7 @@
 
 use crate::eye::{Line, Sight, look};
 use crate::recorder::Recorder;
+use capture::Side;
 use std::fs::File;
 use std::io;
 use std::net::{Net, OpenListener, OpenStream, SocketAddr};
@@ -10,7 +11,6 @@ use std::rt::Files;
 use std::sync::{Arc, Wait};
 use std::time::{Clock, Duration};
 use tap::Tapped;
-use trace::Side;
 
 /// A network, and a clock. Where there is a recorder, it looks at each connection that comes to a port.
 #[derive(Clone, Copy, Drop)]

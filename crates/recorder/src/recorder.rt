@@ -75,10 +75,10 @@ impl Recorder {
         self.has_failed.load(Ordering::SeqCst)
     }
 
-    /// The file with the bytes that were read of the connection of this number, where there is one.
+    /// The file with the bytes of the connection of this number, where there is one.
     pub fn file_of(&self, number: u64) -> Result<Option<String>, AllocError> {
         match &self.folder {
-            Some(folder) => Ok(Some(name_of(self.alloc, folder.as_str(), number, "read")?)),
+            Some(folder) => Ok(Some(name_of(self.alloc, folder.as_str(), number)?)),
             None => Ok(None),
         }
     }
