@@ -24,8 +24,8 @@ pub fn given_by(alloc: Global, file: &[u8], named: Option<Named>) -> Result<Give
         return Ok(Given::Packets(read(alloc, file)?));
     }
     let mut pieces = sent_of(alloc, file)?;
-    if let (Some(side), [one]) = (named, pieces.as_mut_slice()) {
-        one.side = side_of(side);
+    if pieces.len() == 1 {
+        name_first(&mut pieces, named);
     }
     Ok(Given::Pieces(pieces))
 }
@@ -64,9 +64,23 @@ pub fn both_of(
 /// What the one side sent that a file has.
 fn one_of(alloc: Global, file: &[u8]) -> Result<Sent, FramesFault> {
     let mut pieces = sent_of(alloc, file)?;
-    match pieces.pop() {
-        Some(one) if pieces.is_empty() => Ok(one),
-        _ => Err(FramesFault::BothSides),
+    let last = pieces.pop();
+    match last {
+        Some(one) => {
+            if pieces.is_empty() {
+                Ok(one)
+            } else {
+                Err(FramesFault::BothSides)
+            }
+        }
+        None => Err(FramesFault::BothSides),
+    }
+}
+
+/// Says who sent the first of them, if that is named.
+fn name_first(pieces: &mut Vec<Sent>, named: Option<Named>) {
+    if let (Some(named), Some(first)) = (named, pieces.first_mut()) {
+        first.side = side_of(named);
     }
 }
 
