@@ -142,7 +142,7 @@ where
         reporting: &words.reporting,
         names: &NAMES,
         chosen: places.len(),
-        is_shown,
+        is_shown: is_shown && !words.tracing.is_shown(),
     };
     let recorder = Recorder::open(&rt, rt.alloc(), words.tracing, None)?;
     let mut sinks = Sinks::open(rt, rt.alloc(), run)?;

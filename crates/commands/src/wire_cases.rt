@@ -163,7 +163,7 @@ where
         reporting: &words.reporting,
         names: texts.as_slice(),
         chosen: places.len(),
-        is_shown,
+        is_shown: is_shown && !words.tracing.is_shown(),
     };
     let recorder = Recorder::open(&rt, alloc, words.tracing, None)?;
     let mut sinks = Sinks::open(rt, alloc, run)?;

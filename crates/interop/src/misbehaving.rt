@@ -144,7 +144,7 @@ where
         reporting: &words.reporting,
         names,
         chosen: count,
-        is_shown,
+        is_shown: is_shown && !words.tracing.is_shown(),
     };
     let recorder = Recorder::open(&rt, alloc, words.tracing, None)?;
     let net = Overlooked::new(rt, &recorder);

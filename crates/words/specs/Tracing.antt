@@ -1,6 +1,6 @@
 -- The options that `serve`, `case`, `wire` and `misbehave` share: `--trace`, also `--trace short` and `--trace full`, `--trace-file FILE`
 -- and `--pcap FILE`
-use Rattle.std.specs.Prelude.{List, [], ◌∷◌, Option, Some, None, if◌then◌else◌, codes, option_map, option_and_then}
+use Rattle.std.specs.Prelude.{◌&&◌, Bool, is_none, is_some, List, [], ◌∷◌, Option, Some, None, if◌then◌else◌, codes, option_map, option_and_then}
 use Rattle.std.specs.Str.{bytes_eq}
 use Rattle.clap.specs.Walk.{Row, Rule, Text}
 use Rattle.clap.specs.Simple.{App, with_rule}
@@ -36,6 +36,10 @@ tracing words = record {
   lines = option_map (λ file. file.now) words.lines;
   capture = option_map (λ file. file.now) words.capture;
 }
+
+-- the lines go to standard error
+abbrev pub is_shown : Tracing → Bool
+is_shown words = is_some words.form && is_none words.lines
 
 -- the form of a name
 abbrev pub form_of : Text → Option TraceForm

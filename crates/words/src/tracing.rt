@@ -5,7 +5,7 @@ ghost use Rattle.std.specs.Prelude.{◌≡◌, IfOk, option_map};
 ghost use Rattle.clap.specs.Simple.{App};
 ghost use Rattle.clap.specs.Words.{found_of, rows_of};
 ghost use Rattle.words.specs.Options.{IsCommand, IsOption};
-ghost use Rattle.words.specs.Tracing.{form_of, trace_of, trace_option, tracing, tracing_of, with_tracing};
+ghost use Rattle.words.specs.Tracing.{form_of, is_shown, trace_of, trace_option, tracing, tracing_of, with_tracing};
 
 use crate::options::{text_of, text_option};
 use clap::{Arg, ArgMatches, Command};
@@ -29,6 +29,15 @@ pub struct Tracing<'a> {
     pub lines: Option<&'a str>,
     /// The file for a capture.
     pub capture: Option<&'a str>,
+}
+
+impl<'a> Tracing<'a> {
+    /// Whether lines go to standard error.
+    pub fn is_shown(&self) -> bool
+        ensures { result ≡ is_shown self.now }
+    {
+        self.form.is_some() && self.lines.is_none()
+    }
 }
 
 /// The words that they take.
