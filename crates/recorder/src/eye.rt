@@ -4,7 +4,7 @@ ghost use Rattle.std.specs.Prelude.{None};
 
 use crate::bytes::Bytes;
 use crate::ends::Ends;
-use crate::notes::{Entry, Notes};
+use crate::notes::Notes;
 use crate::outputs::Unwritten;
 use crate::recorder::Recorder;
 use crate::start::Start;

@@ -1,6 +1,6 @@
 //! A device, and who looks at it.
 
-ghost use Rattle.std.specs.Prelude.{◌≡◌, ℕ, List, Option, take, IfOk, OnErr};
+ghost use Rattle.std.specs.Prelude.{◌≡◌, List, Option, take, IfOk, OnErr};
 ghost use Rattle.tap.specs.Passing.{IsShown, Piece, Sees, device_of, read, tap_of, written};
 
 use device::{ConnRead, ConnWrite, DeviceFault};
