@@ -5,6 +5,8 @@
 //! for a thread to start. Where only so many are served, each has a thread of its own. Where the system has too few threads, or too
 //! little memory, the crate's `room` says how many connections are served at a time.
 
+ghost use Rattle.std.specs.Prelude.{IsNone};
+
 use crate::log::{Logs, ended_of};
 use crate::reporter::Reporter;
 use crate::room::Room;
@@ -315,6 +317,7 @@ impl<L> Service<L> {
     fn eye<R>(&self, rt: R, stream: &TcpStream, connection: Connection) -> Option<Eye<R>>
     where
         R: Files<File = File> + Wait + Clock + Eprint + Copy + Drop,
+        ensures { IsNone self.now.recorder → IsNone result }
     {
         let Connection { number, peer } = connection;
         if self.recorder.is_none() {

@@ -1,5 +1,8 @@
 //! What files have.
 
+ghost use Rattle.std.specs.Prelude.{◌≡◌, IfOk};
+ghost use Rattle.frames.specs.Given.{AreBoth, side_of};
+
 use crate::fault::FramesFault;
 use capture::{Packet, Side, read};
 use std::alloc::Global;
@@ -37,7 +40,9 @@ pub fn both_of(
     first: &[u8],
     second: &[u8],
     named: Option<Named>,
-) -> Result<Vec<Sent>, FramesFault> {
+) -> Result<Vec<Sent>, FramesFault>
+    ensures { IfOk result (λ both. AreBoth both.items) }
+{
     let mut first = one_of(alloc, first)?;
     let mut second = one_of(alloc, second)?;
     let side = match named {
@@ -84,7 +89,9 @@ fn name_first(pieces: &mut Vec<Sent>, named: Option<Named>) {
     }
 }
 
-fn side_of(named: Named) -> Side {
+fn side_of(named: Named) -> Side
+    ensures { result ≡ side_of named }
+{
     match named {
         Named::Client => Side::Client,
         Named::Server => Side::Server,

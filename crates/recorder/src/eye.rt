@@ -1,6 +1,7 @@
 //! Who looks at a connection.
 
-ghost use Rattle.std.specs.Prelude.{None};
+ghost use Rattle.std.specs.Prelude.{◌≡◌, IsNone, None};
+ghost use Rattle.tap.specs.Passing.{device_of, tap_of};
 
 use crate::bytes::Bytes;
 use crate::ends::Ends;
@@ -191,6 +192,7 @@ impl<R: Wait + Clock + Eprint + Drop> Drop for Eye<R> {
 pub fn look<R>(rt: R, recorder: &Option<Arc<Recorder>>, sight: Sight<'_>) -> Option<Eye<R>>
 where
     R: Files<File = File> + Wait + Clock + Eprint + Copy + Drop,
+    ensures { IsNone recorder.now → IsNone result }
 {
     let recorder = recorder.as_ref()?;
     match Eye::begin(rt, recorder, sight) {
@@ -212,6 +214,8 @@ pub fn look_at_server<R, S>(
 where
     R: Files<File = File> + Wait + Clock + Eprint + Copy + Drop,
     S: OpenStream,
+    ensures device { device_of result ≡ stream }
+    ensures plain { IsNone recorder.now → IsNone (tap_of result) }
 {
     if recorder.is_none() {
         return Tapped::new(stream, None);

@@ -1,5 +1,8 @@
 //! Where it is written what passes on connections.
 
+ghost use Rattle.std.specs.Prelude.{◌↔◌, IsNone, IfOk};
+ghost use Rattle.recorder.specs.Noted.{IsQuiet};
+
 use crate::bytes::{Bytes, name_of};
 use crate::fault::RecorderFault;
 use crate::notes::{Entry, Wish};
@@ -40,7 +43,9 @@ impl Recorder {
         alloc: Global,
         words: Tracing<'_>,
         folder: Option<&str>,
-    ) -> Result<Option<Arc<Recorder>>, RecorderFault> {
+    ) -> Result<Option<Arc<Recorder>>, RecorderFault>
+        ensures none { IfOk result (λ made. IsNone made ↔ IsQuiet words folder) }
+    {
         if words.form.is_none() && words.capture.is_none() && folder.is_none() {
             return Ok(None);
         }
