@@ -152,7 +152,8 @@ impl Watch {
             ..
         } = self;
         let passed = start.passed(rt);
-        let Kept { notes, bytes: _ } = kept.into_inner();
+        let Kept { notes, bytes } = kept.into_inner();
+        drop(bytes);
         let entry = notes.end(passed, start.time(passed));
         recorder.write(rt, entry);
     }
