@@ -3,12 +3,12 @@
 ghost use Rattle.std.specs.Prelude.{◌≡◌, IsNone, None};
 ghost use Rattle.tap.specs.Passing.{device_of, tap_of};
 
-use crate::bytes::Bytes;
 use crate::ends::Ends;
 use crate::notes::Notes;
 use crate::outputs::Unwritten;
-use crate::recorder::Recorder;
+use crate::places::Recorder;
 use crate::start::Start;
+use crate::transcript::Transcript;
 use capture::Side;
 use std::alloc::AllocError;
 use std::fs::File;
@@ -55,7 +55,7 @@ struct Watch {
 #[derive(Drop)]
 struct Kept {
     notes: Notes,
-    bytes: Option<Bytes>,
+    transcript: Option<Transcript>,
 }
 
 /// What happened to bytes.
@@ -86,12 +86,12 @@ impl<R: Wait + Clock + Eprint + Drop> Eye<R> {
             start.time(0),
         )?;
         recorder.write(&rt, Ok(entry));
-        let bytes = recorder.bytes_of(&rt, number);
+        let transcript = recorder.transcript(&rt, number);
         let watch = Watch {
             recorder: Arc::try_clone(recorder)?,
             side: sight.side,
             start,
-            kept: Mutex::new(Kept { notes, bytes }),
+            kept: Mutex::new(Kept { notes, transcript }),
         };
         let watch = Arc::new(recorder.alloc, watch)?;
         Ok(Eye { rt, watch })
@@ -152,8 +152,8 @@ impl Watch {
             ..
         } = self;
         let passed = start.passed(rt);
-        let Kept { notes, bytes } = kept.into_inner();
-        drop(bytes);
+        let Kept { notes, transcript } = kept.into_inner();
+        drop(transcript);
         let entry = notes.end(passed, start.time(passed));
         recorder.write(rt, entry);
     }
@@ -161,7 +161,7 @@ impl Watch {
 
 impl Kept {
     fn add(&mut self, passed: u64, side: Side, bytes: &[u8]) -> Result<(), Unwritten> {
-        match &mut self.bytes {
+        match &mut self.transcript {
             Some(file) => file.add(passed, side, bytes),
             None => Ok(()),
         }

@@ -6,22 +6,22 @@
 //!
 //! A recorder that can't write says so on standard error, once, and writes no more: the connections go on.
 //!
-//! Read `notes` for what is made of what passes, without threads or files; `outputs`, `bytes` and `recorder` for where it is written;
+//! Read `notes` for what is made of what passes, without threads or files; `outputs`, `transcript` and `places` for where it is written;
 //! `eye` for connections, `overlooked` for a network all of whose connections are looked at; `start` and `ends` for times and
 //! addresses.
 #![tactic(auto)]
 
-mod bytes;
 mod ends;
 mod eye;
 mod fault;
 mod notes;
 mod outputs;
 mod overlooked;
-mod recorder;
+mod places;
 mod start;
+mod transcript;
 
 pub use eye::{Eye, Line, Sight, look, look_at_server};
 pub use fault::RecorderFault;
 pub use overlooked::{Overlooked, OverlookedListener};
-pub use recorder::Recorder;
+pub use places::Recorder;

@@ -1,7 +1,7 @@
 //! A network all of whose connections are looked at.
 
 use crate::eye::{Line, Sight, look};
-use crate::recorder::Recorder;
+use crate::places::Recorder;
 use capture::Side;
 use std::fs::File;
 use std::io;

@@ -13,7 +13,7 @@ const WHAT: &str = "the bytes of a connection";
 
 /// The file of a connection.
 #[derive(Drop)]
-pub struct Bytes {
+pub struct Transcript {
     alloc: Global,
     file: File,
 }
@@ -23,16 +23,16 @@ pub fn name_of(alloc: Global, folder: &str, number: u64) -> Result<String, Alloc
     format!(in alloc; "{folder}/{number}.txt")
 }
 
-impl Bytes {
+impl Transcript {
     /// Makes the file of a connection, or empties it.
     pub fn create<R: Files<File = File>>(
         rt: &R,
         alloc: Global,
         folder: &str,
         number: u64,
-    ) -> Result<Bytes, Unwritten> {
+    ) -> Result<Transcript, Unwritten> {
         match open(rt, alloc, folder, number) {
-            Ok(file) => Ok(Bytes { alloc, file }),
+            Ok(file) => Ok(Transcript { alloc, file }),
             Err(why) => Err(Unwritten::new(WHAT, why)),
         }
     }

@@ -3,10 +3,10 @@
 ghost use Rattle.std.specs.Prelude.{◌↔◌, IsNone, IfOk};
 ghost use Rattle.recorder.specs.Noted.{IsQuiet};
 
-use crate::bytes::{Bytes, name_of};
 use crate::fault::RecorderFault;
 use crate::notes::{Entry, Wish};
 use crate::outputs::{Lines, Outputs, Unwritten};
+use crate::transcript::{Transcript, name_of};
 use capture::file_head;
 use std::alloc::{AllocError, Global};
 use std::fs::File;
@@ -94,12 +94,12 @@ impl Recorder {
     }
 
     /// The files for the bytes of a connection, where there are to be any.
-    pub(crate) fn bytes_of<R>(&self, rt: &R, number: u64) -> Option<Bytes>
+    pub(crate) fn transcript<R>(&self, rt: &R, number: u64) -> Option<Transcript>
     where
         R: Files<File = File> + Eprint,
     {
         let folder = self.folder.as_ref()?;
-        match Bytes::create(rt, self.alloc, folder.as_str(), number) {
+        match Transcript::create(rt, self.alloc, folder.as_str(), number) {
             Ok(bytes) => Some(bytes),
             Err(unwritten) => {
                 self.fail(rt, unwritten);
