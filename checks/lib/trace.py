@@ -12,7 +12,7 @@ HERE = os.path.dirname(os.path.abspath(__file__))
 PARTS = os.path.join(HERE, "..", "parts-data")
 KINDS = ["DATA", "HEADERS", "PRIORITY", "RST_STREAM", "SETTINGS", "PUSH_PROMISE", "PING", "GOAWAY", "WINDOW_UPDATE", "CONTINUATION"]
 LINE = re.compile(r"^conn (\d+) (\d+\.\d{6}) (client|server) (.*)$")
-FRAME = re.compile(r"^(?:stream (\d+) )?([A-Za-z_]+(?: 0x[0-9a-f]+)?)((?: [A-Z_]+| flags 0x[0-9a-f]+)*), ([\d,]+) bytes?(.*)$")
+FRAME = re.compile(r"^(?:stream (\d+) )?(a frame of type \d+|[A-Z_]+)((?: [A-Z_]+| flags 0x[0-9a-f]+)*), ([\d,]+) bytes?(.*)$")
 STATUS = re.compile(r"; the call ends with status (\d+)")
 wrong = 0
 
@@ -141,9 +141,8 @@ def by_tshark(name, capture, port, conns):
     base = ["tshark", "-r", capture, "-d", f"tcp.port=={port},http2", "-o", "tcp.check_checksum:TRUE"]
     bad = subprocess.run(base + ["-Y", "tcp.analysis.flags || tcp.checksum.status == 0 || _ws.malformed"], stdout=subprocess.PIPE, stderr=subprocess.DEVNULL, text=True)
     want(bad.returncode == 0 and not bad.stdout, f"{name}: tshark says {bad.stdout[:300]}")
-    fields = ["tcp.stream", "tcp.srcport", "http2.type", "http2.streamid", "http2.length", "grpc.status_code", "http2.headers.grpc_status"]
-    fields = ["tcp.stream", "tcp.srcport", "http2.type", "http2.streamid", "http2.length", "http2.header.value"]
-    words = base + ["-T", "fields", "-E", "separator=;"] + [word for field in fields[:5] for word in ("-e", field)]
+    fields = ["tcp.stream", "tcp.srcport", "http2.type", "http2.streamid", "http2.length"]
+    words = base + ["-T", "fields", "-E", "separator=;"] + [word for field in fields for word in ("-e", field)]
     found = {}
     for line in subprocess.run(words, stdout=subprocess.PIPE, stderr=subprocess.DEVNULL, text=True).stdout.splitlines():
         stream, source, *columns = line.split(";")
