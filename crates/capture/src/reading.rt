@@ -73,7 +73,10 @@ pub fn read(alloc: Global, bytes: &[u8]) -> Result<Vec<Packet>, CaptureFault>
     if !is_file_head(head) {
         return Err(CaptureFault::Head);
     }
-    packets_of(alloc, records)
+    match packets_of(alloc, records) {
+        Ok(packets) => Ok(packets),
+        Err(fault) => Err(fault),
+    }
 }
 
 fn is_file_head(head: &[u8]) -> bool
@@ -158,7 +161,8 @@ fn parts_of(text: &[u8]) -> Option<(Time, SegmentHead, &[u8])>
         seconds: le32_at(text, 0),
         micros: le32_at(text, 4),
     };
-    match carried(&text[RECORD_HEAD..]) {
+    let (_front, packet) = text.split_at(RECORD_HEAD);
+    match carried(packet) {
         None => None,
         Some((head, payload)) => Some((time, head, payload)),
     }
