@@ -3,6 +3,7 @@
 import os
 import re
 import shutil
+import socket
 import subprocess
 import sys
 import tempfile
@@ -248,6 +249,18 @@ def talks_by_start(room):
     return [talk for _, talk in sorted(talks.items()) if talk["client"] or talk["server"]]
 
 
+def explained(program, room):
+    """The trace of `serve` says why a connection is ended, after the frame that ends it."""
+    server = subprocess.Popen([program, "serve", "--any-port", "--conns", "1", "--port-file", f"{room}/port4", "--trace-file", f"{room}/f.trace"], stdin=subprocess.DEVNULL, stdout=subprocess.DEVNULL)
+    port = wait_for(f"{room}/port4")
+    with socket.create_connection(("127.0.0.1", int(port))) as client:
+        client.sendall(b"PRI * HTTP/2.0\r\n\r\nSM\r\n\r\n" + bytes(3) + b"\4" + bytes(5) + b"\0\0\1\1\5\0\0\0\1\x80")
+        while client.recv(4096):
+            pass
+    server.wait(timeout=60)
+    want(re.search(r"server GOAWAY, .*: code 9 COMPRESSION_ERROR, .*\nconn 1 \d+\.\d{6} fault: .*index 0 \(RFC 7541, 6\.1\)\n", read(room, "f.trace")), f"no reason behind GOAWAY: {read(room, 'f.trace')[-600:]}")
+
+
 def parts(program):
     """`frames` prints each byte of the connections of checks/parts-data."""
     count = 0
@@ -282,6 +295,7 @@ def main(program):
     with tempfile.TemporaryDirectory() as room:
         total, tshark = cases(program, room)
         total += others(program, room)
+        explained(program, room)
         count = parts(program)
         refused(program, room)
     print(f"trace: {total} bytes, {tshark} frames by tshark, {count} of parts-data, {wrong} wrong")

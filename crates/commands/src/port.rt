@@ -333,6 +333,7 @@ impl<L> Service<L> {
                 own,
                 peer,
                 label: None,
+                is_served: true,
             },
         )
     }

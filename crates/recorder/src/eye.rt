@@ -33,6 +33,8 @@ pub struct Sight<'a> {
     pub peer: SocketAddr,
     /// What it is for.
     pub label: Option<&'a str>,
+    /// Whether this program's own server serves it, whose reasons are known.
+    pub is_served: bool,
 }
 
 /// Who looks at a connection. Once all that look at it are dropped, the connection has ended.
@@ -77,7 +79,7 @@ impl<R: Wait + Clock + Eprint + Drop> Eye<R> {
         };
         let start = Start::now(&rt);
         let ends = Ends::of(sight.side, sight.own, sight.peer);
-        let (notes, entry) = Notes::begin(
+        let (mut notes, entry) = Notes::begin(
             recorder.alloc,
             number,
             recorder.wish,
@@ -86,6 +88,9 @@ impl<R: Wait + Clock + Eprint + Drop> Eye<R> {
             start.time(0),
         )?;
         recorder.write(&rt, Ok(entry));
+        if sight.is_served {
+            notes.explain();
+        }
         let transcript = recorder.transcript(&rt, number);
         let watch = Watch {
             recorder: Arc::try_clone(recorder)?,
@@ -231,6 +236,7 @@ where
                 own,
                 peer,
                 label: Some(label),
+                is_served: false,
             },
         ),
         Err(_ended) => None,

@@ -6,6 +6,7 @@ ghost use Rattle.recorder.specs.Noted.{IsCaptured, IsClosed, talk_of};
 use crate::ends::Ends;
 use crate::start::Seconds;
 use capture::{Conversation, Side, Time};
+use connlog::Observer;
 use std::alloc::{AllocError, Global};
 use trace::{Form, Line, Shown, Trace};
 
@@ -20,6 +21,8 @@ pub struct Notes {
     trace: Option<Trace>,
     /// Of its segments, where there is a capture.
     talk: Option<Conversation>,
+    /// Of why this server ends streams and the connection, where there are lines and it is its own.
+    observer: Option<Observer>,
 }
 
 /// What is to be written.
@@ -64,6 +67,7 @@ impl Notes {
             form: wish.form.unwrap_or(Form::Short),
             trace: wish.form.map(|_| Trace::new(alloc)),
             talk: None,
+            observer: None,
         };
         let mut entry = Entry::of_lines(alloc, notes.first_line(ends, label)?);
         if wish.has_capture {
@@ -72,6 +76,13 @@ impl Notes {
             entry.records = records;
         }
         Ok((notes, entry))
+    }
+
+    /// The connection is this server's own: lines say why it ends streams, and the connection.
+    pub fn explain(&mut self) {
+        if self.trace.is_some() {
+            self.observer = Some(Observer::new(self.alloc));
+        }
     }
 
     /// The line of the beginning, where there are lines.
@@ -114,8 +125,41 @@ impl Notes {
         if let Some(trace) = &mut self.trace {
             let lines = trace.sent(passed, side, bytes)?;
             push_lines(&mut text, self.number, self.form, lines.as_slice())?;
+            self.push_causes(&mut text, passed, side, bytes)?;
         }
         Ok(text)
+    }
+
+    /// The lines of why this server did what it did by these bytes.
+    fn push_causes(
+        &mut self,
+        text: &mut String,
+        passed: u64,
+        side: Side,
+        bytes: &[u8],
+    ) -> Result<(), AllocError>
+        ensures same { talk_of self.new ≡ talk_of self.old }
+    {
+        let Some(observer) = &mut self.observer else {
+            return Ok(());
+        };
+        match side {
+            Side::Client => observer.read(bytes),
+            Side::Server => observer.wrote(bytes),
+        }
+        let (number, seconds) = (self.number, Seconds(passed));
+        for line in &observer.take_lines() {
+            let Some(cause) = &line.why else {
+                continue;
+            };
+            write!(text, "conn {number} {seconds} fault: ")?;
+            if line.stream != 0 {
+                let stream = line.stream;
+                write!(text, "stream {stream}: ")?;
+            }
+            writeln!(text, "{cause}")?;
+        }
+        Ok(())
     }
 
     /// The records of their segments.
@@ -150,7 +194,9 @@ impl Notes {
             form,
             trace,
             talk,
+            observer,
         } = self;
+        drop(observer);
         let lines = last_lines(alloc, number, form, trace, passed)?;
         let records = match talk {
             Some(talk) => talk.close(alloc, time)?,

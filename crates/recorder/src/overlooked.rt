@@ -48,6 +48,7 @@ where
                     own,
                     peer,
                     label: None,
+                    is_served: false,
                 },
             ),
             Err(_ended) => None,

@@ -1,6 +1,8 @@
 //! A device, and who looks at it.
 
-ghost use Rattle.std.specs.Prelude.{◌≡◌, List, Option, take, IfOk, OnErr};
+ghost use Rattle.std.specs.Prelude.{◌≡◌, ◌<◌, true, List, Option, length, take, IfOk, OnOk, OnErr};
+ghost use Rattle.std.specs.Io.{ReadsAtMost, WritesAtMost};
+ghost use Rattle.std.specs.Io.KnownBytes.{ReadConsumes, WriteAppends};
 ghost use Rattle.tap.specs.Passing.{IsShown, Piece, Sees, device_of, read, tap_of, written};
 
 use device::{ConnRead, ConnWrite, DeviceFault};
@@ -82,6 +84,12 @@ impl<D: ConnRead, T: Tap> ConnRead for Tapped<D, T> {
     ghost failed = { λ tapped. D.failed (device_of tapped) };
 
     fn read(&mut self, buf: &mut [u8]) -> Result<usize, DeviceFault>
+        ensures fits { ReadsAtMost result buf.new }
+        ensures bytes { ReadConsumes (D.remaining (device_of self.old))
+            (D.remaining (device_of self.new)) result buf.new }
+        ensures unmarked { OnOk result
+            (D.failed (device_of self.new) ≡ D.failed (device_of self.old)) }
+        ensures marked { OnErr result (D.failed (device_of self.new) ≡ true) }
         ensures shown { IfOk result (λ count.
             IsShown T.seen (tap_of self.old) (tap_of self.new) read (take count buf.new)) }
         ensures unshown { OnErr result (tap_of self.new ≡ tap_of self.old) }
@@ -98,6 +106,13 @@ impl<D: ConnWrite, T: Tap> ConnWrite for Tapped<D, T> {
     ghost failed = { λ tapped. D.failed (device_of tapped) };
 
     fn write(&mut self, buf: &[u8]) -> Result<usize, DeviceFault>
+        ensures fits { WritesAtMost result buf.now }
+        ensures some { IfOk result (λ n. 0 < length buf.now → 0 < n) }
+        ensures bytes { WriteAppends (D.contents (device_of self.old))
+            (D.contents (device_of self.new)) result buf.now }
+        ensures unmarked { OnOk result
+            (D.failed (device_of self.new) ≡ D.failed (device_of self.old)) }
+        ensures marked { OnErr result (D.failed (device_of self.new) ≡ true) }
         ensures shown { IfOk result (λ count.
             IsShown T.seen (tap_of self.old) (tap_of self.new) written (take count buf.now)) }
         ensures unshown { OnErr result (tap_of self.new ≡ tap_of self.old) }
@@ -112,6 +127,9 @@ impl<D: Read, T: Tap> Read for Tapped<D, T> {
     ghost remaining = { λ tapped. D.remaining (device_of tapped) };
 
     fn read(&mut self, buf: &mut [u8]) -> io::Result<usize>
+        ensures bound { ReadsAtMost result buf.new }
+        ensures bytes { ReadConsumes (D.remaining (device_of self.old))
+            (D.remaining (device_of self.new)) result buf.new }
         ensures shown { IfOk result (λ count.
             IsShown T.seen (tap_of self.old) (tap_of self.new) read (take count buf.new)) }
     {
@@ -125,6 +143,9 @@ impl<D: Write, T: Tap> Write for Tapped<D, T> {
     ghost contents = { λ tapped. D.contents (device_of tapped) };
 
     fn write(&mut self, buf: &[u8]) -> io::Result<usize>
+        ensures bound { WritesAtMost result buf.now }
+        ensures bytes { WriteAppends (D.contents (device_of self.old))
+            (D.contents (device_of self.new)) result buf.now }
         ensures shown { IfOk result (λ count.
             IsShown T.seen (tap_of self.old) (tap_of self.new) written (take count buf.now)) }
     {
