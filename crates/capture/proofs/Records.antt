@@ -9,7 +9,7 @@ use Rattle.capture.specs.declared.packet.Path.{Path}
 use Rattle.capture.specs.declared.packet.SegmentHead.{SegmentHead}
 use Rattle.capture.specs.declared.packet.Time.{Time}
 use Rattle.capture.specs.Fields.{le32_at}
-use Rattle.capture.specs.Format.{IsPacket, IsSegment, IsRecord, IsFileHead, IsCapture, AreRecords}
+use Rattle.capture.specs.Format.{IsPacket, IsV4, IsV6, IsChecked, IsSegment, Carries, IsRecord, IsFileHead, IsCapture, AreRecords}
 use Rattle.capture.specs.Reading.{HasItsSize, StartsWith}
 
 -- ---- how long a record is
@@ -58,7 +58,7 @@ pub one_first : (bytes first rest other more : List ℕ) → bytes ≡ first ++ 
 one_first bytes first rest other more e f h k =
     let a = size_of_first bytes first rest e h in
     let b = size_of_first bytes other more f k in
-    fronts_one first other rest more (a.1.0 ∙ sym b.1.0) (sym e ∙ f)
+    fronts_one first other rest more (a.1 ∙ sym b.1) (sym e ∙ f)
 
 -- ---- what a record says
 
@@ -91,17 +91,61 @@ one_head text head other payload more hosts x y =
     let e : left ≡ right = cc (path, sequence, acknowledged, bits) in
     (e, sym x.content ∙ y.content)
 
+-- a packet has one segment alone
+one_carried : (text : List ℕ) (head other : SegmentHead) (payload more : List ℕ) → Carries text head payload → Carries text other more → (head ≡ other) × (payload ≡ more)
+one_carried text head other payload more x y =
+    let hosts = one_hosts text head.path.hosts other.path.hosts x.segment y.segment x.is_packet y.is_packet in
+    one_head y.segment head other payload more hosts.0 (subst (λ (s : List ℕ). IsSegment s head payload) hosts.1 x.is_segment) y.is_segment
+
+same_time : (a b : Time) → a.seconds ≡ b.seconds → a.micros ≡ b.micros → a ≡ b
+same_time a b seconds micros =
+    let left : Time = record { seconds = a.seconds; micros = a.micros } in
+    let right : Time = record { seconds = b.seconds; micros = b.micros } in
+    let e : left ≡ right = cc (seconds, micros) in e
+
 -- a record is one packet's alone
 pub one_record : (text : List ℕ) (packet other : Packet) → IsRecord text packet → IsRecord text other → packet ≡ other
 one_record text packet other x y =
-    let hosts = one_hosts (drop 16 text) packet.head.path.hosts other.head.path.hosts x.segment y.segment x.is_packet y.is_packet in
-    let segment = subst (λ (s : List ℕ). IsSegment s packet.head packet.payload) hosts.1 x.is_segment in
-    let head = one_head y.segment packet.head other.head packet.payload other.payload hosts.0 segment y.is_segment in
-    let seconds : packet.time.seconds ≡ other.time.seconds = sym x.seconds ∙ y.seconds in
-    let micros : packet.time.micros ≡ other.time.micros = sym x.micros ∙ y.micros in
-    let left : Packet = record { time = record { seconds = packet.time.seconds; micros = packet.time.micros }; head = packet.head; payload = packet.payload } in
-    let right : Packet = record { time = record { seconds = other.time.seconds; micros = other.time.micros }; head = other.head; payload = other.payload } in
-    let e : left ≡ right = cc (seconds, micros, head.0, head.1) in e
+    let parts = one_carried (drop 16 text) packet.head other.head packet.payload other.payload x.carries y.carries in
+    let time = same_time packet.time other.time (sym x.seconds ∙ y.seconds) (sym x.micros ∙ y.micros) in
+    let heads = parts.0 in
+    let payloads = parts.1 in
+    let left : Packet = record { time = packet.time; head = packet.head; payload = packet.payload } in
+    let right : Packet = record { time = other.time; head = other.head; payload = other.payload } in
+    let e : left ≡ right = cc (time, heads, payloads) in e
+
+-- ---- what no record is
+
+pub no_packet : (packet : List ℕ) → ((from to segment : List ℕ) → IsV4 packet from to segment → ⊥) → ((from to segment : List ℕ) → IsV6 packet from to segment → ⊥)
+    → (hosts : Hosts) (segment : List ℕ) → IsPacket packet hosts segment → ⊥
+no_packet packet four six (V4 from to) segment is = four from to segment is
+no_packet packet four six (V6 from to) segment is = six from to segment is
+
+pub none_carried : (packet : List ℕ) → ((hosts : Hosts) (segment : List ℕ) → IsPacket packet hosts segment → ⊥) → (head : SegmentHead) (payload : List ℕ) → Carries packet head payload → ⊥
+none_carried packet none head payload is = none head.path.hosts is.segment is.is_packet
+
+pub wrong_sum : (packet : List ℕ) (hosts : Hosts) (segment : List ℕ) → IsPacket packet hosts segment → (IsChecked hosts segment → ⊥) → (head : SegmentHead) (payload : List ℕ) → Carries packet head payload → ⊥
+wrong_sum packet hosts segment is wrong head payload has =
+    let same = one_hosts packet head.path.hosts hosts has.segment segment has.is_packet is in
+    wrong (subst (λ (s : List ℕ). IsChecked hosts s) same.1 (subst (λ (h : Hosts). IsChecked h has.segment) same.0 has.is_checked))
+
+pub no_segment : (packet : List ℕ) (hosts : Hosts) (segment : List ℕ) → IsPacket packet hosts segment → ((head : SegmentHead) (payload : List ℕ) → IsSegment segment head payload → ⊥)
+    → (head : SegmentHead) (payload : List ℕ) → Carries packet head payload → ⊥
+no_segment packet hosts segment is none head payload has =
+    let same = one_hosts packet head.path.hosts hosts has.segment segment has.is_packet is in
+    none head payload (subst (λ (s : List ℕ). IsSegment s head payload) same.1 has.is_segment)
+
+pub carries : (packet : List ℕ) (hosts : Hosts) (segment : List ℕ) (head : SegmentHead) (payload : List ℕ) → IsPacket packet hosts segment → IsChecked hosts segment → IsSegment segment head payload
+    → head.path.hosts ≡ hosts → Carries packet head payload
+carries packet hosts segment head payload is checked has same = record {
+  segment = segment;
+  is_packet = subst (λ (h : Hosts). IsPacket packet h segment) (sym same) is;
+  is_checked = subst (λ (h : Hosts). IsChecked h segment) (sym same) checked;
+  is_segment = has;
+}
+
+pub not_carried : (text : List ℕ) → ((head : SegmentHead) (payload : List ℕ) → Carries (drop 16 text) head payload → ⊥) → (packet : Packet) → IsRecord text packet → ⊥
+not_carried text none packet is = none packet.head packet.payload is.carries
 
 -- ---- lists of records
 

@@ -29,8 +29,8 @@ only_next rest behind packets all (q ∷ qs) packet starts same (front, further,
 
 pub read_next : (records rest behind : List ℕ) (packets : List Packet) (packet : Packet) → IsRead records rest packets → StartsWith rest packet behind → IsRead records behind (packets ++ packet ∷ [])
 read_next records rest behind packets packet was starts = record {
-  read = λ more are. subst (λ (ps : List Packet). AreRecords records ps) (sym (append_assoc packets (packet ∷ []) more)) (was.read (packet ∷ more) (starts.0, behind, starts.1.0, starts.1.1, are));
-  only = λ all are. let old = was.only all are in only_next rest behind packets all old.0 packet starts old.1.0 old.1.1;
+  read = λ more are. subst (λ (ps : List Packet). AreRecords records ps) (sym (append_assoc packets (packet ∷ []) more)) (was.read (packet ∷ more) (starts.0, behind, starts.1, starts.2, are));
+  only = λ all are. let old = was.only all are in only_next rest behind packets all old.0 packet starts old.1 old.2;
 }
 
 pub read_end : (records rest : List ℕ) (packets : List Packet) → IsRead records rest packets → rest ≡ [] → AreRecords records packets
@@ -41,7 +41,7 @@ all_read rest packets all [] none same e = sym (same ∙ append-nil packets)
 all_read rest packets all (q ∷ qs) none same (front, further, f, has, others) = absurd (nothing_starts rest q further none (front, f, has))
 
 pub only_end : (records rest : List ℕ) (packets : List Packet) → IsRead records rest packets → rest ≡ [] → (all : List Packet) → AreRecords records all → packets ≡ all
-only_end records rest packets was none all are = let old = was.only all are in all_read rest packets all old.0 none old.1.0 old.1.1
+only_end records rest packets was none all are = let old = was.only all are in all_read rest packets all old.0 none old.1 old.2
 
 none_left : (rest : List ℕ) (more : List Packet) → 0 < length rest → ((packet : Packet) (behind : List ℕ) → StartsWith rest packet behind → ⊥) → AreRecords rest more → ⊥
 none_left rest [] some none e = omega (arith, some, ap length e)
@@ -49,7 +49,7 @@ none_left rest (q ∷ qs) some none (front, further, f, has, others) = none q fu
 
 pub stuck : (records rest : List ℕ) (packets : List Packet) → IsRead records rest packets → 0 < length rest → ((packet : Packet) (behind : List ℕ) → StartsWith rest packet behind → ⊥)
     → (all : List Packet) → AreRecords records all → ⊥
-stuck records rest packets was some none all are = let old = was.only all are in none_left rest old.0 some none old.1.1
+stuck records rest packets was some none all are = let old = was.only all are in none_left rest old.0 some none old.2
 
 -- ---- sending
 

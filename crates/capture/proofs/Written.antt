@@ -1,5 +1,5 @@
 -- What is written has the format.
-use Rattle.std.proofs.Common.{◌≡◌, ℕ, ◌+◌, ◌*◌, ◌<◌, ◌≤◌, ◌^◌, List, [], ◌∷◌, ◌++◌, length, take, drop, slice_index, refl, sym, ap, subst, ◌∙◌, arith}
+use Rattle.std.proofs.Common.{◌≡◌, ℕ, ◌+◌, ◌*◌, ◌%◌, ◌<◌, ◌≤◌, ◌^◌, List, [], ◌∷◌, ◌++◌, length, take, drop, slice_index, refl, sym, ap, subst, ◌∙◌, arith}
 use Rattle.std.specs.Int.{w16, w32, to_be_bytes, to_le_bytes, from_be_bytes}
 use Rattle.std.proofs.Math.Seq.{take-append_seam, drop-append_seam, drop-append-add}
 use Rattle.std.proofs.lemmas.List.{length-append}
@@ -10,7 +10,7 @@ use Rattle.capture.specs.declared.packet.SegmentHead.{SegmentHead}
 use Rattle.capture.specs.declared.packet.Time.{Time}
 use Rattle.capture.specs.Checksum.{word_sum, pseudo_sum, IsAllOnes}
 use Rattle.capture.specs.Fields.{be16_at, be32_at, le32_at}
-use Rattle.capture.specs.Format.{IsSegment, IsChecked, IsV4, IsV6, IsPacket, IsRecord}
+use Rattle.capture.specs.Format.{IsSegment, IsChecked, IsV4, IsV6, IsPacket, Carries, IsRecord}
 use Rattle.capture.specs.Writing.{segment_head, v4_head, v6_head, record_head}
 
 -- ---- a segment
@@ -29,28 +29,33 @@ is_segment head checksum payload from to sequence acknowledged = record {
   content = refl;
 }
 
-twenty_words : (a b c d e f g h i j k l m n o p high low : ℕ) (payload : List ℕ)
-    → word_sum (a ∷ b ∷ c ∷ d ∷ e ∷ f ∷ g ∷ h ∷ i ∷ j ∷ k ∷ l ∷ m ∷ n ∷ o ∷ p ∷ high ∷ low ∷ 0 ∷ 0 ∷ payload)
-    ≡ word_sum (a ∷ b ∷ c ∷ d ∷ e ∷ f ∷ g ∷ h ∷ i ∷ j ∷ k ∷ l ∷ m ∷ n ∷ o ∷ p ∷ 0 ∷ 0 ∷ 0 ∷ 0 ∷ []) + (high * 256 + low) + word_sum payload
-twenty_words a b c d e f g h i j k l m n o p high low payload = omega arith
+even_append : (xs ys : List ℕ) → length xs % 2 ≡ 0 → word_sum (xs ++ ys) ≡ word_sum xs + word_sum ys
+even_append [] ys even = omega arith
+even_append (x ∷ []) ys even = absurd (omega (arith, even))
+even_append (x ∷ (y ∷ xs)) ys even = omega (arith, even_append xs ys (omega (arith, even)))
+
+-- a word among words that are zero
+word_among : (front payload : List ℕ) (high low : ℕ) → length front % 2 ≡ 0
+    → word_sum (front ++ (high ∷ (low ∷ (0 ∷ (0 ∷ payload))))) ≡ word_sum (front ++ (0 ∷ (0 ∷ (0 ∷ (0 ∷ []))))) + (high * 256 + low) + word_sum payload
+word_among front payload high low even =
+    omega (arith, even_append front (high ∷ (low ∷ (0 ∷ (0 ∷ payload)))) even, even_append front (0 ∷ (0 ∷ (0 ∷ (0 ∷ [])))) even)
 
 -- a word of two bytes
 word_of : (n : ℕ) → n < 2 ^ 16 → slice_index (to_be_bytes w16 n) 0 * 256 + slice_index (to_be_bytes w16 n) 1 ≡ n
 word_of n small = omega (arith, small)
 
+-- what comes before the checksum
+abbrev segment_front : SegmentHead → List ℕ
+segment_front head =
+    to_be_bytes w16 head.path.from_port ++ (to_be_bytes w16 head.path.to_port ++ (to_be_bytes w32 head.sequence
+    ++ (to_be_bytes w32 head.acknowledged ++ (0x50 ∷ head.flags.bits ∷ 0xff ∷ 0xff ∷ []))))
+
 segment_words : (head : SegmentHead) (checksum : ℕ) (payload : List ℕ) → checksum < 2 ^ 16
     → word_sum (segment_head head checksum ++ payload) ≡ word_sum (segment_head head 0) + checksum + word_sum payload
 unfolding segment_head
 segment_words head checksum payload small =
-    let from = to_be_bytes w16 head.path.from_port in
-    let to = to_be_bytes w16 head.path.to_port in
-    let sequence = to_be_bytes w32 head.sequence in
-    let acknowledged = to_be_bytes w32 head.acknowledged in
     let sum = to_be_bytes w16 checksum in
-    twenty_words (slice_index from 0) (slice_index from 1) (slice_index to 0) (slice_index to 1)
-      (slice_index sequence 0) (slice_index sequence 1) (slice_index sequence 2) (slice_index sequence 3)
-      (slice_index acknowledged 0) (slice_index acknowledged 1) (slice_index acknowledged 2) (slice_index acknowledged 3)
-      0x50 head.flags.bits 0xff 0xff (slice_index sum 0) (slice_index sum 1) payload
+    word_among (segment_front head) payload (slice_index sum 0) (slice_index sum 1) refl
     ∙ ap (λ (n : ℕ). word_sum (segment_head head 0) + n + word_sum payload) (word_of checksum small)
 
 head_length : (head : SegmentHead) (checksum : ℕ) (payload : List ℕ) → length (segment_head head checksum ++ payload) ≡ 20 + length payload
@@ -163,8 +168,5 @@ is_record time size packet_text segment head payload seconds micros small long i
       micros = from_le_bytes-to_le_bytes_4 time.micros micros;
       kept = ap (λ (n : ℕ). n + 16) number ∙ whole;
       whole = ap (λ (n : ℕ). n + 16) number ∙ whole;
-      segment = segment;
-      is_packet = is_packet;
-      is_checked = is_checked;
-      is_segment = is_segment;
+      carries = record { segment = segment; is_packet = is_packet; is_checked = is_checked; is_segment = is_segment };
     }

@@ -9,6 +9,10 @@ use Rattle.capture.specs.declared.packet.Packet.{Packet}
 use Rattle.capture.specs.declared.packet.Path.{Path}
 use Rattle.capture.specs.declared.packet.Time.{Time}
 
+abbrev pub other_side : Side → Side
+other_side Client = Server
+other_side Server = Client
+
 abbrev pub hosts_back : Hosts → Hosts
 hosts_back (V4 from to) = V4 to from
 hosts_back (V6 from to) = V6 to from

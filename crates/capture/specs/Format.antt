@@ -64,6 +64,13 @@ IsPacket packet (V6 from to) segment = IsV6 packet from to segment
 abbrev pub IsChecked : Hosts → List ℕ → Type 0
 IsChecked hosts segment = IsAllOnes (pseudo_sum hosts (length segment) + word_sum segment)
 
+-- the packet has this segment, whose checksum is right
+pub record Carries (packet : List ℕ) (head : SegmentHead) (payload : List ℕ) : Type 0 where
+  pub segment : List ℕ
+  pub is_packet : IsPacket packet head.path.hosts segment
+  pub is_checked : IsChecked head.path.hosts segment
+  pub is_segment : IsSegment segment head payload
+
 -- a record of a file: when a packet was seen, its length, the packet, which is whole
 pub record IsRecord (text : List ℕ) (packet : Packet) : Type 0 where
   pub size : 16 ≤ length text
@@ -71,10 +78,7 @@ pub record IsRecord (text : List ℕ) (packet : Packet) : Type 0 where
   pub micros : le32_at text 4 ≡ packet.time.micros
   pub kept : le32_at text 8 + 16 ≡ length text
   pub whole : le32_at text 12 + 16 ≡ length text
-  pub segment : List ℕ
-  pub is_packet : IsPacket (drop 16 text) packet.head.path.hosts segment
-  pub is_checked : IsChecked packet.head.path.hosts segment
-  pub is_segment : IsSegment segment packet.head packet.payload
+  pub carries : Carries (drop 16 text) packet.head packet.payload
 
 -- records of these packets follow one another
 abbrev pub AreRecords : List ℕ → List Packet → Type 0

@@ -2,13 +2,14 @@
 
 ghost use Rattle.std.specs.Prelude.{◌≡◌, ◌+◌, ◌%◌, ◌^◌, ◌<◌, ◌≤◌, ◌++◌, List, [], length, take, drop, Some, IsNone, IfOk, OnErr};
 ghost use Rattle.capture.specs.declared.packet.Packet.{Packet as PacketOf};
-ghost use Rattle.capture.specs.Conversations.{AreSent, advanced, back, closing, opened, opening, segment_of};
+ghost use Rattle.capture.specs.Conversations.{AreSent, advanced, back, closing, opened, opening, other_side, segment_of};
 ghost use Rattle.capture.specs.Format.{AreRecords, IsRecord};
 ghost use Rattle.capture.specs.declared.conversation.Side.TheVariants as sides;
 
 use crate::packet::{Packet, Path, SegmentFlags, SegmentHead, Time};
 use crate::writing::{MOST_PAYLOAD, record_of};
 use std::alloc::{AllocError, Global};
+use std::fmt;
 
 const FIN_ACK: u8 = 0x11;
 
@@ -25,6 +26,27 @@ const PSH_ACK: u8 = 0x18;
 pub enum Side {
     Client,
     Server,
+}
+
+impl Side {
+    /// The side that it sends to.
+    pub fn other(self) -> Side
+        ensures { result ≡ other_side self }
+    {
+        match self {
+            Side::Client => Side::Server,
+            Side::Server => Side::Client,
+        }
+    }
+}
+
+impl fmt::Display for Side {
+    fn fmt<W: fmt::Write>(&self, f: &mut fmt::Formatter<W>) -> fmt::Result {
+        match self {
+            Side::Client => write!(f, "client"),
+            Side::Server => write!(f, "server"),
+        }
+    }
 }
 
 /// A connection of TCP.
@@ -64,6 +86,7 @@ impl Conversation {
     }
 
     /// A side sends bytes: the records of segments with at most 65,000 of them each.
+    #[tactic(auto, using(crate::proofs::Steps::so_far_init, crate::proofs::Steps::so_far_next, crate::proofs::Steps::so_far_end))]
     pub fn send(
         &mut self,
         alloc: Global,
@@ -82,7 +105,7 @@ impl Conversation {
         while !rest.is_empty() {
             let (part, behind) = parted(rest);
             let first = now.segment(alloc, time, side, PSH_ACK, part)?;
-            text.extend_from_slice(&first)?;
+            text.extend_from_slice(first.as_slice())?;
             now = now.advanced(side, part.len());
             rest = behind;
         }

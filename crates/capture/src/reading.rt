@@ -6,7 +6,7 @@ ghost use Rattle.capture.specs.declared.reading.CaptureFault.TheVariants.{OutOfM
 ghost use Rattle.capture.specs.declared.packet.Packet.{Packet as PacketOf};
 ghost use Rattle.capture.specs.declared.packet.SegmentHead.{SegmentHead as SegmentHeadOf};
 ghost use Rattle.capture.specs.Reading.{HasItsSize, StartsWith};
-ghost use Rattle.capture.specs.Format.{AreRecords, IsCapture, IsRecord, IsPacket, IsV4, IsV6, IsSegment, IsFileHead};
+ghost use Rattle.capture.specs.Format.{AreRecords, Carries, IsCapture, IsRecord, IsPacket, IsV4, IsV6, IsSegment, IsFileHead};
 
 use crate::checksum::{is_all_ones, word_sum};
 use crate::fields::{be16_at, be32_at, le32_at, v4_address, v6_address};
@@ -84,6 +84,7 @@ fn is_file_head(head: &[u8]) -> bool
 }
 
 /// The packets of records.
+#[tactic(auto, using(crate::proofs::Steps::read_init, crate::proofs::Steps::read_next, crate::proofs::Steps::read_end, crate::proofs::Steps::only_end, crate::proofs::Steps::stuck))]
 fn packets_of(alloc: Global, records: &[u8]) -> Result<Vec<Packet>, CaptureFault>
     ensures ok { IfOk result (λ packets. AreRecords records.now packets.items) }
     ensures only { (packets : List PacketOf) → AreRecords records.now packets
@@ -93,11 +94,14 @@ fn packets_of(alloc: Global, records: &[u8]) -> Result<Vec<Packet>, CaptureFault
     let mut packets = Vec::new(alloc);
     let mut rest = records;
     while !rest.is_empty() {
-        let Some((packet, behind)) = first_packet(alloc, rest)? else {
-            return Err(CaptureFault::Record(records.len() - rest.len()));
-        };
-        packets.push(packet)?;
-        rest = behind;
+        match first_packet(alloc, rest) {
+            Err(_) => return Err(CaptureFault::OutOfMemory),
+            Ok(None) => return Err(CaptureFault::Record(records.len() - rest.len())),
+            Ok(Some((packet, behind))) => {
+                packets.push(packet)?;
+                rest = behind;
+            }
+        }
     }
     Ok(packets)
 }
@@ -148,35 +152,47 @@ fn parts_of(text: &[u8]) -> Option<(Time, SegmentHead, &[u8])>
         (record { time = parts.0; head = parts.1; payload = parts.2.now })) }
     ensures none { IfNone result ((packet : PacketOf) → IsRecord text.now packet → ⊥) }
 {
+    if le32_at(text, 12) != le32_at(text, 8) {
+        return None;
+    }
+    let Some((head, payload)) = carried(&text[RECORD_HEAD..]) else {
+        return None;
+    };
     let time = Time {
         seconds: le32_at(text, 0),
         micros: le32_at(text, 4),
     };
-    let packet = &text[RECORD_HEAD..];
-    if le32_at(text, 12) != le32_at(text, 8) {
+    Some((time, head, payload))
+}
+
+/// The head of the segment in a packet, and its payload.
+#[tactic(auto, using(crate::proofs::Records::carries, crate::proofs::Records::none_carried, crate::proofs::Records::wrong_sum, crate::proofs::Records::no_segment))]
+fn carried(packet: &[u8]) -> Option<(SegmentHead, &[u8])>
+    ensures some { IfSome result (λ parts. Carries packet.now parts.0 parts.1.now) }
+    ensures none { IfNone result ((head : SegmentHeadOf) (payload : List ℕ) →
+        Carries packet.now head payload → ⊥) }
+{
+    let Some((hosts, segment)) = packet_parts(packet) else {
         return None;
-    }
-    let (hosts, segment) = packet_parts(packet)?;
+    };
     let sum = pseudo_sum(&hosts, segment.len()) + word_sum(segment);
     if !is_all_ones(sum) {
         return None;
     }
-    let (head, payload) = segment_parts(hosts, segment)?;
-    Some((time, head, payload))
+    segment_parts(hosts, segment)
 }
 
 /// Between which hosts a packet is, and its segment.
+#[tactic(auto, using(crate::proofs::Records::no_packet))]
 fn packet_parts(packet: &[u8]) -> Option<(Hosts, &[u8])>
     ensures some { IfSome result (λ parts. IsPacket packet.now parts.0 parts.1.now) }
     ensures short { IfSome result (λ parts. length parts.1.now < 2 ^ 16) }
     ensures none { IfNone result ((hosts : HostsOf) (segment : List ℕ) →
         IsPacket packet.now hosts segment → ⊥) }
 {
-    let first = packet.first()?;
-    match first >> 4 {
-        4 => v4_parts(packet),
-        6 => v6_parts(packet),
-        _ => None,
+    match v4_parts(packet) {
+        Some(parts) => Some(parts),
+        None => v6_parts(packet),
     }
 }
 

@@ -1,6 +1,6 @@
 -- Bytes are cut in one way alone, and piece by piece as in one.
 use Rattle.std.proofs.Common.{◌≡◌, ℕ, ◌+◌, ◌<◌, ◌≤◌, List, [], ◌∷◌, ◌++◌, length, take, drop, refl, sym, ap, subst, ◌∙◌, append_assoc, arith}
-use Rattle.std.proofs.Math.Seq.{take-append-add}
+use Rattle.std.proofs.Math.Seq.{take-append-add, take-length}
 use Rattle.std.proofs.lemmas.List.{length-append, length-take-le, length-drop, take-append-drop}
 use Rattle.std.specs.Prelude.{Option}
 use Rattle.h2frame.specs.declared.fault.FrameFault.{FrameFault}
@@ -14,7 +14,7 @@ use Rattle.trace.specs.declared.item.Item.{Item}
 use Rattle.trace.specs.declared.item.Item.TheVariants.{Preface, Frame, Rest}
 use Rattle.trace.specs.declared.item.Stage.{Stage}
 use Rattle.trace.specs.declared.item.Stage.TheVariants.{BeforePreface, InFrames}
-use Rattle.trace.specs.Cuts.{Cut, IsUnfinished, Spells, Takes, preface}
+use Rattle.trace.specs.Cuts.{Cut, IsUnfinished, Spells, Takes, leftover, preface}
 
 -- fronts of one length of one list are one
 fronts_one : (xs ys rest more : List ℕ) → length xs ≡ length ys → xs ++ rest ≡ ys ++ more → (xs ≡ ys) × (rest ≡ more)
@@ -167,3 +167,13 @@ preface_first bytes e = sym (take-append-drop 24 bytes) ∙ ap (λ (front : List
 
 pub preface_taken : (bytes rest : List ℕ) → bytes ≡ preface ++ rest → (take 24 bytes ≡ preface) × (24 ≤ length bytes)
 preface_taken bytes rest e = (ap (λ (b : List ℕ). take 24 b) e, omega (arith, ap length e))
+
+-- ---- what is left over
+
+pub no_leftover : (bytes : List ℕ) → length bytes ≡ 0 → [] ≡ leftover bytes
+no_leftover [] none = refl
+no_leftover (byte ∷ bytes) none = absurd (omega (arith, none))
+
+pub a_leftover : (bytes rest : List ℕ) → 0 < length bytes → rest ≡ take (length bytes) bytes → Rest rest ∷ [] ≡ leftover bytes
+a_leftover [] rest some e = absurd (omega (arith, some))
+a_leftover (byte ∷ bytes) rest some e = ap (λ (r : List ℕ). Rest r ∷ []) (e ∙ take-length (byte ∷ bytes))

@@ -1,6 +1,6 @@
 -- How the bytes of one side of a connection are cut (RFC 9113, sections 3.4 and 4.1): a client's preface, and then frames, whatever
 -- faults these have.
-use Rattle.std.specs.Prelude.{◌≡◌, ℕ, List, [], ◌∷◌, ◌++◌, length}
+use Rattle.std.specs.Prelude.{◌≡◌, ℕ, List, [], ◌∷◌, ◌++◌, length, Option, Some, None}
 use Rattle.h2frame.specs.FrameList.{BeginsWith}
 use Rattle.trace.specs.declared.item.Item.{Item}
 use Rattle.trace.specs.declared.item.Item.TheVariants.{Preface, Frame, Rest}
@@ -38,3 +38,15 @@ IsUnfinished stage bytes = (text more : List ℕ) (item : Item) → bytes ≡ te
 pub record Pending : Type 0 where
   pub stage : Stage
   pub bytes : List ℕ
+
+-- what is shown of bytes that are no whole item, where there are any
+abbrev pub leftover : List ℕ → List Item
+leftover [] = []
+leftover (byte ∷ bytes) = Rest (byte ∷ bytes) ∷ []
+
+abbrev pub rest_of : Pending → List Item
+rest_of pending = leftover pending.bytes
+
+abbrev pub item_list : Option Item → List Item
+item_list None = []
+item_list (Some item) = item ∷ []

@@ -1,10 +1,9 @@
 -- What the lines of a trace are of.
 use Rattle.std.specs.Prelude.{List, [], ◌∷◌, ◌++◌, ℕ, map}
+use Rattle.capture.specs.declared.conversation.Side.{Side}
+use Rattle.capture.specs.declared.conversation.Side.TheVariants.{Client, Server}
 use Rattle.trace.specs.declared.item.Item.{Item}
-use Rattle.trace.specs.declared.item.Item.TheVariants.{Rest}
 use Rattle.trace.specs.declared.line.Line.{Line}
-use Rattle.trace.specs.declared.tracing.Side.{Side}
-use Rattle.trace.specs.declared.tracing.Side.TheVariants.{Client, Server}
 use Rattle.trace.specs.declared.tracing.Trace.{Trace}
 use Rattle.trace.specs.Cuts.{Cut, Pending}
 
@@ -21,11 +20,3 @@ pending_of trace Server = trace.server
 abbrev pub IsTold : Trace → Trace → Side → List ℕ → List Line → Type 0
 IsTold old new side bytes lines =
     Cut (pending_of old side).stage ((pending_of old side).bytes ++ bytes) (items_of lines) (pending_of new side).stage (pending_of new side).bytes
-
--- what is shown of it in the end
-abbrev pub rest_of : Pending → List Item
-rest_of pending = shown pending.bytes
-  where
-    shown : List ℕ → List Item
-    shown [] = []
-    shown (byte ∷ bytes) = Rest (byte ∷ bytes) ∷ []

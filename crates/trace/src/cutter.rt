@@ -3,7 +3,7 @@
 ghost use Rattle.std.specs.Prelude.{◌≡◌, ◌<◌, ◌≤◌, ◌^◌, ◌++◌, ℕ, List, [], false, length, drop, IfOk, IfNone, IfSome, IsTrue, OnOk};
 ghost use Rattle.h2frame.specs.FrameList.{BeginsWith};
 ghost use Rattle.trace.specs.declared.item.Stage.TheVariants as stages;
-ghost use Rattle.trace.specs.Cuts.{Cut, IsUnfinished, Takes, preface};
+ghost use Rattle.trace.specs.Cuts.{Cut, IsUnfinished, Takes, item_list, preface, rest_of};
 
 use crate::item::{Item, Stage};
 use bytes::{Bytes, BytesMut};
@@ -54,19 +54,18 @@ impl Cutter {
         items_of(&mut self.stage, &mut self.kept)
     }
 
-    /// The bytes that are kept, where there are any. None follow.
-    pub fn end(self) -> Result<Option<Bytes>, AllocError>
-        ensures none { IfOk result (λ end. IfNone end (self.bytes ≡ [])) }
-        ensures rest { IfOk result (λ end. IfSome end (λ rest. rest ≡ self.bytes)) }
+    /// What is left over, where there are bytes that are no whole item. None follow.
+    #[tactic(auto, using(crate::proofs::Cutting::no_leftover, crate::proofs::Cutting::a_leftover))]
+    pub fn end(self) -> Result<Option<Item>, AllocError>
+        ensures { IfOk result (λ end. item_list end ≡ rest_of self) }
     {
-        let Cutter { kept, .. } = self;
+        let Cutter { mut kept, .. } = self;
         if kept.is_empty() {
             return Ok(None);
         }
-        let mut kept = kept;
         let length = kept.len();
         let rest = kept.freeze_to(length)?;
-        Ok(Some(rest))
+        Ok(Some(Item::Rest(rest)))
     }
 }
 

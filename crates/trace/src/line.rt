@@ -1,15 +1,14 @@
 //! The line of a frame.
 
-use crate::blocks::Block;
+use crate::content::{PARAMETER_LEN, number_at};
 use crate::item::Item;
 use crate::messages::{Part, Prefix};
 use crate::names::{FlagNames, SettingName};
 use crate::spelling::Spelling;
 use crate::text::{Digits, Quoted, front_of};
-use crate::told::Told;
-use crate::tracing::{Side, number_at};
+use crate::told::{Block, Told};
 use crate::windows::Change;
-use bytes::Bytes;
+use capture::Side;
 use figures::{ErrorName, Grouped, KindName, byte_count};
 use h2frame::{FrameFault, FrameHead, FrameKind, SettingId};
 use lists::Field;
@@ -38,17 +37,6 @@ pub struct Line {
     pub told: Told,
 }
 
-impl Line {
-    pub(crate) fn rest(time: u64, side: Side, bytes: Bytes) -> Line {
-        Line {
-            time,
-            side,
-            item: Item::Rest(bytes),
-            told: Told::Nothing,
-        }
-    }
-}
-
 /// A line, as it is written.
 #[derive(Clone, Copy)]
 pub struct Shown<'a> {
@@ -58,41 +46,43 @@ pub struct Shown<'a> {
 
 impl fmt::Display for Shown<'_> {
     fn fmt<W: fmt::Write>(&self, f: &mut fmt::Formatter<W>) -> fmt::Result {
-        let Line {
-            time,
-            side,
-            item,
-            told,
-        } = self.line;
+        let Line { time, side, .. } = self.line;
         let (seconds, micros) = (*time / SECOND, *time % SECOND);
         write!(f, "{seconds}.{micros:06} {side}")?;
-        match item {
+        match &self.line.item {
             Item::Preface => write!(f, " preface, 24 bytes"),
             Item::Rest(bytes) => {
                 let (count, bytes) = (byte_count(bytes.len()), self.bytes(bytes.as_slice()));
                 write!(f, " {count}, no whole frame: {bytes}")
             }
-            Item::Frame(head, payload) => {
-                if head.stream != 0 {
-                    let stream = head.stream;
-                    write!(f, " stream {stream}")?;
-                }
-                let (kind, flags) = (KindName(head.kind), FlagNames(*head));
-                let count = byte_count(payload.len());
-                write!(f, " {kind}{flags}, {count}")?;
-                if let Told::Fault(fault) = told {
-                    let bytes = self.bytes(payload.as_slice());
-                    write_fault(f, *fault)?;
-                    return write!(f, ": {bytes}");
-                }
-                self.payload(f, head, payload.as_slice())?;
-                self.told(f, told)
-            }
+            Item::Frame(head, payload) => self.frame(f, head, payload.as_slice()),
         }
     }
 }
 
 impl Shown<'_> {
+    fn frame<W: fmt::Write>(
+        &self,
+        f: &mut fmt::Formatter<W>,
+        head: &FrameHead,
+        payload: &[u8],
+    ) -> fmt::Result {
+        if head.stream != 0 {
+            let stream = head.stream;
+            write!(f, " stream {stream}")?;
+        }
+        let (kind, flags) = (KindName(head.kind), FlagNames(*head));
+        let count = byte_count(payload.len());
+        write!(f, " {kind}{flags}, {count}")?;
+        if let Told::Fault(fault) = &self.line.told {
+            let bytes = self.bytes(payload);
+            write_fault(f, *fault)?;
+            return write!(f, ": {bytes}");
+        }
+        self.payload(f, head, payload)?;
+        self.told(f, &self.line.told)
+    }
+
     /// Bytes of the line, in hexadecimal digits.
     fn bytes<'b>(&self, bytes: &'b [u8]) -> Shortened<Digits<'b>> {
         let (front, is_whole) = self.front(bytes);
@@ -166,16 +156,7 @@ impl Shown<'_> {
             Told::Fault(fault) => write_fault(f, *fault),
             Told::Fragment => write!(f, ": the header block goes on"),
             Told::NoBlock => write!(f, ": it goes on with no header block"),
-            Told::Block(block, status) => {
-                self.block(f, block)?;
-                match status {
-                    Some((code, text)) => {
-                        let text = self.text(text.as_bytes());
-                        write!(f, "; the call ends with status {code} {text}")
-                    }
-                    None => Ok(()),
-                }
-            }
+            Told::Block(block) => self.block(f, block),
             Told::Data {
                 parts,
                 connection,
@@ -196,23 +177,47 @@ impl Shown<'_> {
     }
 
     fn block<W: fmt::Write>(&self, f: &mut fmt::Formatter<W>, block: &Block) -> fmt::Result {
-        let fields = match &block.fields {
-            Ok(fields) => fields,
+        match &block.fields {
+            Ok(fields) => {
+                self.fields(f, fields.as_slice(), block.spellings.as_slice())?;
+                self.status(f, &block.status)
+            }
             Err(fault) => {
                 let bytes = self.bytes(block.bytes.as_slice());
-                return write!(f, ": no header block, {fault}: {bytes}");
+                write!(f, ": no header block, {fault}: {bytes}")
             }
-        };
+        }
+    }
+
+    fn fields<W: fmt::Write>(
+        &self,
+        f: &mut fmt::Formatter<W>,
+        fields: &[Field],
+        spellings: &[Spelling],
+    ) -> fmt::Result {
         write!(f, ":")?;
         for (place, field) in fields.iter().enumerate() {
             let name = self.text(field.name.as_slice());
             let value = self.text(field.value.as_slice());
             write!(f, " {name}={value}")?;
             if self.form == Form::Full {
-                write_spelling(f, field, block.spellings.as_slice().get(place))?;
+                write_spelling(f, field, spellings.get(place))?;
             }
         }
         Ok(())
+    }
+
+    /// How the call ends.
+    fn status<W: fmt::Write>(
+        &self,
+        f: &mut fmt::Formatter<W>,
+        status: &Option<(u32, String)>,
+    ) -> fmt::Result {
+        let Some((code, text)) = status else {
+            return Ok(());
+        };
+        let text = self.text(text.as_bytes());
+        write!(f, "; the call ends with status {code} {text}")
     }
 }
 
@@ -253,7 +258,7 @@ fn write_spelling<W: fmt::Write>(
 }
 
 fn write_settings<W: fmt::Write>(f: &mut fmt::Formatter<W>, payload: &[u8]) -> fmt::Result {
-    for (place, parameter) in payload.chunks(6).enumerate() {
+    for (place, parameter) in payload.chunks(PARAMETER_LEN).enumerate() {
         let id = (number_at(parameter, 0) >> 16) as u16;
         let name = SettingName(SettingId::from_code(id));
         let value = Grouped(u64::from(number_at(parameter, 2)));

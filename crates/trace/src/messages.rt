@@ -1,5 +1,7 @@
 //! Where messages begin and end in the DATA of one side of a call (gRPC over HTTP/2, "Length-Prefixed-Message").
 
+ghost use Rattle.std.specs.Prelude.{◌≤◌, length};
+
 use std::alloc::{AllocError, Global};
 
 /// The bytes of a prefix: a flag, and the length in four.
@@ -31,7 +33,7 @@ pub struct Prefix {
 pub struct Messages {
     /// How many have begun.
     begun: u64,
-    /// The first bytes of a prefix, as many as came.
+    /// The first bytes of the next prefix, as many as came.
     prefix: [u8; PREFIX],
     prefixed: usize,
     /// What the prefix of the message in hand says, and how many of its bytes are to come.
@@ -51,39 +53,61 @@ impl Messages {
     pub fn take(&mut self, alloc: Global, content: &[u8]) -> Result<Vec<Part>, AllocError> {
         let mut parts = Vec::new(alloc);
         let mut rest = content;
-        for _ in 0..content.len() {
-            if rest.is_empty() {
-                break;
+        while let Some((first, behind)) = rest.split_first() {
+            let (part, left) = self.part(*first, behind);
+            if let Some(part) = part {
+                parts.push(part)?;
             }
-            let (count, part) = self.part(rest);
-            parts.push(part)?;
-            rest = rest.get(count..).unwrap_or(b"".as_slice());
+            rest = left;
+        }
+        if self.prefixed > 0 && !content.is_empty() {
+            parts.push(self.begun_part())?;
         }
         Ok(parts)
     }
 
-    /// How many bytes the stream lacks of a message, where it ends inside of one.
+    /// Whether a message has begun and not ended.
     pub fn is_inside(&self) -> bool {
         self.prefixed > 0 || self.current.is_some()
     }
 
-    /// What bytes have of the message in hand, or of the next one, and how many bytes that are with its prefix.
-    fn part(&mut self, bytes: &[u8]) -> (usize, Part) {
-        let before = self.prefixed_of(bytes);
-        let Some((prefix, left)) = self.current else {
-            return (before, self.begun_part());
+    /// What a byte and those after it have of the message in hand, or of the next one, and what is left of them. A byte of a prefix that
+    /// isn't whole has nothing.
+    fn part<'b>(&mut self, first: u8, behind: &'b [u8]) -> (Option<Part>, &'b [u8])
+        ensures { length result.1.now ≤ length behind.now }
+    {
+        if let Some((prefix, left)) = self.current {
+            let (part, rest) = self.more(prefix, 1, left.saturating_sub(1), behind);
+            return (Some(part), rest);
+        }
+        let Some(prefix) = self.prefix_by(first) else {
+            return (None, behind);
         };
-        let behind = bytes.get(before..).unwrap_or(b"".as_slice());
-        let count = behind.len().min(left as usize);
-        let still = left.saturating_sub(count as u32);
+        let (part, rest) = self.more(prefix, 0, prefix.length, behind);
+        (Some(part), rest)
+    }
+
+    /// What bytes have of the message with this prefix, of which so many are to come, beside those that were taken.
+    fn more<'b>(
+        &mut self,
+        prefix: Prefix,
+        taken: usize,
+        left: u32,
+        bytes: &'b [u8],
+    ) -> (Part, &'b [u8])
+        ensures { length result.1.now ≤ length bytes.now }
+    {
+        let count = bytes.len().min(left as usize);
+        let (_here, behind) = bytes.split_at(count);
+        let still = left - count as u32;
         self.current = (still > 0).then_some((prefix, still));
         let part = Part {
             number: self.begun,
             prefix: Some(prefix),
-            bytes: count,
+            bytes: taken.saturating_add(count),
             is_end: still == 0,
         };
-        (before.saturating_add(count), part)
+        (part, behind)
     }
 
     /// A message of whose prefix not all came.
@@ -96,29 +120,21 @@ impl Messages {
         }
     }
 
-    /// Takes what bytes have of a prefix, where one is due, and answers how many that are.
-    fn prefixed_of(&mut self, bytes: &[u8]) -> usize {
-        if self.current.is_some() {
-            return 0;
-        }
+    /// The next byte of a prefix comes: what the prefix says, where it is whole by it.
+    fn prefix_by(&mut self, byte: u8) -> Option<Prefix> {
         if self.prefixed == 0 {
             self.begun = self.begun.saturating_add(1);
         }
-        let mut count: usize = 0;
-        for byte in bytes {
-            if self.prefixed >= PREFIX {
-                break;
-            }
-            self.prefix[self.prefixed] = *byte;
+        if self.prefixed < PREFIX {
+            self.prefix[self.prefixed] = byte;
             self.prefixed += 1;
-            count = count.saturating_add(1);
         }
-        if self.prefixed == PREFIX {
-            self.prefixed = 0;
-            let [flag, a, b, c, d] = self.prefix;
-            let length = u32::from_be_bytes([a, b, c, d]);
-            self.current = Some((Prefix { flag, length }, length));
+        if self.prefixed < PREFIX {
+            return None;
         }
-        count
+        self.prefixed = 0;
+        let [flag, a, b, c, d] = self.prefix;
+        let length = u32::from_be_bytes([a, b, c, d]);
+        Some(Prefix { flag, length })
     }
 }

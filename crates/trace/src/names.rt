@@ -1,18 +1,8 @@
 //! The names of flags, settings and spellings.
 
 use crate::spelling::Spelling;
-use crate::tracing::Side;
 use h2frame::{Flags, FrameHead, FrameKind, SettingId};
 use std::fmt;
-
-impl fmt::Display for Side {
-    fn fmt<W: fmt::Write>(&self, f: &mut fmt::Formatter<W>) -> fmt::Result {
-        match self {
-            Side::Client => write!(f, "client"),
-            Side::Server => write!(f, "server"),
-        }
-    }
-}
 
 /// The flags of a frame, each behind a blank: those that its type has by their names, and what is left as a number.
 #[derive(Clone, Copy)]

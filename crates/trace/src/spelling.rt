@@ -1,6 +1,11 @@
 //! How the fields of a header block are spelled (RFC 7541, section 6).
 
+ghost use Rattle.std.specs.Prelude.{◌<◌, ◌≤◌, length, IfSome};
+
 use std::alloc::{AllocError, Global};
+
+/// How many bytes an index or a length has at most after its first bits.
+const MOST_BYTES: u32 = 5;
 
 /// How a field is spelled, by the entry of the tables that it names.
 #[derive(Clone, Copy, Debug, PartialEq, Eq)]
@@ -19,10 +24,7 @@ pub enum Spelling {
 pub fn spellings(alloc: Global, block: &[u8]) -> Result<Vec<Spelling>, AllocError> {
     let mut spellings = Vec::new(alloc);
     let mut rest = block;
-    for _ in 0..block.len() {
-        let Some((spelling, behind)) = first_spelling(rest) else {
-            break;
-        };
+    while let Some((spelling, behind)) = first_spelling(rest) {
         if let Some(spelling) = spelling {
             spellings.push(spelling)?;
         }
@@ -31,54 +33,56 @@ pub fn spellings(alloc: Global, block: &[u8]) -> Result<Vec<Spelling>, AllocErro
     Ok(spellings)
 }
 
-/// How the first field is spelled, and what is behind it; a change of the table's size is none.
-fn first_spelling(block: &[u8]) -> Option<(Option<Spelling>, &[u8])> {
+/// How the first field is spelled, and what is after it; a change of the table's size is none.
+fn first_spelling(block: &[u8]) -> Option<(Option<Spelling>, &[u8])>
+    ensures { IfSome result (λ found. length found.1.now < length block.now) }
+{
     let first = *block.first()?;
     if first >= 0x80 {
-        let (index, rest) = integer(7, block)?;
+        let (index, rest) = integer(0x7f, block)?;
         return Some((Some(Spelling::Indexed(index)), rest));
     }
     if first >= 0x40 {
-        let (index, rest) = integer(6, block)?;
-        return Some((Some(Spelling::Added(index)), behind_texts(index, rest)?));
+        let (index, rest) = integer(0x3f, block)?;
+        let behind = behind_texts(index, rest)?;
+        return Some((Some(Spelling::Added(index)), behind));
     }
     if first >= 0x20 {
-        let (_size, rest) = integer(5, block)?;
+        let (_size, rest) = integer(0x1f, block)?;
         return Some((None, rest));
     }
-    let (index, rest) = integer(4, block)?;
-    let spelling = if first >= 0x10 {
-        Spelling::Never(index)
-    } else {
-        Spelling::Plain(index)
-    };
-    Some((Some(spelling), behind_texts(index, rest)?))
+    let (index, rest) = integer(0x0f, block)?;
+    let behind = behind_texts(index, rest)?;
+    if first >= 0x10 {
+        return Some((Some(Spelling::Never(index)), behind));
+    }
+    Some((Some(Spelling::Plain(index)), behind))
 }
 
-/// What is behind the name, where it is spelled in full, and the value.
-fn behind_texts(index: u32, bytes: &[u8]) -> Option<&[u8]> {
-    let rest = if index == 0 {
-        behind_text(bytes)?
-    } else {
-        bytes
-    };
-    behind_text(rest)
+/// What is after the name, where it is spelled in full, and the value.
+fn behind_texts(index: u32, bytes: &[u8]) -> Option<&[u8]>
+    ensures { IfSome result (λ behind. length behind.now ≤ length bytes.now) }
+{
+    if index > 0 {
+        return behind_text(bytes);
+    }
+    let value = behind_text(bytes)?;
+    behind_text(value)
 }
 
-fn behind_text(bytes: &[u8]) -> Option<&[u8]> {
-    let (length, rest) = integer(7, bytes)?;
-    rest.get(length as usize..)
+fn behind_text(bytes: &[u8]) -> Option<&[u8]>
+    ensures { IfSome result (λ behind. length behind.now ≤ length bytes.now) }
+{
+    let (length, rest) = integer(0x7f, bytes)?;
+    let (_text, behind) = rest.split_at_checked(length as usize)?;
+    Some(behind)
 }
 
-/// An integer behind the first bits of a byte, and what is behind it (section 5.1).
-fn integer(prefix_bits: u32, bytes: &[u8]) -> Option<(u32, &[u8])> {
+/// An integer that begins in the last bits of a byte, which are all ones in `most`, and what is after it (section 5.1).
+fn integer(most: u8, bytes: &[u8]) -> Option<(u32, &[u8])>
+    ensures { IfSome result (λ read. length read.1.now < length bytes.now) }
+{
     let (first, rest) = bytes.split_first()?;
-    let most = match prefix_bits {
-        4 => 0x0f,
-        5 => 0x1f,
-        6 => 0x3f,
-        _ => 0x7f,
-    };
     let front = *first & most;
     if front < most {
         return Some((u32::from(front), rest));
@@ -86,13 +90,14 @@ fn integer(prefix_bits: u32, bytes: &[u8]) -> Option<(u32, &[u8])> {
     let mut number = u64::from(front);
     let mut worth: u64 = 1;
     let mut rest = rest;
-    for _ in 0..5 {
+    'places: for _ in 0..MOST_BYTES {
         let (byte, behind) = rest.split_first()?;
         number = number.saturating_add(u64::from(*byte & 0x7f).saturating_mul(worth));
         worth = worth.saturating_mul(128);
         rest = behind;
         if *byte < 0x80 {
-            return Some((u32::try_from(number).ok()?, rest));
+            let number = u32::try_from(number).ok()?;
+            return Some((number, rest));
         }
     }
     None

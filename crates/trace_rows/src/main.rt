@@ -1,29 +1,26 @@
 //! Traces and captures of connections, for tests.
 //!
-//! A line of standard input is what a side of a connection sends at a time: `MICROSECONDS client DIGITS`, or `server`. By its words the
-//! program prints something else of them:
+//! Standard input has what the sides of a connection sent, as `trace::sent_of` reads it. By its words the program prints something else
+//! of it:
 //!
 //! - `short`, `full`: the line of each frame.
 //! - `cut N`: the same as `short`, of the same bytes in pieces of N.
 //! - `capture`: a capture of them in hexadecimal digits, between port 40000 of one host and port 50051 of another; `capture6`: over
 //!   IPv6.
-//! - `read`: of a capture, which is standard input in hexadecimal digits, such lines.
+//!
+//! And of a file that standard input has in hexadecimal digits:
+//!
+//! - `file`: the line of each frame, as `short`.
+//! - `read`: lines `MICROSECONDS client DIGITS`, or `server`, of what each side sent at a time.
 #![tactic(auto)]
 
 use anyhow::{Context, Result, bail};
-use capture::{Conversation, Hosts, Packet, Path, Side as Sender, Time, file_head, read, side_of};
+use bytes::Bytes;
+use capture::{Conversation, Hosts, Path, Time, file_head};
 use std::alloc::Global;
 use std::env;
 use std::rt::Env;
-use trace::{Form, Shown, Side, Trace};
-
-/// What a side sends at a time.
-#[derive(Drop)]
-struct Piece {
-    time: u64,
-    side: Side,
-    bytes: Vec<u8>,
-}
+use trace::{Form, Sent, push_frames, sent_of};
 
 const V4: Hosts = Hosts::V4 {
     from: [127, 0, 0, 1],
@@ -37,56 +34,26 @@ const V6: Hosts = Hosts::V6 {
 
 const SECOND: u64 = 1_000_000;
 
-impl Piece {
-    fn read(alloc: Global, line: &str) -> Result<Piece> {
-        let mut words = line.split_whitespace();
-        let time = words.next().context("no time")?.parse::<u64>()?;
-        let side = match words.next() {
-            Some("client") => Side::Client,
-            Some("server") => Side::Server,
-            _ => bail!("no side"),
-        };
-        let digits = words.next().unwrap_or("");
-        Ok(Piece {
-            time,
-            side,
-            bytes: hex::decode(alloc, digits)?,
-        })
-    }
+fn print_frames(rt: &(impl Print + AllocGlobal), sent: &[Sent], form: Form) -> Result<()> {
+    let mut text = String::new(rt.alloc());
+    push_frames(&mut text, sent, form)?;
+    print!(rt; "{text}")?;
+    Ok(())
 }
 
-fn pieces_of(alloc: Global, text: &str) -> Result<Vec<Piece>> {
+/// The same bytes in pieces of at most so many.
+fn cut(alloc: Global, sent: &[Sent], most: usize) -> Result<Vec<Sent>> {
     let mut pieces = Vec::new(alloc);
-    for line in text.lines() {
-        pieces.push(Piece::read(alloc, line)?)?;
-    }
-    Ok(pieces)
-}
-
-/// Prints the line of each frame, of pieces of at most so many bytes.
-fn print_trace(rt: &(impl Print + AllocGlobal), pieces: &[Piece], most: usize, form: Form) -> Result<()> {
-    let mut trace = Trace::new(rt.alloc());
-    let mut last = 0;
-    for piece in pieces {
-        last = piece.time;
-        let mut rest = piece.bytes.as_slice();
-        for _ in 0..piece.bytes.len() {
-            if rest.is_empty() {
-                break;
-            }
-            let (front, behind) = rest.split_at_checked(most).unwrap_or((rest, b""));
-            rest = behind;
-            for line in &trace.sent(piece.time, piece.side, front)? {
-                let line = Shown { line, form };
-                println!(rt; "{line}")?;
-            }
+    for one in sent {
+        for bytes in one.bytes.as_slice().chunks(most) {
+            pieces.push(Sent {
+                time: one.time,
+                side: one.side,
+                bytes: Bytes::copy_from_slice(alloc, bytes)?,
+            })?;
         }
     }
-    for line in &trace.end(last)? {
-        let line = Shown { line, form };
-        println!(rt; "{line}")?;
-    }
-    Ok(())
+    Ok(pieces)
 }
 
 fn time_of(micros: u64) -> Result<Time> {
@@ -96,7 +63,7 @@ fn time_of(micros: u64) -> Result<Time> {
     })
 }
 
-fn print_capture(rt: &(impl Print + AllocGlobal), pieces: &[Piece], hosts: Hosts) -> Result<()> {
+fn print_capture(rt: &(impl Print + AllocGlobal), sent: &[Sent], hosts: Hosts) -> Result<()> {
     let alloc = rt.alloc();
     let path = Path {
         hosts,
@@ -110,13 +77,9 @@ fn print_capture(rt: &(impl Print + AllocGlobal), pieces: &[Piece], hosts: Hosts
     };
     let (mut talk, text) = Conversation::open(alloc, path, last)?;
     file.extend_from_slice(&text)?;
-    for piece in pieces {
+    for piece in sent {
         last = time_of(piece.time)?;
-        let side = match piece.side {
-            Side::Client => Sender::Client,
-            Side::Server => Sender::Server,
-        };
-        file.extend_from_slice(&talk.send(alloc, last, side, piece.bytes.as_slice())?)?;
+        file.extend_from_slice(&talk.send(alloc, last, piece.side, piece.bytes.as_slice())?)?;
     }
     file.extend_from_slice(&talk.close(alloc, last)?)?;
     let digits = hex::encode(alloc, file.as_slice())?;
@@ -124,19 +87,12 @@ fn print_capture(rt: &(impl Print + AllocGlobal), pieces: &[Piece], hosts: Hosts
     Ok(())
 }
 
-fn print_packet(rt: &(impl Print + AllocGlobal), path: &Path, packet: &Packet) -> Result<()> {
-    if packet.payload.is_empty() {
-        return Ok(());
+fn print_sent(rt: &(impl Print + AllocGlobal), sent: &[Sent]) -> Result<()> {
+    for piece in sent {
+        let (time, side) = (piece.time, piece.side);
+        let digits = hex::encode(rt.alloc(), piece.bytes.as_slice())?;
+        println!(rt; "{time} {side} {digits}")?;
     }
-    let Time { seconds, micros } = packet.time;
-    let time = u64::from(seconds) * SECOND + u64::from(micros);
-    let side = match side_of(path, packet) {
-        Some(Sender::Client) => "client",
-        Some(Sender::Server) => "server",
-        None => bail!("of another connection"),
-    };
-    let digits = hex::encode(rt.alloc(), packet.payload.as_slice())?;
-    println!(rt; "{time} {side} {digits}")?;
     Ok(())
 }
 
@@ -152,31 +108,31 @@ fn read_input(rt: &HostRuntime) -> Result<String> {
     Ok(text)
 }
 
+/// What a file has that standard input has in digits.
+fn decoded(alloc: Global, text: &str) -> Result<Vec<Sent>> {
+    let file = hex::decode(alloc, text.trim())?;
+    Ok(sent_of(alloc, file.as_slice())?)
+}
+
 fn main(rt: HostRuntime) -> Result<()> {
     let alloc = rt.alloc();
     let words: Vec<String> = env::args(&rt)?.skip(1).collect(alloc)?;
     let text = read_input(&rt)?;
     let word = words.first().map(String::as_str).unwrap_or("short");
-    if word == "read" {
-        let bytes = hex::decode(alloc, text.trim())?;
-        let packets = read(alloc, bytes.as_slice())?;
-        let Some(first) = packets.first() else {
-            return Ok(());
-        };
-        for packet in &packets {
-            print_packet(&rt, &first.head.path, packet)?;
-        }
-        return Ok(());
-    }
-    let pieces = pieces_of(alloc, text.as_str())?;
     match word {
-        "short" => print_trace(&rt, &pieces, usize::MAX, Form::Short),
-        "full" => print_trace(&rt, &pieces, usize::MAX, Form::Full),
-        "capture" => print_capture(&rt, &pieces, V4),
-        "capture6" => print_capture(&rt, &pieces, V6),
+        "file" => return print_frames(&rt, &decoded(alloc, text.as_str())?, Form::Short),
+        "read" => return print_sent(&rt, &decoded(alloc, text.as_str())?),
+        _ => {}
+    }
+    let sent = sent_of(alloc, text.as_bytes())?;
+    match word {
+        "short" => print_frames(&rt, &sent, Form::Short),
+        "full" => print_frames(&rt, &sent, Form::Full),
+        "capture" => print_capture(&rt, &sent, V4),
+        "capture6" => print_capture(&rt, &sent, V6),
         "cut" => {
             let most = words.get(1).context("no number")?.parse::<usize>()?;
-            print_trace(&rt, &pieces, most.max(1), Form::Short)
+            print_frames(&rt, &cut(alloc, &sent, most.max(1))?, Form::Short)
         }
         _ => bail!("no such word"),
     }

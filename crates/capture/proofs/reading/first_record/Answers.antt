@@ -9,7 +9,7 @@ use Rattle.capture.proofs.reading.first_record.Goals as goal
 pub returns-then-bytes-size-clause-none : goal.returns-then-bytes-size-clause-none
 returns-then-bytes-size-clause-none c = λ first rest parts has.
     let sizes = size_of_first c.args.bytes.now first rest parts has in
-    omega (arith, sizes.1.1, c.le32_at.ensures)
+    omega (arith, sizes.2, c.le32_at.ensures)
 
 -- as many bytes as the head says
 pub returns-clause-some : goal.returns-clause-some
