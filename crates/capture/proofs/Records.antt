@@ -10,7 +10,7 @@ use Rattle.capture.specs.declared.packet.SegmentHead.{SegmentHead}
 use Rattle.capture.specs.declared.packet.Time.{Time}
 use Rattle.capture.specs.Fields.{le32_at}
 use Rattle.capture.specs.Format.{IsPacket, IsV4, IsV6, IsChecked, IsSegment, Carries, IsRecord, IsFileHead, IsCapture, AreRecords}
-use Rattle.capture.specs.Reading.{HasItsSize, StartsWith}
+use Rattle.capture.specs.Reading.{HasItsSize, StartsNone, StartsWith}
 
 -- ---- how long a record is
 
@@ -153,6 +153,14 @@ pub starts_one : (bytes : List ℕ) (packet other : Packet) (rest more : List �
 starts_one bytes packet other rest more (first, e, is) (front, f, has) =
     let same = one_first bytes first rest front more e f (sized first packet is) (sized front other has) in
     (one_record front packet other (subst (λ (t : List ℕ). IsRecord t packet) same.0 is) has, same.1)
+
+pub no_first : (bytes : List ℕ) → ((first rest : List ℕ) → bytes ≡ first ++ rest → HasItsSize first → ⊥) → StartsNone bytes
+no_first bytes none = λ packet rest starts. none starts.0 rest starts.1 (sized starts.0 packet starts.2)
+
+pub no_parts : (bytes text behind : List ℕ) → bytes ≡ text ++ behind → HasItsSize text → ((packet : Packet) → IsRecord text packet → ⊥) → StartsNone bytes
+no_parts bytes text behind e size none = λ packet rest starts.
+    let same = one_first bytes starts.0 rest text behind starts.1 e (sized starts.0 packet starts.2) size in
+    none packet (subst (λ (t : List ℕ). IsRecord t packet) same.0 starts.2)
 
 pub nothing_starts : (bytes : List ℕ) (packet : Packet) (rest : List ℕ) → bytes ≡ [] → StartsWith bytes packet rest → ⊥
 nothing_starts bytes packet rest none (first, e, is) =

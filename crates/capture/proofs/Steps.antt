@@ -1,5 +1,5 @@
 -- What loops over records and over bytes that are sent keep.
-use Rattle.std.proofs.Common.{◌≡◌, ℕ, ◌<◌, List, [], ◌∷◌, ◌++◌, length, take, drop, refl, sym, ap, subst, ◌∙◌, append_assoc, arith}
+use Rattle.std.proofs.Common.{◌≡◌, ℕ, ◌<◌, ◌⊎◌, inl, inr, List, [], ◌∷◌, ◌++◌, length, take, drop, refl, sym, ap, subst, ◌∙◌, append_assoc, arith}
 use Rattle.std.proofs.lemmas.List.{append-nil}
 use Rattle.capture.specs.declared.conversation.Conversation.{Conversation}
 use Rattle.capture.specs.declared.conversation.Side.{Side}
@@ -7,7 +7,9 @@ use Rattle.capture.specs.declared.packet.Packet.{Packet}
 use Rattle.capture.specs.declared.packet.Time.{Time}
 use Rattle.capture.specs.Conversations.{AreSent, advanced, psh_ack, segment_of}
 use Rattle.capture.specs.Format.{IsRecord, AreRecords}
-use Rattle.capture.specs.Reading.{StartsWith}
+use Rattle.capture.specs.declared.reading.CaptureFault.{CaptureFault}
+use Rattle.capture.specs.declared.reading.CaptureFault.TheVariants.{OutOfMemory}
+use Rattle.capture.specs.Reading.{StartsNone, StartsWith}
 use Rattle.capture.proofs.Records.{joined_append, nothing_starts, starts_one}
 
 -- ---- reading
@@ -33,15 +35,21 @@ read_next records rest behind packets packet was starts = record {
   only = λ all are. let old = was.only all are in only_next rest behind packets all old.0 packet starts old.1 old.2;
 }
 
-pub read_end : (records rest : List ℕ) (packets : List Packet) → IsRead records rest packets → rest ≡ [] → AreRecords records packets
-read_end records rest packets was none = subst (λ (ps : List Packet). AreRecords records ps) (append-nil packets) (was.read [] none)
+nothing : (xs : List ℕ) → length xs ≡ 0 → xs ≡ []
+nothing [] e = refl
+nothing (x ∷ xs) e = absurd (omega (arith, e))
+
+pub read_end : (records rest : List ℕ) (packets : List Packet) → IsRead records rest packets → length rest ≡ 0 → AreRecords records packets
+read_end records rest packets was empty =
+    let none = nothing rest empty in
+    subst (λ (ps : List Packet). AreRecords records ps) (append-nil packets) (was.read [] none)
 
 all_read : (rest : List ℕ) (packets all more : List Packet) → rest ≡ [] → all ≡ packets ++ more → AreRecords rest more → packets ≡ all
 all_read rest packets all [] none same e = sym (same ∙ append-nil packets)
 all_read rest packets all (q ∷ qs) none same (front, further, f, has, others) = absurd (nothing_starts rest q further none (front, f, has))
 
-pub only_end : (records rest : List ℕ) (packets : List Packet) → IsRead records rest packets → rest ≡ [] → (all : List Packet) → AreRecords records all → packets ≡ all
-only_end records rest packets was none all are = let old = was.only all are in all_read rest packets all old.0 none old.1 old.2
+pub only_end : (records rest : List ℕ) (packets : List Packet) → IsRead records rest packets → length rest ≡ 0 → (all : List Packet) → AreRecords records all → packets ≡ all
+only_end records rest packets was empty all are = let old = was.only all are in all_read rest packets all old.0 (nothing rest empty) old.1 old.2
 
 none_left : (rest : List ℕ) (more : List Packet) → 0 < length rest → ((packet : Packet) (behind : List ℕ) → StartsWith rest packet behind → ⊥) → AreRecords rest more → ⊥
 none_left rest [] some none e = omega (arith, some, ap length e)
@@ -50,6 +58,11 @@ none_left rest (q ∷ qs) some none (front, further, f, has, others) = none q fu
 pub stuck : (records rest : List ℕ) (packets : List Packet) → IsRead records rest packets → 0 < length rest → ((packet : Packet) (behind : List ℕ) → StartsWith rest packet behind → ⊥)
     → (all : List Packet) → AreRecords records all → ⊥
 stuck records rest packets was some none all are = let old = was.only all are in none_left rest old.0 some none old.2
+
+pub only_stuck : (records rest : List ℕ) (packets : List Packet) (fault : CaptureFault) → IsRead records rest packets → 0 < length rest → (fault ≡ OutOfMemory) ⊎ StartsNone rest
+    → (all : List Packet) → AreRecords records all → fault ≡ OutOfMemory
+only_stuck records rest packets fault was some (inl e) all are = e
+only_stuck records rest packets fault was some (inr none) all are = absurd (stuck records rest packets was some none all are)
 
 -- ---- sending
 
@@ -72,10 +85,10 @@ so_far_next from now time side bytes rest text first (packets, are, goes) some i
       λ more last sent. subst (λ (ps : List Packet). AreSent from time side bytes ps last) (sym (append_assoc packets (packet ∷ []) more)) (goes (packet ∷ more) last (some, refl, sent)),
     )
 
-pub so_far_end : (from now : Conversation) (time : Time) (side : Side) (bytes rest text : List ℕ) → IsSoFar from now time side bytes rest text → rest ≡ []
+pub so_far_end : (from now : Conversation) (time : Time) (side : Side) (bytes rest text : List ℕ) → IsSoFar from now time side bytes rest text → length rest ≡ 0
     → (packets : List Packet) × AreRecords text packets × AreSent from time side bytes packets now
 so_far_end from now time side bytes rest text (packets, are, goes) none =
-    (packets, are, subst (λ (ps : List Packet). AreSent from time side bytes ps now) (append-nil packets) (goes [] now (none, refl)))
+    (packets, are, subst (λ (ps : List Packet). AreSent from time side bytes ps now) (append-nil packets) (goes [] now (nothing rest none, refl)))
 
 -- three records after one another
 pub three_records : (a b c : List ℕ) (p q r : Packet) → IsRecord a p → IsRecord b q → IsRecord c r → AreRecords ((a ++ b) ++ c) (p ∷ q ∷ r ∷ [])

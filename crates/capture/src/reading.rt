@@ -1,11 +1,11 @@
 //! Reading a capture.
 
-ghost use Rattle.std.specs.Prelude.{◌≡◌, ◌↔◌, ◌<◌, ◌^◌, ◌++◌, ℕ, List, length, IfOk, IfSome, IfNone, IsTrue, MatchResult};
+ghost use Rattle.std.specs.Prelude.{◌≡◌, ◌↔◌, ◌<◌, ◌^◌, ◌++◌, ◌⊎◌, ℕ, List, length, IfOk, IfErr, IfSome, IfNone, IsTrue, MatchResult};
 ghost use Rattle.capture.specs.declared.packet.Hosts.{Hosts as HostsOf};
 ghost use Rattle.capture.specs.declared.reading.CaptureFault.TheVariants.{OutOfMemory};
 ghost use Rattle.capture.specs.declared.packet.Packet.{Packet as PacketOf};
 ghost use Rattle.capture.specs.declared.packet.SegmentHead.{SegmentHead as SegmentHeadOf};
-ghost use Rattle.capture.specs.Reading.{HasItsSize, StartsWith};
+ghost use Rattle.capture.specs.Reading.{HasItsSize, StartsNone, StartsWith};
 ghost use Rattle.capture.specs.Format.{AreRecords, Carries, IsCapture, IsRecord, IsPacket, IsV4, IsV6, IsSegment, IsFileHead};
 
 use crate::checksum::{is_all_ones, word_sum};
@@ -84,7 +84,6 @@ fn is_file_head(head: &[u8]) -> bool
 }
 
 /// The packets of records.
-#[tactic(auto, using(crate::proofs::Steps::read_init, crate::proofs::Steps::read_next, crate::proofs::Steps::read_end, crate::proofs::Steps::only_end, crate::proofs::Steps::stuck))]
 fn packets_of(alloc: Global, records: &[u8]) -> Result<Vec<Packet>, CaptureFault>
     ensures ok { IfOk result (λ packets. AreRecords records.now packets.items) }
     ensures only { (packets : List PacketOf) → AreRecords records.now packets
@@ -94,10 +93,10 @@ fn packets_of(alloc: Global, records: &[u8]) -> Result<Vec<Packet>, CaptureFault
     let mut packets = Vec::new(alloc);
     let mut rest = records;
     while !rest.is_empty() {
-        match first_packet(alloc, rest) {
-            Err(_) => return Err(CaptureFault::OutOfMemory),
-            Ok(None) => return Err(CaptureFault::Record(records.len() - rest.len())),
-            Ok(Some((packet, behind))) => {
+        let at = records.len().saturating_sub(rest.len());
+        match first_packet(alloc, at, rest) {
+            Err(fault) => return Err(fault),
+            Ok((packet, behind)) => {
                 packets.push(packet)?;
                 rest = behind;
             }
@@ -106,26 +105,30 @@ fn packets_of(alloc: Global, records: &[u8]) -> Result<Vec<Packet>, CaptureFault
     Ok(packets)
 }
 
-/// The packet of the first record, and what is behind that.
-fn first_packet(alloc: Global, bytes: &[u8]) -> Result<Option<(Packet, &[u8])>, AllocError>
-    ensures some { IfOk result (λ found. IfSome found
-        (λ taken. StartsWith bytes.now taken.0 taken.1.now)) }
-    ensures none { IfOk result (λ found. IfNone found
-        ((packet : PacketOf) (rest : List ℕ) → StartsWith bytes.now packet rest → ⊥)) }
+/// The packet of the first record, at this byte, and what is behind that.
+fn first_packet(
+    alloc: Global,
+    at: usize,
+    bytes: &[u8],
+) -> Result<(Packet, &[u8]), CaptureFault>
+    ensures ok { IfOk result (λ taken. StartsWith bytes.now taken.0 taken.1.now) }
+    ensures err { IfErr result (λ fault. (fault ≡ OutOfMemory) ⊎ StartsNone bytes.now) }
 {
-    let Some((text, behind)) = first_record(bytes) else {
-        return Ok(None);
-    };
-    let Some((time, head, payload)) = parts_of(text) else {
-        return Ok(None);
-    };
-    let payload = Bytes::copy_from_slice(alloc, payload)?;
-    let packet = Packet {
-        time,
-        head,
-        payload,
-    };
-    Ok(Some((packet, behind)))
+    match first_record(bytes) {
+        None => Err(CaptureFault::Record(at)),
+        Some((text, behind)) => match parts_of(text) {
+            None => Err(CaptureFault::Record(at)),
+            Some((time, head, payload)) => {
+                let payload = Bytes::copy_from_slice(alloc, payload)?;
+                let packet = Packet {
+                    time,
+                    head,
+                    payload,
+                };
+                Ok((packet, behind))
+            }
+        },
+    }
 }
 
 /// As many bytes as the first record has, and what is behind it.
@@ -155,31 +158,48 @@ fn parts_of(text: &[u8]) -> Option<(Time, SegmentHead, &[u8])>
     if le32_at(text, 12) != le32_at(text, 8) {
         return None;
     }
-    let Some((head, payload)) = carried(&text[RECORD_HEAD..]) else {
-        return None;
-    };
     let time = Time {
         seconds: le32_at(text, 0),
         micros: le32_at(text, 4),
     };
-    Some((time, head, payload))
+    match carried(&text[RECORD_HEAD..]) {
+        None => None,
+        Some((head, payload)) => Some((time, head, payload)),
+    }
 }
 
 /// The head of the segment in a packet, and its payload.
-#[tactic(auto, using(crate::proofs::Records::carries, crate::proofs::Records::none_carried, crate::proofs::Records::wrong_sum, crate::proofs::Records::no_segment))]
 fn carried(packet: &[u8]) -> Option<(SegmentHead, &[u8])>
     ensures some { IfSome result (λ parts. Carries packet.now parts.0 parts.1.now) }
     ensures none { IfNone result ((head : SegmentHeadOf) (payload : List ℕ) →
         Carries packet.now head payload → ⊥) }
 {
-    let Some((hosts, segment)) = packet_parts(packet) else {
-        return None;
-    };
+    match packet_parts(packet) {
+        None => None,
+        Some((hosts, segment)) => checked_parts(packet, hosts, segment),
+    }
+}
+
+/// The head of this segment of a packet between these hosts, and its payload, where the checksum is right.
+fn checked_parts<'s>(
+    packet: &[u8],
+    hosts: Hosts,
+    segment: &'s [u8],
+) -> Option<(SegmentHead, &'s [u8])>
+    requires is { IsPacket packet.now hosts segment.now }
+    requires short { length segment.now < 2 ^ 16 }
+    ensures some { IfSome result (λ parts. Carries packet.now parts.0 parts.1.now) }
+    ensures none { IfNone result ((head : SegmentHeadOf) (payload : List ℕ) →
+        Carries packet.now head payload → ⊥) }
+{
     let sum = pseudo_sum(&hosts, segment.len()) + word_sum(segment);
     if !is_all_ones(sum) {
         return None;
     }
-    segment_parts(hosts, segment)
+    match segment_parts(hosts, segment) {
+        None => None,
+        Some((head, payload)) => Some((head, payload)),
+    }
 }
 
 /// Between which hosts a packet is, and its segment.
