@@ -165,11 +165,20 @@ def by_tshark(name, capture, client, server):
     return len(found["client"]) + len(found["server"])
 
 
+def as_files(program, name, side, data):
+    """A file of one side's bytes, and one of their digits, are shown as a line with them is."""
+    wanted, digits = run(program, ["short"], f"{side} {data.hex()}\n"), data.hex()
+    want(run(program, ["file"], digits) == wanted, f"{name} {side}: other lines of its bytes")
+    folded = "".join(f"{digits[at : at + 64]}\n" for at in range(0, len(digits), 64))
+    want(run(program, ["short"], folded) == wanted, f"{name} {side}: other lines of its digits")
+
+
 def captured(program, name, text, client, server, by_others):
-    """A capture is read back, and tshark finds the frames in it, which are counted."""
-    total = 0
+    """A capture is read back and shown, and tshark finds the frames in it, which are counted."""
+    total, lines = 0, run(program, ["short"], text)
     for word in ("capture", "capture6"):
         digits = run(program, [word], text)
+        want(run(program, ["file"], digits) == lines, f"{name}: other lines of {word}")
         want(run(program, ["read"], digits) == "".join(part + "\n" for line in text.splitlines() for part in split(line)), f"{name}: {word} isn't read back")
         if by_others and shutil.which("tshark"):
             total += by_tshark(f"{name} {word}", bytes.fromhex(digits), client, server)
@@ -187,6 +196,8 @@ def main(program, names):
         client_frames = frames_of(client[len(PREFACE) :])
         server = answers(client_frames)
         server_frames = frames_of(server)
+        as_files(program, name, "client", client)
+        as_files(program, name, "server", server)
         texts = set()
         for seed in (1, 2):
             text = pieces_of(client, server, seed)

@@ -62,7 +62,6 @@ pub struct Conversation {
 
 impl Conversation {
     /// The client opens it: three records of segments without bytes.
-    #[tactic(auto, using(crate::proofs::Steps::three_records))]
     pub fn open(
         alloc: Global,
         path: Path,
@@ -81,12 +80,11 @@ impl Conversation {
         let first = start.segment(alloc, time, Side::Client, SYN, b"")?;
         let second = asked.segment(alloc, time, Side::Server, SYN_ACK, b"")?;
         let third = opened.segment(alloc, time, Side::Client, ACK, b"")?;
-        let text = three(first, &second, &third)?;
+        let text = three(first, second, third)?;
         Ok((opened, text))
     }
 
     /// A side sends bytes: the records of segments with at most 65,000 of them each.
-    #[tactic(auto, using(crate::proofs::Steps::so_far_init, crate::proofs::Steps::so_far_next, crate::proofs::Steps::so_far_end))]
     pub fn send(
         &mut self,
         alloc: Global,
@@ -114,7 +112,6 @@ impl Conversation {
     }
 
     /// The client closes it, and then the server: three records of segments without bytes.
-    #[tactic(auto, using(crate::proofs::Steps::three_records))]
     pub fn close(self, alloc: Global, time: Time) -> Result<Vec<u8>, AllocError>
         ensures { IfOk result (λ text. AreRecords text.items (closing self time)) }
     {
@@ -123,7 +120,7 @@ impl Conversation {
         let first = self.segment(alloc, time, Side::Client, FIN_ACK, b"")?;
         let second = asked.segment(alloc, time, Side::Server, FIN_ACK, b"")?;
         let third = closed.segment(alloc, time, Side::Client, ACK, b"")?;
-        let text = three(first, &second, &third)?;
+        let text = three(first, second, third)?;
         Ok(text)
     }
 
@@ -189,12 +186,12 @@ pub fn side_of(path: &Path, packet: &Packet) -> Option<Side>
 }
 
 /// Three texts after one another.
-fn three(first: Vec<u8>, second: &[u8], third: &[u8]) -> Result<Vec<u8>, AllocError>
-    ensures { IfOk result (λ text. text.items ≡ (first.items ++ second.now) ++ third.now) }
+fn three(first: Vec<u8>, second: Vec<u8>, third: Vec<u8>) -> Result<Vec<u8>, AllocError>
+    ensures { IfOk result (λ text. text.items ≡ (first.items ++ second.items) ++ third.items) }
 {
     let mut text = first;
-    text.extend_from_slice(second)?;
-    text.extend_from_slice(third)?;
+    text.extend_from_slice(second.as_slice())?;
+    text.extend_from_slice(third.as_slice())?;
     Ok(text)
 }
 

@@ -2,6 +2,7 @@
 
 ghost use Rattle.std.specs.Prelude.{◌≡◌, ◌<◌, ◌≤◌, ◌^◌, ◌++◌, ℕ, List, [], false, length, drop, IfOk, IfNone, IfSome, IsTrue, OnOk};
 ghost use Rattle.h2frame.specs.FrameList.{BeginsWith};
+ghost use Rattle.h2frame.specs.Reading.{head_at};
 ghost use Rattle.trace.specs.declared.item.Stage.TheVariants as stages;
 ghost use Rattle.trace.specs.Cuts.{Cut, IsUnfinished, Takes, item_list, preface, rest_of};
 
@@ -14,7 +15,9 @@ use std::marker::Model;
 /// The bytes of a frame's head.
 const HEAD_LEN: usize = 9;
 
-/// What a client's bytes begin with.
+/// The bytes of the preface, and what they are.
+const PREFACE_LEN: usize = 24;
+
 const PREFACE: &[u8] = b"PRI * HTTP/2.0\r\n\r\nSM\r\n\r\n";
 
 /// Cuts the bytes of one side. A clause sees what comes next, and the bytes that came and are no whole item.
@@ -107,7 +110,7 @@ fn first_preface(kept: &mut BytesMut) -> Option<Item>
     if !begins_with_preface(kept.as_slice()) {
         return None;
     }
-    kept.advance(PREFACE.len());
+    kept.advance(PREFACE_LEN);
     Some(Item::Preface)
 }
 
@@ -117,10 +120,10 @@ fn begins_with_preface(bytes: &[u8]) -> bool
     ensures no { result ≡ false → (rest : List ℕ) → bytes.now ≡ preface ++ rest → ⊥ }
     ensures long { IsTrue result → 24 ≤ length bytes.now }
 {
-    if bytes.len() < PREFACE.len() {
+    if bytes.len() < PREFACE_LEN {
         return false;
     }
-    &bytes[..PREFACE.len()] == PREFACE
+    &bytes[..PREFACE_LEN] == PREFACE
 }
 
 #[tactic(auto, using(crate::proofs::Cutting::first_frame, crate::proofs::Cutting::short_is_unfinished, crate::proofs::Cutting::begun_is_unfinished))]
@@ -144,20 +147,26 @@ fn first_frame(kept: &mut BytesMut) -> Result<Option<Item>, AllocError>
 }
 
 /// The head that the first nine bytes spell, where they are there.
-#[tactic(auto, using(h2frame::proofs::Heads::begins), unfolding(h2frame::specs::Reading::head_at))]
 fn head_of(bytes: &[u8]) -> Option<FrameHead>
     ensures some { IfSome result (λ head. BeginsWith bytes.now head (drop 9 bytes.now)) }
-    ensures long { IfSome result (λ head. 9 ≤ length bytes.now) }
-    ensures small { IfSome result (λ head. head.length < 2 ^ 24) }
     ensures none { IfNone result (length bytes.now < 9) }
 {
     if bytes.len() < HEAD_LEN {
         return None;
     }
-    Some(FrameHead {
+    Some(head_at(bytes))
+}
+
+#[tactic(auto, unfolding(h2frame::specs::Reading::head_at))]
+fn head_at(bytes: &[u8]) -> FrameHead
+    requires { 9 ≤ length bytes.now }
+    ensures { result ≡ head_at bytes.now }
+{
+    let stream = u32::from_be_bytes([bytes[5], bytes[6], bytes[7], bytes[8]]);
+    FrameHead {
         kind: FrameKind::from_code(bytes[3]),
         flags: Flags { bits: bytes[4] },
-        stream: u32::from_be_bytes([bytes[5], bytes[6], bytes[7], bytes[8]]) & 0x7fff_ffff,
+        stream: stream & 0x7fff_ffff,
         length: u32::from_be_bytes([0, bytes[0], bytes[1], bytes[2]]),
-    })
+    }
 }

@@ -3,8 +3,9 @@
 ghost use Rattle.std.specs.Prelude.{◌≡◌};
 ghost use Rattle.trace.specs.declared.input.InputFault.TheVariants.{OutOfMemory};
 
+use crate::sides::Sides;
 use bytes::Bytes;
-use capture::{CaptureFault, Packet, Path, Side, Time, read, side_of};
+use capture::{CaptureFault, Packet, Side, Time, read, side_of};
 use hex::FromHexError;
 use std::alloc::{AllocError, AllocFailed, Global};
 use std::str;
@@ -13,13 +14,14 @@ use thiserror::Error;
 /// What a client's bytes begin with (RFC 9113, section 3.4).
 const PREFACE: &[u8] = b"PRI * HTTP/2.0\r\n\r\nSM\r\n\r\n";
 
-/// What files of packets begin with: those that `capture` reads, of the other order of bytes, in nanoseconds, and pcapng's.
-const MAGICS: [&[u8]; 4] = [
-    b"\xd4\xc3\xb2\xa1",
-    b"\xa1\xb2\xc3\xd4",
-    b"\x4d\x3c\xb2\xa1",
-    b"\x0a\x0d\x0d\x0a",
-];
+/// What a file of packets begins with: one that `capture` reads, of the other order of bytes, in nanoseconds, and pcapng's.
+const PCAP: &[u8] = b"\xd4\xc3\xb2\xa1";
+
+const PCAP_SWAPPED: &[u8] = b"\xa1\xb2\xc3\xd4";
+
+const PCAP_NANOS: &[u8] = b"\x4d\x3c\xb2\xa1";
+
+const PCAPNG: &[u8] = b"\x0a\x0d\x0d\x0a";
 
 const SECOND: u64 = 1_000_000;
 
@@ -91,7 +93,10 @@ pub fn sent_of(alloc: Global, file: &[u8]) -> Result<Vec<Sent>, InputFault> {
 }
 
 fn is_capture(file: &[u8]) -> bool {
-    MAGICS.iter().any(|magic| file.starts_with(magic))
+    file.starts_with(PCAP)
+        || file.starts_with(PCAP_SWAPPED)
+        || file.starts_with(PCAP_NANOS)
+        || file.starts_with(PCAPNG)
 }
 
 /// The file as a text, if it is one. Frames aren't: their heads have bytes that no text has.
@@ -168,19 +173,24 @@ fn of_lines(alloc: Global, text: &str) -> Result<Vec<Sent>, InputFault> {
 
 /// What a line says, at this time if it tells none.
 fn of_line(alloc: Global, time: u64, line: &str) -> Result<Option<Sent>, AllocError> {
-    let mut words = line.split_whitespace();
-    let mut word = words.next();
-    let told = word.and_then(|word| word.parse::<u64>().ok());
-    if told.is_some() {
-        word = words.next();
+    let (mut told, mut side) = (None, None);
+    let mut digits = Vec::new(alloc);
+    for word in line.split_whitespace() {
+        if side.is_some() {
+            digits.extend_from_slice(word.as_bytes())?;
+            continue;
+        }
+        side = side_named(word);
+        if side.is_none() {
+            let Some(number) = time_named(word, told) else {
+                return Ok(None);
+            };
+            told = Some(number);
+        }
     }
-    let Some(side) = word.and_then(side_named) else {
+    let Some(side) = side else {
         return Ok(None);
     };
-    let mut digits = Vec::new(alloc);
-    for word in words {
-        digits.extend_from_slice(word.as_bytes())?;
-    }
     let Some(bytes) = bytes_of(alloc, digits.as_slice())? else {
         return Ok(None);
     };
@@ -189,6 +199,14 @@ fn of_line(alloc: Global, time: u64, line: &str) -> Result<Option<Sent>, AllocEr
         side,
         bytes: Bytes::copy_from_slice(alloc, bytes.as_slice())?,
     }))
+}
+
+/// The time that a word is, where none was told before it.
+fn time_named(word: &str, before: Option<u64>) -> Option<u64> {
+    match before {
+        Some(_) => None,
+        None => word.parse::<u64>().ok(),
+    }
 }
 
 fn side_named(word: &str) -> Option<Side> {
@@ -201,27 +219,6 @@ fn side_named(word: &str) -> Option<Side> {
 
 // ---- captures
 
-/// The number of the byte that a side sends next, if one of its segments came.
-#[derive(Clone, Copy)]
-struct Next(Option<u32>);
-
-impl Next {
-    /// A segment comes: whether it goes on where the last one ended.
-    fn goes_on(&mut self, packet: &Packet) -> bool {
-        let (sequence, flags) = (packet.head.sequence, packet.head.flags.bits);
-        let mut next = sequence.wrapping_add(packet.payload.len() as u32);
-        if flags & SYN != 0 {
-            next = next.wrapping_add(1);
-        }
-        if flags & FIN != 0 {
-            next = next.wrapping_add(1);
-        }
-        let wanted = self.0.unwrap_or(sequence);
-        self.0 = Some(next);
-        wanted == sequence
-    }
-}
-
 /// What the segments of a connection carry.
 fn of_packets(alloc: Global, packets: Vec<Packet>) -> Result<Vec<Sent>, InputFault> {
     let mut sent = Vec::new(alloc);
@@ -229,28 +226,42 @@ fn of_packets(alloc: Global, packets: Vec<Packet>) -> Result<Vec<Sent>, InputFau
         return Ok(sent);
     };
     let (path, began) = (first.head.path, micros_of(first.time));
-    let (mut client, mut server) = (Next(None), Next(None));
+    let mut numbers = Sides {
+        client: None,
+        server: None,
+    };
     for (place, packet) in packets.into_iter().enumerate() {
         let number = place.saturating_add(1);
         let Some(side) = side_of(&path, &packet) else {
             return Err(InputFault::OtherConnection(number));
         };
-        let goes_on = match side {
-            Side::Client => client.goes_on(&packet),
-            Side::Server => server.goes_on(&packet),
-        };
-        if !goes_on {
+        let wanted = numbers.of(side).unwrap_or(packet.head.sequence);
+        if wanted != packet.head.sequence {
             return Err(InputFault::Gap(number));
         }
-        if !packet.payload.is_empty() {
+        numbers.set(side, Some(number_after(&packet)));
+        let Packet { time, payload, .. } = packet;
+        if !payload.is_empty() {
             sent.push(Sent {
-                time: micros_of(packet.time).saturating_sub(began),
+                time: micros_of(time).saturating_sub(began),
                 side,
-                bytes: packet.payload,
+                bytes: payload,
             })?;
         }
     }
     Ok(sent)
+}
+
+/// The number that the side sends next after a segment.
+fn number_after(packet: &Packet) -> u32 {
+    let (sequence, flags) = (packet.head.sequence, packet.head.flags.bits);
+    let length = u32::try_from(packet.payload.len()).unwrap_or(0);
+    let of_syn = u32::from(flags & SYN != 0);
+    let of_fin = u32::from(flags & FIN != 0);
+    sequence
+        .wrapping_add(length)
+        .wrapping_add(of_syn)
+        .wrapping_add(of_fin)
 }
 
 fn micros_of(time: Time) -> u64 {

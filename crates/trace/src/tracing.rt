@@ -55,11 +55,13 @@ impl Trace {
         match side {
             Side::Client => {
                 let items = self.client.cut(bytes)?;
-                lines_of(self.alloc, &mut self.known, time, Side::Client, items)
+                let lines = lines_of(self.alloc, &mut self.known, time, Side::Client, items)?;
+                Ok(lines)
             }
             Side::Server => {
                 let items = self.server.cut(bytes)?;
-                lines_of(self.alloc, &mut self.known, time, Side::Server, items)
+                let lines = lines_of(self.alloc, &mut self.known, time, Side::Server, items)?;
+                Ok(lines)
             }
         }
     }
