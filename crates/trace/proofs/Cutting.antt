@@ -109,8 +109,7 @@ first_frame bytes head (reserved, one, is, e) fits =
     (
       take (9 + n) bytes,
       sym (take-append-drop (9 + n) bytes),
-      (reserved, one, is, front ∙ ap (λ (p : List ℕ). head_text reserved head ++ p) (sym payload)),
-      ap length payload ∙ length-take-le n after room,
+      ((reserved, one, is, front ∙ ap (λ (p : List ℕ). head_text reserved head ++ p) (sym payload)), ap length payload ∙ length-take-le n after room),
     )
 
 pub first_preface : (bytes rest : List ℕ) → bytes ≡ preface ++ rest → Takes BeforePreface bytes Preface rest

@@ -22,7 +22,7 @@ pub fn push_frames(text: &mut String, sent: &[Sent], form: Form) -> Result<(), A
 pub fn push_lines(text: &mut String, lines: &[Line], form: Form) -> Result<(), AllocError> {
     for line in lines {
         let line = Shown { line, form };
-        writeln!(text, "{line}")?;
+        writeln!(text, "{line}").map_err(|_| AllocError)?;
     }
     Ok(())
 }
