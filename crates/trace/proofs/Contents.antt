@@ -24,7 +24,7 @@ is_content head payload rest behind content last padding padded has e size =
     let before = front (is_padded head) (has_priority head) payload rest behind padding padded has in
     let skipped : Skipped = record { reserved = 0; priority = before.0; padding = last } in
     let whole : payload ≡ (if is_padded head then length last ∷ [] else []) ++ (before.0 ++ (content ++ last)) =
-    before.1.0
+    before.1
     ∙ ap (λ (n : ℕ). (if is_padded head then n ∷ [] else []) ++ (before.0 ++ behind)) (sym size)
     ∙ ap (λ (b : List ℕ). (if is_padded head then length last ∷ [] else []) ++ (before.0 ++ b)) e in
-    (skipped, whole, before.1.1.0, λ no. nothing last (size ∙ before.1.1.1 no))
+    (skipped, whole, before.2, λ no. nothing last (size ∙ before.3 no))

@@ -68,8 +68,8 @@ one_item InFrames bytes text more other further (Frame head payload) Preface e i
 one_item InFrames bytes text more other further (Frame head payload) (Rest rest) e is f has = absurd has
 one_item InFrames bytes text more other further (Frame head payload) (Frame second content) e (is, size) f (has, long) =
     one_frame bytes more further head second payload content
-      (subst (λ (b : List ℕ). BeginsWith b head (payload ++ more)) (sym e) (begins_more text head payload more is)) size
-      (subst (λ (b : List ℕ). BeginsWith b second (content ++ further)) (sym f) (begins_more other second content further has)) long
+    (subst (λ (b : List ℕ). BeginsWith b head (payload ++ more)) (sym e) (begins_more text head payload more is)) size
+    (subst (λ (b : List ℕ). BeginsWith b second (content ++ further)) (sym f) (begins_more other second content further has)) long
 
 -- an item has bytes
 pub some_bytes : (stage : Stage) (text : List ℕ) (item : Item) → Spells stage text item → 0 < length text
@@ -105,8 +105,7 @@ first_frame bytes head (reserved, one, is, e) fits =
     let after = drop 9 bytes in
     let front : take (9 + n) bytes ≡ head_text reserved head ++ take n after = ap (λ (b : List ℕ). take (9 + n) b) e ∙ take-append-add (head_text reserved head) after n in
     let payload : drop 9 (take (9 + n) bytes) ≡ take n after = ap (λ (b : List ℕ). drop 9 b) front in
-    let room : n ≤ length after = omega (arith, fits, length-drop 9 bytes) in
-    (
+    let room : n ≤ length after = omega (arith, fits, length-drop 9 bytes) in (
       take (9 + n) bytes,
       sym (take-append-drop (9 + n) bytes),
       ((reserved, one, is, front ∙ ap (λ (p : List ℕ). head_text reserved head ++ p) (sym payload)), ap length payload ∙ length-take-le n after room),

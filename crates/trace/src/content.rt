@@ -16,13 +16,13 @@ const PROMISED_LEN: usize = 4;
 pub const PARAMETER_LEN: usize = 6;
 
 /// The content of a frame, without padding, and without the priority of HEADERS; nothing where these are longer than the payload.
-#[tactic(auto, using(crate::proofs::Contents::is_content))]
 pub fn content_of<'a>(head: &FrameHead, payload: &'a [u8]) -> Option<&'a [u8]>
     ensures { IfSome result (λ content. IsContent head.now payload.now content.now) }
 {
     let (padding, rest) = padding_of(head.is_padded(), payload)?;
-    let rest = behind_priority(head, rest)?;
-    before_padding(rest, padding)
+    let behind = behind_priority(head, rest)?;
+    let content = before_padding(behind, padding)?;
+    Some(content)
 }
 
 /// The header block's fragment in a PUSH_PROMISE, after the promised stream.

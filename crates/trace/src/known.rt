@@ -53,16 +53,18 @@ impl Known {
         }
         match head.kind {
             FrameKind::Data => self.data(side, head, payload),
-            FrameKind::Headers | FrameKind::PushPromise | FrameKind::Continuation =>
-                self.block(side, head, payload),
+            FrameKind::Headers | FrameKind::PushPromise | FrameKind::Continuation => self.block(
+                side, head, payload,
+            ),
             FrameKind::WindowUpdate => self.credit(side, head, payload),
             FrameKind::Settings => Ok(self.settings(side, head, payload)),
             FrameKind::RstStream => {
                 self.streams.forget(head.stream);
                 Ok(Told::Nothing)
             }
-            FrameKind::Priority | FrameKind::Ping | FrameKind::GoAway | FrameKind::Unknown(_) =>
-                Ok(Told::Nothing),
+            FrameKind::Priority | FrameKind::Ping | FrameKind::GoAway | FrameKind::Unknown(_) => Ok(
+                Told::Nothing,
+            ),
         }
     }
 

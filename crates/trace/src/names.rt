@@ -48,27 +48,35 @@ const END_STREAM: FlagName = FlagName {
     flag: Flags::END_STREAM,
     name: "END_STREAM",
 };
+
 const END_HEADERS: FlagName = FlagName {
     flag: Flags::END_HEADERS,
     name: "END_HEADERS",
 };
+
 const PADDED: FlagName = FlagName {
     flag: Flags::PADDED,
     name: "PADDED",
 };
+
 const PRIORITY: FlagName = FlagName {
     flag: Flags::PRIORITY,
     name: "PRIORITY",
 };
+
 const ACK: FlagName = FlagName {
     flag: Flags::ACK,
     name: "ACK",
 };
 
 const DATA_FLAGS: &[FlagName] = &[END_STREAM, PADDED];
+
 const HEADERS_FLAGS: &[FlagName] = &[END_STREAM, END_HEADERS, PADDED, PRIORITY];
+
 const PROMISE_FLAGS: &[FlagName] = &[END_HEADERS, PADDED];
+
 const CONTINUATION_FLAGS: &[FlagName] = &[END_HEADERS];
+
 const ACK_FLAGS: &[FlagName] = &[ACK];
 
 /// The name of a parameter of SETTINGS (section 6.5.2).
