@@ -120,7 +120,7 @@ is_v4 size checksum from to segment small long fits source destination ones =
     let half = subst (λ (x : List ℕ). IsAllOnes (blank + word_sum x + word_sum to + checksum)) f ones in
     let whole = subst (λ (y : List ℕ). IsAllOnes (blank + word_sum fs + word_sum y + checksum)) t half in
     let plain = plain_v4 size checksum (slice_index from 0) (slice_index from 1) (slice_index from 2) (slice_index from 3)
-          (slice_index to 0) (slice_index to 1) (slice_index to 2) (slice_index to 3) segment small long fits whole in
+    (slice_index to 0) (slice_index to 1) (slice_index to 2) (slice_index to 3) segment small long fits whole in
     let one = subst (λ (y : List ℕ). IsV4 (front ++ (fs ++ (y ++ segment))) fs y segment) (sym t) plain in
     subst (λ (x : List ℕ). IsV4 (front ++ (x ++ (to ++ segment))) x to segment) (sym f) one
 

@@ -46,7 +46,7 @@ pub record IsV4 (packet from to segment : List ℕ) : Type 0 where
 
 -- RFC 8200, section 3
 pub record IsV6 (packet from to segment : List ℕ) : Type 0 where
-  pub version : slice_index packet 0 / 2 ^ 4 ≡ 6
+  pub version : slice_index packet 0 / 16 ≡ 6
   pub size : 40 ≤ length packet
   pub payload_length : be16_at packet 4 + 40 ≡ length packet
   -- no extension

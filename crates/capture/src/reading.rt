@@ -6,7 +6,7 @@ ghost use Rattle.capture.specs.declared.reading.CaptureFault.TheVariants.{OutOfM
 ghost use Rattle.capture.specs.declared.packet.Packet.{Packet as PacketOf};
 ghost use Rattle.capture.specs.declared.packet.SegmentHead.{SegmentHead as SegmentHeadOf};
 ghost use Rattle.capture.specs.Reading.{HasItsSize, StartsNone, StartsWith};
-ghost use Rattle.capture.specs.Format.{AreRecords, Carries, IsCapture, IsRecord, IsPacket, IsV4, IsV6, IsSegment, IsFileHead};
+ghost use Rattle.capture.specs.Format.{AreRecords, Carries, IsCapture, IsRecord, IsPacket, IsV4, IsV6, IsChecked, IsSegment, IsFileHead};
 
 use crate::checksum::{is_all_ones, word_sum};
 use crate::fields::{be16_at, be32_at, le32_at, v4_address, v6_address};
@@ -106,11 +106,7 @@ fn packets_of(alloc: Global, records: &[u8]) -> Result<Vec<Packet>, CaptureFault
 }
 
 /// The packet of the first record, at this byte, and what is behind that.
-fn first_packet(
-    alloc: Global,
-    at: usize,
-    bytes: &[u8],
-) -> Result<(Packet, &[u8]), CaptureFault>
+fn first_packet(alloc: Global, at: usize, bytes: &[u8]) -> Result<(Packet, &[u8]), CaptureFault>
     ensures ok { IfOk result (λ taken. StartsWith bytes.now taken.0 taken.1.now) }
     ensures err { IfErr result (λ fault. (fault ≡ OutOfMemory) ⊎ StartsNone bytes.now) }
 {
@@ -192,14 +188,22 @@ fn checked_parts<'s>(
     ensures none { IfNone result ((head : SegmentHeadOf) (payload : List ℕ) →
         Carries packet.now head payload → ⊥) }
 {
-    let sum = pseudo_sum(&hosts, segment.len()) + word_sum(segment);
-    if !is_all_ones(sum) {
+    if !is_checked(&hosts, segment) {
         return None;
     }
     match segment_parts(hosts, segment) {
         None => None,
         Some((head, payload)) => Some((head, payload)),
     }
+}
+
+fn is_checked(hosts: &Hosts, segment: &[u8]) -> bool
+    requires { length segment.now < 2 ^ 16 }
+    ensures { IsTrue result ↔ IsChecked hosts.now segment.now }
+{
+    let pseudo = pseudo_sum(hosts, segment.len());
+    let words = word_sum(segment);
+    is_all_ones(pseudo + words)
 }
 
 /// Between which hosts a packet is, and its segment.
