@@ -214,9 +214,12 @@ fn packet_parts(packet: &[u8]) -> Option<(Hosts, &[u8])>
     ensures none { IfNone result ((hosts : HostsOf) (segment : List ℕ) →
         IsPacket packet.now hosts segment → ⊥) }
 {
-    match v4_parts(packet) {
+    if let Some(parts) = v4_parts(packet) {
+        return Some(parts);
+    }
+    match v6_parts(packet) {
         Some(parts) => Some(parts),
-        None => v6_parts(packet),
+        None => None,
     }
 }
 
