@@ -158,7 +158,8 @@ fn parts_of(text: &[u8]) -> Option<(Time, SegmentHead, &[u8])>
         seconds: le32_at(text, 0),
         micros: le32_at(text, 4),
     };
-    match carried(&text[RECORD_HEAD..]) {
+    let (_front, packet) = text.split_at(RECORD_HEAD);
+    match carried(packet) {
         None => None,
         Some((head, payload)) => Some((time, head, payload)),
     }
