@@ -193,3 +193,9 @@ behind_head bytes head rest e size =
     let long : length (take 24 bytes) ≡ 24 = length-take-le 24 bytes (omega (arith, whole, size)) in
     let same = fronts_one (take 24 bytes) head (drop 24 bytes) rest (long ∙ sym size) (take-append-drop 24 bytes ∙ e) in
     (omega (arith, whole, size), same.0, same.1)
+
+-- what follows a file's head is its records
+pub behind_file_head : (bytes head rest : List ℕ) (packets : List Packet) → bytes ≡ head ++ rest → length head ≡ 24 → IsCapture bytes packets → IsFileHead head × AreRecords rest packets
+behind_file_head bytes head rest packets e size (front, more, f, has, are) =
+    let same = fronts_one head front rest more (size ∙ sym has.size) (sym e ∙ f) in
+    (subst IsFileHead (sym same.0) has, subst (λ (t : List ℕ). AreRecords t packets) (sym same.1) are)

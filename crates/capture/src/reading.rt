@@ -73,7 +73,10 @@ pub fn read(alloc: Global, bytes: &[u8]) -> Result<Vec<Packet>, CaptureFault>
     if !is_file_head(head) {
         return Err(CaptureFault::Head);
     }
-    packets_of(alloc, records)
+    match packets_of(alloc, records) {
+        Ok(packets) => Ok(packets),
+        Err(fault) => Err(fault),
+    }
 }
 
 fn is_file_head(head: &[u8]) -> bool

@@ -3,8 +3,8 @@ use Rattle.capture.specs.Format.{IsChecked}
 use Rattle.capture.proofs.Records.{carries, no_segment, wrong_sum}
 use Rattle.capture.proofs.reading.checked_parts.Goals as goal
 
-pub returns-then-is_checked-clause-none : goal.returns-then-is_checked-clause-none
-returns-then-is_checked-clause-none c =
+pub returns-then-not-is_checked-clause-none : goal.returns-then-not-is_checked-clause-none
+returns-then-not-is_checked-clause-none c =
     let hosts = c.args.hosts in
     let segment = c.args.segment.now in
     let wrong : IsChecked hosts segment → ⊥ = search rules in
