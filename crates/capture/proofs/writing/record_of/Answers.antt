@@ -18,4 +18,4 @@ returns c =
     let text : c.in_ok-text.text.items ≡ record_head time (length bytes) ++ bytes =
     c.in_ok-text.ensures ∙ ap (λ (front : List ℕ). front ++ bytes) c.record_head-front.ensures in
     subst (λ (t : List ℕ). IsRecord t (record { time = time; head = head; payload = payload })) (sym text)
-    (is_record time (length bytes) bytes segment head payload (search rules) (search rules) (omega arith) refl packet c.in_ok-segment.ensures.checked c.in_ok-segment.ensures.segment)
+    (is_record time (length bytes) bytes segment head payload (search rules) (search rules) (omega (arith, c.in_ok-packet.ensures.size, ap (λ (b : List ℕ). length b) c.as_slice-bytes.ensures.value)) refl packet c.in_ok-segment.ensures.checked c.in_ok-segment.ensures.segment)

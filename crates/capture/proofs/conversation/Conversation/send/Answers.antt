@@ -23,7 +23,7 @@ loop-rest-preserved c =
     let first = subst (λ (b : List ℕ). IsRecord c.in_ok-first.first.items (segment_of now time side psh_ack b)) part c.in_ok-first.ensures in
     let next = so_far_next c.args.self.now now time side c.args.bytes.now rest c.loop-rest.text.items c.in_ok-first.first.items c.loop-rest.invariant some first in
     let moved : c.advanced-now.result ≡ advanced now side (length (take 65000 rest)) = c.advanced-now.ensures ∙ ap (λ (b : List ℕ). advanced now side (length b)) part in
-    rw (c.in_ok-extend_from_slice.ensures.items, moved, c.parted.ensures.behind) next
+    rw (c.in_ok-extend_from_slice.ensures.items, c.as_slice.ensures.value, moved, c.parted.ensures.behind) next
 
 pub returns-clause-records : goal.returns-clause-records
 returns-clause-records c =
