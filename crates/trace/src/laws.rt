@@ -1,6 +1,6 @@
 //! Laws of how bytes are cut, for callers. None of them does anything.
 
-ghost use Rattle.std.specs.Prelude.{◌≡◌, ◌×◌, ℕ, List, ◌++◌, Option};
+ghost use Rattle.std.specs.Prelude.{◌≡◌, ℕ, List, ◌++◌, Option};
 ghost use Rattle.h2frame.specs.declared.fault.FrameFault.{FrameFault};
 ghost use Rattle.h2frame.specs.declared.frame.Frame.{Frame as FrameOf};
 ghost use Rattle.h2frame.specs.FrameList.{IsSpelling};
