@@ -21,11 +21,16 @@ pub(crate) fn word_sum(bytes: &[u8]) -> u64
     sum
 }
 
-/// The word that makes a sum of words all ones.
+/// The word that makes a sum of words all ones: 0 where it is so already, and not its other zero (RFC 1624, section 3).
 pub(crate) fn checksum(sum: u64) -> u16
-    ensures { IsAllOnes (sum + result) }
+    ensures ones { IsAllOnes (sum + result) }
+    ensures zero { result < 65535 }
 {
-    65_535 - (sum % 65_535) as u16
+    let over = (sum % 65_535) as u16;
+    if over == 0 {
+        return 0;
+    }
+    65_535 - over
 }
 
 /// Whether the sum of words that aren't all zero is all ones.
