@@ -28,4 +28,4 @@ returns-clause-checked c =
     let same : c.pseudo_sum-pseudo.result + c.word_sum-of_head.result + c.word_sum-of_payload.result + sum
     ≡ pseudo_sum head.path.hosts (20 + length payload) + word_sum (segment_head head 0) + word_sum payload + sum = cc (pseudo, of_head, of_payload) in
     subst (λ (t : List ℕ). IsChecked head.path.hosts t) (sym text)
-    (is_checked head.path.hosts head sum payload (search rules) (subst IsAllOnes same c.checksum-sum.ensures))
+    (is_checked head.path.hosts head sum payload (search rules) (subst IsAllOnes same c.checksum-sum.ensures.ones))

@@ -20,4 +20,4 @@ returns-clause-packet c =
     let same : c.word_sum-of_head.result + c.word_sum-of_source.result + c.word_sum-of_destination.result + sum ≡ word_sum (v4_head size 0) + word_sum from + word_sum to + sum =
     omega (arith, of_head, of_source, of_destination) in
     subst (λ (t : List ℕ). IsV4 t from to segment) (sym text)
-    (is_v4 size sum from to segment (omega arith) refl (search rules) (search rules) (search rules) (subst IsAllOnes same c.checksum-sum.ensures))
+    (is_v4 size sum from to segment (omega arith) refl (search rules) (search rules) (search rules) (subst IsAllOnes same c.checksum-sum.ensures.ones))
