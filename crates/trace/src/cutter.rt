@@ -100,7 +100,7 @@ fn first_item(stage: Stage, kept: &mut BytesMut) -> Result<Option<Item>, AllocEr
     }
 }
 
-#[tactic(auto, using(crate::proofs::Cutting::first_preface, crate::proofs::Cutting::no_preface))]
+#[tactic(auto, using(crate::proofs::Cutting::first_preface))]
 fn first_preface(kept: &mut BytesMut) -> Option<Item>
     ensures some { IfSome result
         (λ item. Takes stages.BeforePreface kept.old.items item kept.new.items) }
@@ -126,7 +126,7 @@ fn begins_with_preface(bytes: &[u8]) -> bool
     &bytes[..PREFACE_LEN] == PREFACE
 }
 
-#[tactic(auto, using(crate::proofs::Cutting::first_frame, crate::proofs::Cutting::short_is_unfinished, crate::proofs::Cutting::begun_is_unfinished))]
+#[tactic(auto, using(crate::proofs::Cutting::short_is_unfinished, crate::proofs::Cutting::begun_is_unfinished))]
 fn first_frame(kept: &mut BytesMut) -> Result<Option<Item>, AllocError>
     ensures some { IfOk result (λ found. IfSome found
         (λ item. Takes stages.InFrames kept.old.items item kept.new.items)) }

@@ -3,8 +3,8 @@ use Rattle.trace.specs.Cuts.{Cut}
 use Rattle.trace.proofs.cutter.items_of.Given as goal
 
 -- the items so far are cut off
-abbrev pub invariant-loop-item : goal.invariant-loop-item
-invariant-loop-item l = Cut l.fn.stage l.fn.kept.items l.items.items l.stage l.kept.items
+abbrev pub invariant-loop-items : goal.invariant-loop-items
+invariant-loop-items l = Cut l.fn.stage l.fn.kept.items l.items.items l.stage l.kept.items
 
-abbrev pub decreases-loop-item : goal.decreases-loop-item
-decreases-loop-item l = length l.kept.items
+abbrev pub decreases-loop-items : goal.decreases-loop-items
+decreases-loop-items l = length l.kept.items

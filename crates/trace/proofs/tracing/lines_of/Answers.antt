@@ -1,14 +1,16 @@
-use Rattle.std.proofs.Common.{List, Option, ◌∙◌, ap, arith, length, refl, subst}
+use Rattle.std.proofs.Common.{◌≡◌, List, [], Option, ◌∙◌, ap, arith, length, rules, subst}
 use Rattle.std.specs.Vec.Iter.{into_iter_steps}
 use Rattle.trace.specs.declared.item.Item.{Item}
+use Rattle.trace.specs.Lines.{items_of}
 use Rattle.trace.proofs.Lines.{all_yielded, one_more, parts_more}
 use Rattle.trace.proofs.tracing.lines_of.Goals as goal
 
 pub items-init : goal.items-init
 items-init c =
     let gives = c.into_iter-item-iterator.ensures.into_iter_gives in
+    let empty : c.new-lines.result.items ≡ [] = search rules in
     record {
-      told = refl;
+      told = ap items_of empty;
       parts = gives.0;
       length = omega (arith, gives.1, c.args.items.ok.0, ap (λ (es : List Item). length es) gives.0);
     }
