@@ -1,16 +1,15 @@
 -- What is written has the format.
-use Rattle.std.proofs.Common.{◌≡◌, ℕ, ◌+◌, ◌*◌, ◌%◌, ◌<◌, ◌≤◌, ◌^◌, List, [], ◌∷◌, ◌++◌, length, take, drop, slice_index, refl, sym, ap, subst, ◌∙◌, arith}
-use Rattle.std.specs.Int.{w16, w32, to_be_bytes, to_le_bytes, from_be_bytes}
+use Rattle.std.proofs.Common.{◌≡◌, ℕ, ◌+◌, ◌*◌, ◌%◌, ◌<◌, ◌^◌, List, [], ◌∷◌, ◌++◌, length, take, drop, slice_index, refl, sym, ap, subst, ◌∙◌, arith}
+use Rattle.std.specs.Int.{w16, w32, to_be_bytes}
 use Rattle.std.proofs.Math.Seq.{take-append_seam, drop-append_seam, drop-append-add}
 use Rattle.std.proofs.lemmas.List.{length-append}
 use Rattle.std.proofs.lemmas.Nat.{from_be_bytes-to_be_bytes_2, from_be_bytes-to_be_bytes_4, from_le_bytes-to_le_bytes_4}
 use Rattle.capture.specs.declared.packet.Hosts.{Hosts}
-use Rattle.capture.specs.declared.packet.Packet.{Packet}
 use Rattle.capture.specs.declared.packet.SegmentHead.{SegmentHead}
 use Rattle.capture.specs.declared.packet.Time.{Time}
 use Rattle.capture.specs.Checksum.{word_sum, pseudo_sum, IsAllOnes}
 use Rattle.capture.specs.Fields.{be16_at, be32_at, le32_at}
-use Rattle.capture.specs.Format.{IsSegment, IsChecked, IsV4, IsV6, IsPacket, Carries, IsRecord}
+use Rattle.capture.specs.Format.{IsSegment, IsChecked, IsV4, IsV6, IsPacket, IsRecord}
 use Rattle.capture.specs.Writing.{segment_head, v4_head, v6_head, record_head}
 
 -- ---- a segment

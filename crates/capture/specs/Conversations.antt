@@ -1,5 +1,5 @@
 -- The segments of a connection of TCP whose sides sent these bytes (RFC 9293, sections 3.4 to 3.6).
-use Rattle.std.specs.Prelude.{◌≡◌, ℕ, ◌+◌, ◌^◌, ◌%◌, ◌<◌, List, [], ◌∷◌, ◌++◌, length, take, drop}
+use Rattle.std.specs.Prelude.{◌≡◌, ℕ, ◌+◌, ◌^◌, ◌%◌, ◌<◌, List, [], ◌∷◌, length, take, drop}
 use Rattle.capture.specs.declared.conversation.Conversation.{Conversation}
 use Rattle.capture.specs.declared.conversation.Side.{Side}
 use Rattle.capture.specs.declared.conversation.Side.TheVariants.{Client, Server}

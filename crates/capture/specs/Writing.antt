@@ -1,5 +1,5 @@
 -- The heads that are written, as bytes.
-use Rattle.std.specs.Prelude.{ℕ, ◌+◌, List, [], ◌∷◌, ◌++◌}
+use Rattle.std.specs.Prelude.{ℕ, List, [], ◌∷◌, ◌++◌}
 use Rattle.std.specs.Int.{w16, w32, to_be_bytes, to_le_bytes}
 use Rattle.capture.specs.declared.packet.SegmentHead.{SegmentHead}
 use Rattle.capture.specs.declared.packet.Time.{Time}

@@ -1,8 +1,8 @@
 -- The parts of a payload are its content and what is around it.
-use Rattle.std.proofs.Common.{◌≡◌, ℕ, ◌+◌, Bool, true, false, if◌then◌else◌, List, [], ◌∷◌, ◌++◌, length, refl, sym, ap, subst, ◌∙◌, arith}
+use Rattle.std.proofs.Common.{◌≡◌, ℕ, Bool, true, false, if◌then◌else◌, List, [], ◌∷◌, ◌++◌, length, refl, sym, ap, ◌∙◌, arith}
 use Rattle.h2frame.specs.declared.frame.FrameHead.{FrameHead}
 use Rattle.h2frame.specs.Flags.{is_padded, has_priority}
-use Rattle.h2frame.specs.Spelling.{Skipped, payload_text}
+use Rattle.h2frame.specs.Spelling.{Skipped}
 use Rattle.trace.specs.Contents.{HasPadding, HasPriority, IsContent}
 
 -- the front of a payload, before its content

@@ -8,7 +8,7 @@ use Rattle.h2frame.specs.declared.frame.Frame.{Frame as FrameOf}
 use Rattle.h2frame.specs.declared.frame.FrameHead.{FrameHead}
 use Rattle.h2frame.specs.FrameList.{BeginsWith, IsSpelling}
 use Rattle.h2frame.specs.Reading.{head_at}
-use Rattle.h2frame.specs.Spelling.{IsHead, head_text, payload_text}
+use Rattle.h2frame.specs.Spelling.{head_text, payload_text}
 use Rattle.h2frame.proofs.Heads.{head_again}
 use Rattle.trace.specs.declared.item.Item.{Item}
 use Rattle.trace.specs.declared.item.Item.TheVariants.{Preface, Frame, Rest}

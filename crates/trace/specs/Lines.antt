@@ -1,5 +1,5 @@
 -- What the lines of a trace are of.
-use Rattle.std.specs.Prelude.{List, [], ◌∷◌, ◌++◌, ℕ, map}
+use Rattle.std.specs.Prelude.{List, ◌++◌, ℕ, map}
 use Rattle.capture.specs.declared.conversation.Side.{Side}
 use Rattle.capture.specs.declared.conversation.Side.TheVariants.{Client, Server}
 use Rattle.trace.specs.declared.item.Item.{Item}

@@ -1,4 +1,4 @@
-use Rattle.std.proofs.Common.{◌≡◌, ◌+◌, ◌≤◌, ◌++◌, List, length, take, drop, ap, subst, sym, ◌∙◌, arith, ℕ}
+use Rattle.std.proofs.Common.{◌≡◌, ◌+◌, ◌≤◌, ◌++◌, length, take, drop, ap, subst, sym, ◌∙◌, arith, ℕ}
 use Rattle.std.proofs.lemmas.List.{take-append-drop}
 use Rattle.capture.specs.Fields.{le32_at}
 use Rattle.capture.specs.Reading.{HasItsSize}

@@ -1,4 +1,4 @@
-use Rattle.std.proofs.Common.{◌≡◌, ◌+◌, List, ℕ, arith, rules, subst, sym}
+use Rattle.std.proofs.Common.{List, ℕ, arith, rules, subst, sym}
 use Rattle.capture.specs.Format.{Carries}
 use Rattle.capture.proofs.Records.{not_carried}
 use Rattle.capture.proofs.reading.parts_of.Goals as goal

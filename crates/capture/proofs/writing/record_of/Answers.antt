@@ -1,5 +1,4 @@
 use Rattle.std.proofs.Common.{◌≡◌, ◌++◌, List, ℕ, length, refl, sym, ap, subst, ◌∙◌, arith, rules}
-use Rattle.capture.specs.declared.packet.Packet.{Packet}
 use Rattle.capture.specs.Format.{IsRecord, IsPacket}
 use Rattle.capture.specs.Writing.{record_head}
 use Rattle.capture.proofs.Written.{is_record}

@@ -1,4 +1,4 @@
-use Rattle.std.proofs.Common.{◌≡◌, ◌+◌, ◌++◌, List, ℕ, length, refl, sym, ap, subst, ◌∙◌, arith, rules}
+use Rattle.std.proofs.Common.{◌≡◌, ◌+◌, ◌++◌, List, ℕ, length, sym, ap, subst, ◌∙◌, rules}
 use Rattle.capture.specs.Checksum.{word_sum, pseudo_sum, IsAllOnes}
 use Rattle.capture.specs.Format.{IsSegment, IsChecked}
 use Rattle.capture.specs.Writing.{segment_head}

@@ -1,4 +1,4 @@
-use Rattle.std.proofs.Common.{List, [], ◌≡◌, ◌∙◌, ap, subst}
+use Rattle.std.proofs.Common.{[], ◌≡◌, ◌∙◌, ap, subst}
 use Rattle.capture.specs.declared.conversation.Conversation.{Conversation}
 use Rattle.capture.specs.declared.conversation.Side.TheVariants.{Client, Server}
 use Rattle.capture.specs.Conversations.{ack, advanced, segment_of, started, syn_ack}

@@ -1,5 +1,4 @@
-use Rattle.std.proofs.Common.{◌≡◌, ◌<◌, ℕ, List, [], ◌∙◌, ap, drop, length, refl, rules, subst, sym, take}
-use Rattle.capture.specs.declared.conversation.Conversation.{Conversation}
+use Rattle.std.proofs.Common.{◌≡◌, ◌<◌, ℕ, List, [], ◌∙◌, ap, length, rules, subst, sym, take}
 use Rattle.capture.specs.Conversations.{advanced, psh_ack, segment_of}
 use Rattle.capture.specs.Format.{IsRecord}
 use Rattle.capture.proofs.Steps.{IsSoFar, so_far_end, so_far_init, so_far_next}
