@@ -14,6 +14,8 @@
 //! - `read`: lines `MICROSECONDS client DIGITS`, or `server`, of what each side sent at a time.
 #![tactic(auto)]
 
+ghost use Rattle.std.specs.Prelude.{◌<◌};
+
 use anyhow::{Context, Result, bail};
 use bytes::Bytes;
 use capture::{Conversation, Hosts, Path, Time, file_head};
@@ -42,7 +44,9 @@ fn print_frames(rt: &(impl Print + AllocGlobal), sent: &[Sent], form: Form) -> R
 }
 
 /// The same bytes in pieces of at most so many.
-fn cut(alloc: Global, sent: &[Sent], most: usize) -> Result<Vec<Sent>> {
+fn cut(alloc: Global, sent: &[Sent], most: usize) -> Result<Vec<Sent>>
+    requires { 0 < most }
+{
     let mut pieces = Vec::new(alloc);
     for one in sent {
         for bytes in one.bytes.as_slice().chunks(most) {
