@@ -5,6 +5,4 @@ pub mod Hex
 pub mod HexExamples
 pub mod Report
 pub mod Summing
-pub mod Tally
 pub mod Telling
-pub mod Times

@@ -1,6 +1,5 @@
 -- What `self` and `drain` print: a line that sums up stands behind those of cases.
-use Rattle.std.specs.Prelude.{ℕ, List, [], ◌∷◌, ◌++◌, Option, Some, None, Result}
-use Rattle.std.specs.Result.{result_err}
+use Rattle.std.specs.Prelude.{ℕ, List, [], ◌∷◌, ◌++◌, Result}
 use Rattle.cases.specs.Report.{lines_of}
 use Rattle.cases.specs.declared.fault.CaseFault.{CaseFault}
 use Rattle.cases.specs.declared.report.Outcome.{Outcome as Ended}
@@ -9,18 +8,6 @@ use Rattle.commands.specs.declared.drain.Goaway.{Goaway}
 use Rattle.results.specs.Summaries.{summary_line, summary_of}
 use Rattle.results.specs.declared.outcome.Outcome.{Outcome}
 use Rattle.results.specs.declared.words.Suite.{Suite}
-use Rattle.results.specs.declared.words.Verdict.{Verdict}
-
--- the verdict on a case that failed for a fault, or passed
-abbrev pub verdict_by : Option CaseFault → Verdict
-verdict_by None = Verdict.Ok
-verdict_by (Some fault) = Verdict.Failed
-
-abbrev pub verdict_of : Result (Unit {0}) CaseFault → Verdict
-verdict_of answer = verdict_by (result_err answer)
-
-abbrev pub verdict_on : Ended → Verdict
-verdict_on ended = verdict_of ended.answer
 
 -- a line of each case, and one that sums up what results say of them
 abbrev pub self_report : List Ended → List Outcome → ℕ → List ℕ

@@ -7,28 +7,29 @@ ghost use Rattle.std.specs.Prelude.{◌≡◌, ◌++◌, ℕ, List, Result, is_o
 ghost use Rattle.std.specs.Io.KnownBytes.{Appends};
 ghost use Rattle.cases.specs.declared.fault.CaseFault.{CaseFault as Fault};
 ghost use Rattle.commands.specs.Drain.{drain_report, goaway_line, goaway_lines};
-ghost use Rattle.commands.specs.Summing.{summed_drain, verdict_of};
+ghost use Rattle.commands.specs.Summing.{summed_drain};
 ghost use Rattle.commands.specs.declared.drain.Goaway.{Goaway as Seen};
 ghost use Rattle.results.specs.declared.outcome.Outcome.{Outcome};
+ghost use Rattle.trials.specs.Verdicts.{verdict_of};
 
-use crate::attempt::{outcome_by, passed_since, print_summary};
-use crate::client::PATIENCE;
-use crate::connecting::set_ticks;
-use crate::log::Log;
 use crate::port::{Reports, Service, serve_apart};
 use crate::stopping::Stop;
+use crate::witness::Witnesses;
 use cases::{CaseFault, Failure, Limit, ReportFault, Timed, Windows, print_line};
 use device::{ConnWrite, write_all};
 use h2frame::{Frame, FrameKind, FrameReader, StreamId};
 use handlers::Methods;
 use results::Suite;
 use std::alloc::{AllocError, Global};
+use std::fs::File;
 use std::io;
 use std::io::{Read, Write};
 use std::net::{Net, TcpListener, TcpStream};
+use std::rt::Files;
 use std::sync::{Arc, Wait};
 use std::thread::Threads;
 use std::time::{Clock, Duration, Instant};
+use trials::{PATIENCE, outcome_by, passed_since, print_summary, set_ticks};
 use words::LOOPBACK;
 
 /// What the client runs: one call, of four messages, each with its reply.
@@ -70,7 +71,8 @@ pub fn run_drain<R, W>(
 where
     W: ConnWrite,
     R: Net<Stream = TcpStream, Listener = TcpListener> + Print + Eprint + AllocGlobal,
-    R: Threads + Wait + Clock + Copy + Send + Sync + Drop + 'static,
+    R: Files<File = File> + Threads + Wait + Clock + Copy + Send + Sync + Drop + 'static,
+    R::Dir: Send + Sync,
     ensures { IfOk result (λ passed. (goaways : List Seen) × (answer : Result (Unit {0}) Fault)
         × (outcome : Outcome) × (milliseconds : ℕ)
         × (outcome.verdict ≡ verdict_of answer)
@@ -83,10 +85,10 @@ where
     let Ok(stream) = connect(&rt, port) else {
         return Err(ReportFault::OutOfMemory);
     };
-    let service: Service<Log> = Service {
+    let service = Service {
         methods,
         reports: Reports::Nowhere,
-        log: None,
+        witness: Arc::new(alloc, Witnesses::none())?,
         stop: Some(Arc::try_clone(&stop)?),
     };
     let serving = serve_apart(rt, alloc, listener, service)?;

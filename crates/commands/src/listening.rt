@@ -1,12 +1,12 @@
 //! The port that is listened on.
 
-use crate::connecting::without_brackets;
 use sinks::write_whole;
 use std::alloc::Global;
 use std::io;
 use std::io::ErrorKind;
 use std::net::{Net, SocketAddr, TcpListener, ToSocketAddrs};
 use std::rt::Files;
+use trials::without_brackets;
 use words::{LOOPBACK, Port, ServeWords};
 
 /// Listens on the port of a host's address; of a name's addresses it is the first where that can be. Where it can't, a line on

@@ -42,67 +42,6 @@ pub struct Log {
     is_closed: AtomicBool,
 }
 
-/// A log that connections are shown to. Who serves them takes it as a type parameter: that threads may share it is then shown once,
-/// and not again together with all else that they share.
-pub trait Logs {
-    /// A connection begins. Where there is no memory for that, it isn't followed.
-    fn begin<R: Wait + Clock>(
-        log: &Arc<Self>,
-        rt: &R,
-        alloc: Global,
-        connection: Connection,
-    ) -> Option<Logged>;
-
-    /// Leaves the report on a connection to be printed, behind its lines.
-    fn report<R: Wait + Clock>(
-        &self,
-        rt: &R,
-        alloc: Global,
-        methods: &Methods,
-        connection: Connection,
-        ended: &stream::Ended,
-    );
-}
-
-impl Logs for Log {
-    fn begin<R: Wait + Clock>(
-        log: &Arc<Log>,
-        rt: &R,
-        alloc: Global,
-        connection: Connection,
-    ) -> Option<Logged> {
-        Logged::begin(rt, alloc, log, connection).ok()
-    }
-
-    fn report<R: Wait + Clock>(
-        &self,
-        rt: &R,
-        alloc: Global,
-        methods: &Methods,
-        connection: Connection,
-        ended: &stream::Ended,
-    ) {
-        let lines = ended.calls.len().saturating_add(1);
-        let moment = self.times.now(rt);
-        let report = match self.times.form {
-            LogForm::Text => report_of(alloc, connection.peer, methods, ended),
-            LogForm::Json => self.objects(alloc, methods, connection, ended, moment),
-        };
-        match report {
-            Ok(text) => self.leave(
-                rt,
-                Batch {
-                    connection: connection.number,
-                    moment,
-                    lines,
-                    told: Told::Report(text),
-                },
-            ),
-            Err(AllocError) => self.lose(rt, lines),
-        }
-    }
-}
-
 /// What the log knows of a connection.
 #[derive(Drop)]
 pub struct Watch {
@@ -156,6 +95,36 @@ impl Log {
             }),
             bell: Bell::new(),
             is_closed: AtomicBool::new(false),
+        }
+    }
+
+    /// Leaves the report on a connection to be printed, behind its lines.
+    pub fn report<R: Wait + Clock>(
+        &self,
+        rt: &R,
+        alloc: Global,
+        methods: &Methods,
+        connection: Connection,
+        ended: &stream::Ended,
+        file: &Option<String>,
+    ) {
+        let lines = ended.calls.len().saturating_add(1);
+        let moment = self.times.now(rt);
+        let report = match self.times.form {
+            LogForm::Text => report_of(alloc, connection.peer, methods, ended, file),
+            LogForm::Json => self.objects(alloc, methods, connection, ended, file, moment),
+        };
+        match report {
+            Ok(text) => self.leave(
+                rt,
+                Batch {
+                    connection: connection.number,
+                    moment,
+                    lines,
+                    told: Told::Report(text),
+                },
+            ),
+            Err(AllocError) => self.lose(rt, lines),
         }
     }
 
@@ -264,11 +233,12 @@ impl Log {
         methods: &Methods,
         connection: Connection,
         ended: &stream::Ended,
+        file: &Option<String>,
         moment: Moment,
     ) -> Result<String, AllocError> {
         let time = self.times.text(alloc, moment)?;
         let time = time.as_ref().map_or("null", |time| time.as_str());
-        objects_of(alloc, time, connection, methods, ended)
+        objects_of(alloc, time, connection, methods, ended, file)
     }
 
     /// So many lines are lost.

@@ -1,4 +1,4 @@
-//! `interop parts`: a connection served over memory, from hexadecimal text to the frames that were written.
+//! `interop parts`: a connection served over memory, from text to the frames that were written.
 //!
 //! The whole report is made before any of it is written, so out of memory prints nothing.
 
@@ -6,16 +6,19 @@ use crate::body::RunFault;
 use crate::memory::{MemoryInput, MemoryOutput};
 use crate::streams::Streams;
 use crate::text::bytes_of;
+use capture::Side;
 use connection::{Ending, Gate, Served, serve_undrained};
 use device::{ConnRead, ConnWrite, Marked, read_all, write_all};
 use h2frame::FrameReader;
 use handlers::Methods;
-use std::alloc::Global;
+use std::alloc::{AllocError, Global};
+use std::str;
 use std::sync::{Arc, Wait};
 use std::thread::Threads;
 use std::time::Clock;
+use trace::{InputFault, Sent, sent_of};
 
-/// Reads a connection's bytes as hexadecimal text, to the end of the input, and serves them. Then it writes what the
+/// Reads a connection's bytes as hexadecimal text, or as what `serve --record` writes, to the end of the input, and serves them. Then it writes what the
 /// connection was answered with, stream by stream, and how it ended. Its calls go on when the gate lets them.
 pub fn run_parts<R, G, I, O>(
     rt: R,
@@ -32,7 +35,7 @@ where
     R: Threads + Wait + Clock + Copy + Send + Sync + Drop + 'static,
 {
     let text = read_all(alloc, input)?;
-    let bytes = bytes_of(alloc, text)?;
+    let bytes = client_bytes(alloc, text)?;
     let mut input = Marked::new(MemoryInput::new(bytes));
     let written = Marked::new(MemoryOutput {
         bytes: Vec::new(alloc),
@@ -45,6 +48,37 @@ where
     let report = report(alloc, written.into_inner().bytes.as_slice(), ending)?;
     write_all(output, report.as_bytes())?;
     Ok(())
+}
+
+/// The bytes that a client sent: hexadecimal text has them alone; where lines name their sides, those of the client do.
+fn client_bytes(alloc: Global, text: Vec<u8>) -> Result<Vec<u8>, RunFault> {
+    if !names_sides(text.as_slice()) {
+        return Ok(bytes_of(alloc, text)?);
+    }
+    match sent_of(alloc, text.as_slice()) {
+        Ok(pieces) => Ok(joined(alloc, pieces.as_slice())?),
+        Err(InputFault::OutOfMemory) => Err(RunFault::OutOfMemory),
+        Err(_) => Err(RunFault::NotHex),
+    }
+}
+
+/// Whether a text names a side of a connection, which digits alone don't.
+fn names_sides(text: &[u8]) -> bool {
+    match str::from_utf8(text) {
+        Ok(text) => text.contains("client") || text.contains("server"),
+        Err(_) => false,
+    }
+}
+
+/// What the client sent, one after another.
+fn joined(alloc: Global, pieces: &[Sent]) -> Result<Vec<u8>, AllocError> {
+    let mut bytes = Vec::new(alloc);
+    for piece in pieces {
+        if piece.side == Side::Client {
+            bytes.extend_from_slice(piece.bytes.as_slice())?;
+        }
+    }
+    Ok(bytes)
 }
 
 /// The report on a connection on which this was written.

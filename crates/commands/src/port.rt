@@ -5,15 +5,18 @@
 //! for a thread to start. Where only so many are served, each has a thread of its own. Where the system has too few threads, or too
 //! little memory, the crate's `room` says how many connections are served at a time.
 
-use crate::log::{Logs, ended_of};
+use crate::log::ended_of;
 use crate::reporter::Reporter;
 use crate::room::Room;
 use crate::stopping::{Connection, Stop};
 use crate::stream::{Ended, Link, serve_stream};
+use crate::witness::Witness;
 use connection::{Ending, STACK};
 use handlers::Methods;
 use std::alloc::{AllocError, Global};
+use std::fs::File;
 use std::net::{TcpListener, TcpStream};
+use std::rt::Files;
 use std::sync::atomic::{AtomicU64, Ordering};
 use std::sync::{Arc, Wait};
 use std::thread::{Builder, JoinHandle, Threads};
@@ -25,12 +28,12 @@ const PAUSE: u64 = 10;
 
 /// What all connections to a port are served by.
 #[derive(Drop)]
-pub struct Service<L> {
+pub struct Service<W> {
     pub methods: Arc<Methods>,
     /// Where each that has ended is reported on.
     pub reports: Reports,
-    /// Where it is told what happens on them, if that is wanted.
-    pub log: Option<Arc<L>>,
+    /// Who sees them.
+    pub witness: Arc<W>,
     /// How it stops, if it does before the program is interrupted.
     pub stop: Option<Arc<Stop>>,
 }
@@ -47,9 +50,9 @@ pub enum Reports {
 
 /// A port, and how connections to it are served.
 #[derive(Drop)]
-struct Port<L> {
+struct Port<W> {
     listener: TcpListener,
-    service: Service<L>,
+    service: Service<W>,
     /// How many connections were taken.
     taken: AtomicU64,
     room: Room,
@@ -68,15 +71,17 @@ enum Afterwards {
 
 /// Serves connections that come, until the server has stopped, if it does, and has printed its reports. A thread of its own takes
 /// them where it does. It answers which connections are left, for which it had no more patience.
-pub fn serve_port<R, L>(
+pub fn serve_port<R, W>(
     rt: R,
     alloc: Global,
     listener: TcpListener,
-    service: Service<L>,
+    service: Service<W>,
 ) -> io::Result<Vec<Connection>>
 where
-    R: Print + Threads + Wait + Clock + Copy + Send + Sync + Drop + 'static,
-    L: Logs + Send + Sync + Drop + 'static,
+    R: Files<File = File> + Print + Eprint + Threads + Wait + Clock,
+    R: Copy + Send + Sync + Drop + 'static,
+    R::Dir: Send + Sync,
+    W: Witness + Send + Sync + Drop + 'static,
 {
     let stop = match &service.stop {
         Some(stop) => Some(Arc::try_clone(stop)?),
@@ -111,15 +116,17 @@ where
 }
 
 /// The same, in a thread of its own. That none can be made counts as want of memory.
-pub fn serve_apart<R, L>(
+pub fn serve_apart<R, W>(
     rt: R,
     alloc: Global,
     listener: TcpListener,
-    service: Service<L>,
+    service: Service<W>,
 ) -> Result<JoinHandle<()>, AllocError>
 where
-    R: Print + Threads + Wait + Clock + Copy + Send + Sync + Drop + 'static,
-    L: Logs + Send + Sync + Drop + 'static,
+    R: Files<File = File> + Print + Eprint + Threads + Wait + Clock,
+    R: Copy + Send + Sync + Drop + 'static,
+    R::Dir: Send + Sync,
+    W: Witness + Send + Sync + Drop + 'static,
 {
     let serving = thread::spawn(&rt, move || {
         // (kept first, as in `serve_next`)
@@ -133,10 +140,12 @@ where
 }
 
 /// Takes all connections that come. The threads that serve the first of them stay.
-fn take_all<R, L>(rt: R, alloc: Global, port: &Arc<Port<L>>)
+fn take_all<R, W>(rt: R, alloc: Global, port: &Arc<Port<W>>)
 where
-    R: Print + Threads + Wait + Clock + Copy + Send + Sync + Drop + 'static,
-    L: Logs + Send + Sync + Drop + 'static,
+    R: Files<File = File> + Print + Eprint + Threads + Wait + Clock,
+    R: Copy + Send + Sync + Drop + 'static,
+    R::Dir: Send + Sync,
+    W: Witness + Send + Sync + Drop + 'static,
 {
     for _ in rt.forever() {
         if !port.room.has_place(&rt)
@@ -154,10 +163,12 @@ fn pause(rt: &impl Clock) {
 }
 
 /// Takes so many connections. Once the last of them has ended, the server stops.
-fn take_some<R, L>(rt: R, alloc: Global, port: &Arc<Port<L>>, count: u16)
+fn take_some<R, W>(rt: R, alloc: Global, port: &Arc<Port<W>>, count: u16)
 where
-    R: Print + Threads + Wait + Clock + Copy + Send + Sync + Drop + 'static,
-    L: Logs + Send + Sync + Drop + 'static,
+    R: Files<File = File> + Print + Eprint + Threads + Wait + Clock,
+    R: Copy + Send + Sync + Drop + 'static,
+    R::Dir: Send + Sync,
+    W: Witness + Send + Sync + Drop + 'static,
 {
     let mut left = count;
     for _ in rt.forever() {
@@ -178,15 +189,17 @@ where
 
 /// Takes the next connection, and starts a thread that serves it. One that no thread can be made for is ended, as is one that comes
 /// while the server stops.
-fn serve_next<R, L>(
+fn serve_next<R, W>(
     rt: R,
     alloc: Global,
-    port: &Arc<Port<L>>,
+    port: &Arc<Port<W>>,
     afterwards: Afterwards,
 ) -> io::Result<()>
 where
-    R: Print + Threads + Wait + Clock + Copy + Send + Sync + Drop + 'static,
-    L: Logs + Send + Sync + Drop + 'static,
+    R: Files<File = File> + Print + Eprint + Threads + Wait + Clock,
+    R: Copy + Send + Sync + Drop + 'static,
+    R::Dir: Send + Sync,
+    W: Witness + Send + Sync + Drop + 'static,
 {
     let shared = Arc::try_clone(port)?;
     let Some((stream, connection)) = port.take_next(&rt)? else {
@@ -205,17 +218,18 @@ where
 }
 
 /// Serves the connection that a thread was started for to its end, and then does what comes afterwards.
-fn serve_first<R, L>(
+fn serve_first<R, W>(
     rt: R,
     alloc: Global,
-    port: &Port<L>,
+    port: &Port<W>,
     stream: TcpStream,
     connection: Connection,
     afterwards: Afterwards,
 )
 where
-    R: Print + Threads + Wait + Clock + Copy + Send + Sync + Drop + 'static,
-    L: Logs + Send + Sync + Drop + 'static,
+    R: Files<File = File> + Print + Eprint + Threads + Wait + Clock,
+    R: Copy + Send + Sync + Drop + 'static,
+    W: Witness + Send + Sync + Drop + 'static,
 {
     let lacks = serve_one(rt, alloc, &port.service, stream, connection);
     if let Afterwards::StopsServer = afterwards {
@@ -230,10 +244,11 @@ where
 }
 
 /// Takes one connection after another, and serves each to its end, until there are too few threads for that.
-fn take_more<R, L>(rt: R, alloc: Global, port: &Port<L>)
+fn take_more<R, W>(rt: R, alloc: Global, port: &Port<W>)
 where
-    R: Print + Threads + Wait + Clock + Copy + Send + Sync + Drop + 'static,
-    L: Logs + Send + Sync + Drop + 'static,
+    R: Files<File = File> + Print + Eprint + Threads + Wait + Clock,
+    R: Copy + Send + Sync + Drop + 'static,
+    W: Witness + Send + Sync + Drop + 'static,
 {
     for _ in rt.forever() {
         if serve_taken(rt, alloc, port).is_err() {
@@ -247,10 +262,11 @@ where
 }
 
 /// Takes the next connection and serves it, unless the server stops. It fails where none could be taken.
-fn serve_taken<R, L>(rt: R, alloc: Global, port: &Port<L>) -> io::Result<()>
+fn serve_taken<R, W>(rt: R, alloc: Global, port: &Port<W>) -> io::Result<()>
 where
-    R: Print + Threads + Wait + Clock + Copy + Send + Sync + Drop + 'static,
-    L: Logs + Send + Sync + Drop + 'static,
+    R: Files<File = File> + Print + Eprint + Threads + Wait + Clock,
+    R: Copy + Send + Sync + Drop + 'static,
+    W: Witness + Send + Sync + Drop + 'static,
 {
     let Some((stream, connection)) = port.take_next(&rt)? else {
         return Ok(());
@@ -260,7 +276,7 @@ where
     Ok(())
 }
 
-impl<L> Port<L> {
+impl<W> Port<W> {
     /// Takes the next connection. One that comes while the server stops is closed at once, so that its client looks for another
     /// server.
     fn take_next(&self, rt: &impl Wait) -> io::Result<Option<(TcpStream, Connection)>> {
@@ -285,7 +301,7 @@ impl<L> Port<L> {
     }
 }
 
-impl<L> Service<L> {
+impl<W> Service<W> {
     /// The server stops, if it can.
     fn stop_all(&self, rt: &impl Wait) {
         if let Some(stop) = &self.stop {
@@ -294,43 +310,51 @@ impl<L> Service<L> {
     }
 }
 
-impl<L: Logs> Service<L> {
+impl<W: Witness> Service<W> {
     /// Has a connection that has ended reported on, where that is wanted.
     fn report<R>(&self, rt: &R, alloc: Global, connection: Connection, ended: Ended)
     where
-        R: Print + Threads + Wait + Clock + Copy + Send + Sync + Drop + 'static,
+        R: Print + Eprint + Threads + Wait + Clock + Copy + Send + Sync + Drop + 'static,
     {
-        match (&self.reports, &self.log) {
-            (Reports::Nowhere, _) => {}
-            (Reports::Printed(reporter), _) => {
-                reporter.tell(rt, alloc, &self.methods, connection.peer, ended);
+        match &self.reports {
+            Reports::Nowhere => {}
+            Reports::Printed(reporter) => {
+                let file = self.witness.file_of(connection);
+                reporter.tell(rt, alloc, &self.methods, connection.peer, ended, file);
             }
-            (Reports::Logged, Some(log)) => {
-                log.report(rt, alloc, &self.methods, connection, &ended);
+            Reports::Logged => {
+                self.witness
+                    .report(rt, alloc, &self.methods, connection, &ended);
             }
-            (Reports::Logged, None) => {}
         }
     }
 }
 
 /// Serves a connection to its end, and has it reported on where that is wanted. One that was drained has had all by then, and is read on
 /// after that for a moment. Whether threads or memory were wanting.
-fn serve_one<R, L>(
+fn serve_one<R, W>(
     rt: R,
     alloc: Global,
-    service: &Service<L>,
+    service: &Service<W>,
     stream: TcpStream,
     connection: Connection,
 ) -> bool
 where
-    R: Print + Threads + Wait + Clock + Copy + Send + Sync + Drop + 'static,
-    L: Logs + Send + Sync + Drop + 'static,
+    R: Files<File = File> + Print + Eprint + Threads + Wait + Clock,
+    R: Copy + Send + Sync + Drop + 'static,
+    W: Witness + Send + Sync + Drop + 'static,
 {
-    let logged = match &service.log {
-        Some(log) => L::begin(log, &rt, alloc, connection),
-        None => None,
-    };
-    let served = serve_stream(rt, alloc, stream, &service.methods, &logged, &service.stop);
+    let logged = service.witness.begin(&rt, alloc, connection);
+    let eye = service.witness.look(rt, &stream, connection);
+    let served = serve_stream(
+        rt,
+        alloc,
+        stream,
+        &service.methods,
+        &logged,
+        eye,
+        &service.stop,
+    );
     if let Some(logged) = &logged {
         logged.end(&rt, how_of(&served));
     }

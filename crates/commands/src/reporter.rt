@@ -63,9 +63,10 @@ impl Reporter {
         methods: &Methods,
         peer: SocketAddr,
         ended: Ended,
+        file: Option<String>,
     ) {
         let lines = ended.calls.len().saturating_add(1);
-        let report = report_of(alloc, peer, methods, &ended);
+        let report = report_of(alloc, peer, methods, &ended, &file);
         let is_to_print = self.waiting.lock(rt).keep(report, lines);
         if is_to_print {
             self.print_all(rt, alloc);

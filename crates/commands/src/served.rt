@@ -10,17 +10,22 @@ use handlers::Methods;
 use std::alloc::{AllocError, Global};
 use std::net::SocketAddr;
 
-/// The lines on a connection of this peer that ended so.
+/// The lines on a connection of this peer that ended so, whose bytes are in the file, where there is one.
 pub fn report_of(
     alloc: Global,
     peer: SocketAddr,
     methods: &Methods,
     ended: &Ended,
+    file: &Option<String>,
 ) -> Result<String, AllocError> {
     let mut text = String::new(alloc);
     let how = ended_of(ended.ending).text();
     let count = ended.calls.len();
-    writeln!(text, "connection {peer} {how} calls {count}")?;
+    write!(text, "connection {peer} {how} calls {count}")?;
+    if let Some(file) = file {
+        write!(text, " record {file}")?;
+    }
+    text.push('\n')?;
     for call in &ended.calls {
         tell(&mut text, methods, call)?;
     }
@@ -84,6 +89,7 @@ pub fn objects_of(
     connection: Connection,
     methods: &Methods,
     ended: &Ended,
+    file: &Option<String>,
 ) -> Result<String, AllocError> {
     let Connection { number, peer } = connection;
     let mut text = String::new(alloc);
@@ -94,6 +100,9 @@ pub fn objects_of(
     json::string(alloc, &mut text, "peer", peer.as_str())?;
     json::string(alloc, &mut text, "how", ended_of(ended.ending).text())?;
     json::number(&mut text, "calls", ended.calls.len() as u64)?;
+    if let Some(file) = file {
+        json::string(alloc, &mut text, "record", file.as_str())?;
+    }
     json::end(&mut text)?;
     for call in &ended.calls {
         json::begin(&mut text, time)?;

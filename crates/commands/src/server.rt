@@ -4,31 +4,33 @@ ghost use Rattle.std.specs.Prelude.{◌≡◌, ℕ, List, map, IfOk};
 ghost use Rattle.std.specs.Io.KnownBytes.{Appends};
 ghost use Rattle.cases.specs.Report.{all_cases, have_passed};
 ghost use Rattle.cases.specs.declared.report.Outcome.{Outcome as Ended};
-ghost use Rattle.commands.specs.Summing.{self_report, verdict_on};
+ghost use Rattle.commands.specs.Summing.{self_report};
 ghost use Rattle.results.specs.declared.outcome.Outcome.{Outcome};
+ghost use Rattle.trials.specs.Verdicts.{verdict_on};
 
-use crate::attempt::{Target, outcomes_of, passed_since, print_summary};
-use crate::client::{PATIENCE, run_all_cases};
-use crate::connecting::Place;
 use crate::listening::{listen, tell_ready};
 use crate::log::Log;
 use crate::port::{Reports, Service, serve_apart, serve_port};
 use crate::reporter::Reporter;
 use crate::stopping::{Connection, Stop};
 use crate::times::Times;
+use crate::witness::Witnesses;
 use cases::{ReportFault, Windows, have_passed};
 use connlog::json;
 use device::{ConnRead, ConnWrite, Marked};
 use handlers::Methods;
+use recorder::Recorder;
 use results::Suite;
 use std::alloc::Global;
-use std::io::StdinLock;
+use std::fs::File;
+use std::io::{ErrorKind, StdinLock};
 use std::net::{Net, SocketAddr, TcpListener, TcpStream};
 use std::rt::Files;
 use std::sync::{Arc, Wait};
 use std::thread::Threads;
 use std::time::{Clock, Duration, Instant};
 use std::{io, thread};
+use trials::{PATIENCE, Place, Target, outcomes_of, passed_since, print_summary, run_all_cases};
 use words::{LOOPBACK, LogForm, ServeWords};
 
 /// How long standard input isn't read once it has said something, in milliseconds.
@@ -42,13 +44,15 @@ const PAUSE: u64 = 100;
 pub fn serve<R>(rt: R, methods: Arc<Methods>, words: ServeWords<'_>) -> io::Result<bool>
 where
     R: Net<Stream = TcpStream, Listener = TcpListener> + Input<Reader = StdinLock<'static>>,
-    R: Files + Print + Eprint + AllocGlobal,
+    R: Files<File = File> + Print + Eprint + AllocGlobal,
     R: Threads + Wait + Clock + Copy + Send + Sync + Drop + 'static,
+    R::Dir: Send + Sync,
 {
     let alloc = rt.alloc();
     let listener = listen(&rt, words.host, words.port)?;
     let address = listener.local_addr()?;
     let times = words.log.map(|form| Times::begin(&rt, form, words.time));
+    let recorder = recorder_of(&rt, alloc, words)?;
     say_listening(&rt, alloc, address, times)?;
     tell_ready(&rt, alloc, address, words)?;
     let stop = stop_of(rt, alloc, words)?;
@@ -58,16 +62,24 @@ where
         } else {
             Reports::Nowhere
         };
-        let service: Service<Log> = Service {
+        let witnesses = Witnesses {
+            log: None,
+            recorder: again(&recorder)?,
+        };
+        let service = Service {
             methods,
             reports,
-            log: None,
+            witness: Arc::new(alloc, witnesses)?,
             stop,
         };
         let left = serve_port(rt, alloc, listener, service)?;
-        return Ok(name_left(&rt, words.patience, left.as_slice()));
+        return end(&rt, &recorder, words.patience, left.as_slice());
     };
     let log = Arc::new(alloc, Log::new(alloc, times))?;
+    let witnesses = Witnesses {
+        log: Some(Arc::try_clone(&log)?),
+        recorder: again(&recorder)?,
+    };
     let service = Service {
         methods,
         reports: if words.has_report {
@@ -75,11 +87,49 @@ where
         } else {
             Reports::Nowhere
         },
-        log: Some(Arc::try_clone(&log)?),
+        witness: Arc::new(alloc, witnesses)?,
         stop,
     };
     let left = serve_logged(rt, alloc, listener, service, log)?;
-    Ok(name_left(&rt, words.patience, left.as_slice()))
+    end(&rt, &recorder, words.patience, left.as_slice())
+}
+
+/// Where it is written what passes, if the words say so.
+fn recorder_of<R: Files<File = File> + Eprint>(
+    rt: &R,
+    alloc: Global,
+    words: ServeWords<'_>,
+) -> io::Result<Option<Arc<Recorder>>> {
+    match Recorder::open(rt, alloc, words.tracing, words.record) {
+        Ok(recorder) => Ok(recorder),
+        Err(_said) => Err(unwritten()),
+    }
+}
+
+/// Another one of the same recorder.
+fn again(recorder: &Option<Arc<Recorder>>) -> io::Result<Option<Arc<Recorder>>> {
+    match recorder {
+        Some(recorder) => Ok(Some(Arc::try_clone(recorder)?)),
+        None => Ok(None),
+    }
+}
+
+fn unwritten() -> io::Error {
+    io::Error::new(ErrorKind::Other, "what passes can't be written")
+}
+
+/// The server has stopped. It fails where it couldn't be written what passed.
+fn end(
+    rt: &impl Eprint,
+    recorder: &Option<Arc<Recorder>>,
+    seconds: u16,
+    left: &[Connection],
+) -> io::Result<bool> {
+    let has_ended = name_left(rt, seconds, left);
+    match recorder {
+        Some(recorder) if recorder.has_failed() => Err(unwritten()),
+        _ => Ok(has_ended),
+    }
 }
 
 /// Says where the server listens.
@@ -163,11 +213,13 @@ fn serve_logged<R>(
     rt: R,
     alloc: Global,
     listener: TcpListener,
-    service: Service<Log>,
+    service: Service<Witnesses>,
     log: Arc<Log>,
 ) -> io::Result<Vec<Connection>>
 where
-    R: Print + Eprint + Threads + Wait + Clock + Copy + Send + Sync + Drop + 'static,
+    R: Files<File = File> + Print + Eprint + Threads + Wait + Clock,
+    R: Copy + Send + Sync + Drop + 'static,
+    R::Dir: Send + Sync,
 {
     let shared = Arc::try_clone(&log)?;
     let stop = match &service.stop {
@@ -202,7 +254,8 @@ pub fn run_self<R, W>(
 where
     W: ConnWrite,
     R: Net<Stream = TcpStream, Listener = TcpListener> + Print + Eprint + AllocGlobal,
-    R: Threads + Wait + Clock + Copy + Send + Sync + Drop + 'static,
+    R: Files<File = File> + Threads + Wait + Clock + Copy + Send + Sync + Drop + 'static,
+    R::Dir: Send + Sync,
     ensures { IfOk result (λ passed. (ended : List Ended) × (outcomes : List Outcome)
         × (milliseconds : ℕ)
         × (map (λ one. one.case) ended ≡ all_cases)
@@ -212,10 +265,10 @@ where
         × (passed ≡ have_passed ended)) }
 {
     let alloc = rt.alloc();
-    let service: Service<Log> = Service {
+    let service = Service {
         methods,
         reports: Reports::Nowhere,
-        log: None,
+        witness: Arc::new(alloc, Witnesses::none())?,
         stop: None,
     };
     let _serving = serve_apart(rt, alloc, listener, service)?;
@@ -223,6 +276,7 @@ where
         place: Place::new(LOOPBACK, port),
         patience: PATIENCE,
         windows: Windows::Held,
+        recorder: &None,
     };
     let begun = Instant::now(&rt);
     let ended = run_all_cases(&rt, alloc, target, output)?;

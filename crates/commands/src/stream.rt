@@ -8,6 +8,7 @@ use connection::{CallReport, Drainer, Ending, Gate, Served, serve_connection, se
 use device::Marked;
 use h2frame::StreamId;
 use handlers::Methods;
+use recorder::Eye;
 use std::alloc::{AllocError, Global};
 use std::io::{ErrorKind, Read, Write};
 use std::marker::Brand;
@@ -18,6 +19,7 @@ use std::sync::{Arc, Wait};
 use std::thread::Threads;
 use std::time::{Clock, Duration, Instant};
 use std::{io, thread};
+use tap::Tapped;
 
 /// How long a connection that was drained is read on at most, so that its client reads what was written, in milliseconds.
 const PARTING: u64 = 1_000;
@@ -186,13 +188,13 @@ pub struct Ended {
 
 /// What a connection is served over.
 #[derive(Drop)]
-struct Ends<R> {
-    input: Marked<LinkInput<R>>,
-    output: Marked<LinkOutput<R>>,
+struct Ends<R: Wait + Clock + Eprint + Drop> {
+    input: Tapped<Marked<LinkInput<R>>, Eye<R>>,
+    output: Tapped<Marked<LinkOutput<R>>, Eye<R>>,
     gate: Arc<Link>,
 }
 
-/// Serves a connection to its end, shows it to its log where it has one, and has it drained where the server stops. It answers its link
+/// Serves a connection to its end, shows it to its log and to whoever looks at it, and has it drained where the server stops. It answers its link
 /// too where it was drained, which is to finish and to part. It fails where nothing was read of it.
 pub fn serve_stream<R>(
     rt: R,
@@ -200,15 +202,16 @@ pub fn serve_stream<R>(
     stream: TcpStream,
     methods: &Arc<Methods>,
     logged: &Option<Logged>,
+    eye: Option<Eye<R>>,
     stop: &Option<Arc<Stop>>,
 ) -> io::Result<(Ended, Option<Arc<Link>>)>
 where
-    R: Threads + Wait + Clock + Copy + Send + Sync + Drop + 'static,
+    R: Eprint + Threads + Wait + Clock + Copy + Send + Sync + Drop + 'static,
 {
     // So that a small frame leaves at once.
     stream.set_nodelay(true)?;
     let methods = Arc::try_clone(methods)?;
-    let ends = ends_of(rt, alloc, stream, logged)?;
+    let ends = ends_of(rt, alloc, stream, logged, eye)?;
     if let Some(stop) = stop {
         let blanks = (Blank::new(1), Blank::new(1), Blank::new(1));
         return serve_until::<Brand, Brand, Brand, R>(rt, alloc, blanks, ends, methods, stop);
@@ -237,7 +240,7 @@ where
     A: Ledger + Send + Sync + 'static,
     B: Ledger + Send + Sync + 'static,
     C: Ledger + Send + Sync + 'static,
-    R: Threads + Wait + Clock + Copy + Send + Sync + Drop + 'static,
+    R: Eprint + Threads + Wait + Clock + Copy + Send + Sync + Drop + 'static,
     requires received { (blanks.0.name ≡ A.name) × (blanks.0.parts ≡ A.parts) × (0 < A.parts) }
     requires admitted { (blanks.1.name ≡ B.name) × (blanks.1.parts ≡ B.parts) × (0 < B.parts) }
     requires announced { (blanks.2.name ≡ C.name) × (blanks.2.parts ≡ C.parts) × (0 < C.parts) }
@@ -268,9 +271,10 @@ fn ends_of<R>(
     alloc: Global,
     stream: TcpStream,
     logged: &Option<Logged>,
+    eye: Option<Eye<R>>,
 ) -> Result<Ends<R>, AllocError>
 where
-    R: Copy + Drop,
+    R: Wait + Clock + Eprint + Copy + Drop,
 {
     let link = Arc::new(alloc, Link::new(stream))?;
     let output = Marked::new(LinkOutput {
@@ -278,6 +282,10 @@ where
         link: Arc::try_clone(&link)?,
         logged: again(logged)?,
     });
+    let second = match &eye {
+        Some(eye) => Some(eye.try_clone()?),
+        None => None,
+    };
     let gate = Arc::try_clone(&link)?;
     let input = Marked::new(LinkInput {
         rt,
@@ -285,8 +293,8 @@ where
         logged: again(logged)?,
     });
     Ok(Ends {
-        input,
-        output,
+        input: Tapped::new(input, eye),
+        output: Tapped::new(output, second),
         gate,
     })
 }

@@ -12,7 +12,7 @@ pub struct Command {
     text: &'static str,
 }
 
-const ALL: [Command; 8] = [
+const ALL: [Command; 9] = [
     Command {
         name: "body",
         usage: "  interop [body --cut N]",
@@ -23,7 +23,7 @@ const ALL: [Command; 8] = [
     Command {
         name: "case",
         usage: "  interop case NAME .. --port P [--host H] [--times N] [--streams K] [--timeout S]
-               [--soak_iterations N ..] [RUN ..]
+               [--soak_iterations N ..] [SEEN ..] [RUN ..]
   interop case --list",
         text: "  case NAME ..   run the test cases of these names as a client against the server at port P of
                  H (127.0.0.1 if no host is given), or the fourteen where NAME is all, and
@@ -46,9 +46,19 @@ const ALL: [Command; 8] = [
                  came (last stream and error), a line of the case, and one that sums up",
     },
     Command {
+        name: "frames",
+        usage: "  interop frames [FILE [FILE]] [--side (client | server)] [--full]",
+        text: "  frames         print the frames in the bytes of a connection, as --trace does: of a --pcap, a file of
+                 --record, or one side's bytes, as hexadecimal text or as they are; two files have a
+                 side each. Which side sent bytes is told by a client's preface, else those of one
+                 file are the server's, and the first of two has the client's; --side says it of the
+                 first. Without a file it reads standard input; --full prints all bytes of values,
+                 and how fields are spelled",
+    },
+    Command {
         name: "misbehave",
         usage: "  interop misbehave NAME .. --port P [--host H] [--timeout S] [--port-file FILE]
-                    [--ready-file FILE] [RUN ..]
+                    [--ready-file FILE] [SEEN ..] [RUN ..]
   interop misbehave --list [--verbose]",
         text: "  misbehave NAME misbehave as a server on port P of H (127.0.0.1 if no host is given) in the way of
                  this name, or in the ways of several, or in all, each on the next port. It says
@@ -74,7 +84,8 @@ const ALL: [Command; 8] = [
         name: "serve",
         usage: "  interop serve (--port P | --any-port) [--host H] [--conns N] [--report]
                 [--log [text | json]] [--time (seconds | utc)] [--drain-on-eof]
-                [--drain-timeout S] [--port-file FILE] [--ready-file FILE]",
+                [--drain-timeout S] [--port-file FILE] [--ready-file FILE] [--record DIR]
+                [SEEN ..]",
         text: "  serve          serve grpc.testing.TestService on port P of H (127.0.0.1 if no host is given),
                  or on a port that the system chooses, until it is interrupted, or N connections
                  were served; the line listening HOST:PORT tells where; with --report print a
@@ -87,12 +98,13 @@ const ALL: [Command; 8] = [
                  where the last of N connections has ended. What lives after S seconds of that (10
                  if not given) is named, and left, with status 1. ./interop does the same on SIGINT
                  and SIGTERM; a second one ends it at once. Once it listens --port-file has the
-                 port, and --ready-file, which is written last, the address",
+                 port, and --ready-file, which is written last, the address. --record DIR has what
+                 passed on the Nth connection in N.txt, which frames and parts take",
     },
     Command {
         name: "wire",
         usage: "  interop wire CASES .. --port P [--host H] [--silence S] [--timeout T] [--jobs N]
-               [--verbose] [RUN ..]
+               [--verbose] [SEEN ..] [RUN ..]
   interop wire --list",
         text: "  wire CASES ..  send the server at port P of H what no real client would, judge what it answers
                  by RFC 9113, RFC 7541 and gRPC, and print a line of each case: of all, of a
@@ -121,6 +133,13 @@ const RUN: &str =
                  standard output) has an object a line as each case ends, --junit FILE the XML of
                  JUnit, and standard output TAP with --tap; --save DIR has the bytes of each case
                  that failed, which parts takes
+";
+
+const SEEN: &str =
+    "  SEEN           what passes on connections. --trace prints a line of each frame on standard error,
+                 and with --trace full all bytes of values, and how fields are spelled;
+                 --trace-file FILE has these lines in its place. --pcap FILE has a capture for
+                 Wireshark and tshark (tshark -d tcp.port==P,http2)
 ";
 
 const OPTIONS: &str = "  -h, --help     print this text; behind a command, that of the command
@@ -187,12 +206,15 @@ fn print_whole(rt: &impl Print) -> io::Result<()> {
         let text = command.text;
         println!(rt; "{text}")?;
     }
-    println!(rt; "{RUN}{OPTIONS}\n{CASES}\n{STATUS}")
+    println!(rt; "{SEEN}{RUN}{OPTIONS}\n{CASES}\n{STATUS}")
 }
 
 fn print_one(rt: &impl Print, command: Command) -> io::Result<()> {
     let Command { name, usage, text } = command;
     println!(rt; "Usage:\n{usage}\n\n{text}\n")?;
+    if matches!(name, "case" | "misbehave" | "serve" | "wire") {
+        println!(rt; "{SEEN}")?;
+    }
     if matches!(name, "case" | "misbehave" | "wire") {
         println!(rt; "{RUN}")?;
     }

@@ -1,6 +1,6 @@
 //! The program `interop`: the gRPC interop test server, and the client that tries such a server.
 //!
-//! It has eight commands:
+//! It has nine commands:
 //!
 //! - `interop serve --port P` serves `grpc.testing.TestService` on a port of this machine.
 //! - `interop misbehave NAME --port P` misbehaves as a server, and says whether the client does right.
@@ -9,12 +9,13 @@
 //! - `interop self` runs the test cases against a server of its own.
 //! - `interop drain` drains a server of its own while a client has a call.
 //! - `interop parts` serves the bytes of one connection, read as hexadecimal text, and prints what they are answered with.
+//! - `interop frames` prints the frames in the bytes of connections, a line each.
 //! - `interop body --cut N` reads the joined DATA bytes of one call as hexadecimal text, takes them in pieces of N bytes, and
 //!   prints the messages that they spell (gRPC over HTTP/2, "Length-Prefixed-Message"), then the end or the fault. It reads all of
 //!   its input before it prints anything, and its text is a function of that input, in whatever pieces.
 //!
-//! The crate `words` reads its words, and the crate `commands` does what they say. Here is what reaches for the process: its
-//! words, its standard input and output, and its exit status.
+//! The crate `words` reads its words, and the crates `commands`, `trials` and `frames` do what they say. Here is what reaches for the
+//! process: its words, its standard input and output, and its exit status.
 #![tactic(auto)]
 
 ghost use Rattle.std.specs.Prelude.{◌<◌};
@@ -24,12 +25,10 @@ mod help;
 mod misbehaving;
 mod signed;
 
-use commands::{
-    CaseWords, Reason, RunFault, ServeWords, TrialFault, Verdict, WireWords, Words, WordsFault,
-    listen, read_words, run_body, run_case, run_drain, run_parts, run_self, run_wire, serve,
-};
+use commands::{RunFault, listen, run_body, run_drain, run_parts, run_self, serve};
 use connection::OpenGate;
 use device::Marked;
+use frames::{FramesFault, run_frames};
 use handlers::{
     CacheableUnaryCall, EmptyCall, FullDuplexCall, HalfDuplexCall, Method, Methods,
     StreamingInputCall, StreamingOutputCall, UnaryCall,
@@ -37,6 +36,7 @@ use handlers::{
 use help::Help;
 use misbehaving::run_misbehave;
 use std::alloc::{AllocError, Global};
+use std::fs::File;
 use std::io::{ErrorKind, IsTerminal, StdinLock};
 use std::net::{Net, TcpListener, TcpStream};
 use std::process::ExitCode;
@@ -45,7 +45,11 @@ use std::sync::{Arc, Wait};
 use std::thread::Threads;
 use std::time::Clock;
 use std::{env, io};
-use words::{LOOPBACK, MisbehaveWords, Port};
+use trials::{TrialFault, Verdict, run_case, run_wire};
+use words::{
+    CaseWords, FramesWords, LOOPBACK, MisbehaveWords, Port, Reason, ServeWords, WireWords, Words,
+    WordsFault, read_words,
+};
 
 const CASE_FAILED: u8 = 1;
 
@@ -76,6 +80,25 @@ fn print_body<R: Input + Print + Eprint + AllocGlobal>(rt: &R, cut: usize) -> u8
     }
 }
 
+// Prints the frames in the bytes that the words name, and answers the exit status.
+fn print_frames<R>(rt: &R, words: &FramesWords<'_>) -> u8
+where
+    R: Files + Input + Print + Eprint + AllocGlobal,
+{
+    let mut input = Marked::new(rt.reader());
+    let mut output = Marked::new(io::writer(rt));
+    match run_frames(rt, words, &mut input, &mut output) {
+        Ok(()) => 0,
+        Err(FramesFault::BothSides) => complain(rt, "one of two files has both sides"),
+        Err(FramesFault::BadInput(fault)) => {
+            let _said = eprintln!(rt; "interop: bad input: {fault}");
+            BAD_WORDS
+        }
+        Err(FramesFault::ReadFailed | FramesFault::WriteFailed | FramesFault::OutOfMemory) =>
+            FAILED,
+    }
+}
+
 // The exit status of a run of cases.
 fn status_of(answer: Result<Verdict, TrialFault>) -> u8 {
     match answer {
@@ -89,8 +112,8 @@ fn status_of(answer: Result<Verdict, TrialFault>) -> u8 {
 // Lists or runs the cases that the words choose, and answers the exit status.
 fn try_server<R>(rt: &R, words: CaseWords<'_>, is_shown: bool) -> u8
 where
-    R: Net<Stream = TcpStream, Listener = TcpListener> + Files + Print + Eprint + AllocGlobal,
-    R: Clock + Threads + Copy + Send + Sync + Drop + 'static,
+    R: Net<Stream = TcpStream, Listener = TcpListener> + Print + Eprint + AllocGlobal,
+    R: Files<File = File> + Threads + Wait + Clock + Copy + Send + Sync + Drop + 'static,
 {
     let mut output = Marked::new(io::writer(rt));
     status_of(run_case(*rt, words, is_shown, &mut output))
@@ -99,8 +122,8 @@ where
 // Lists or runs the misbehaviours that the words choose, and answers the exit status.
 fn try_client<R>(rt: &R, words: MisbehaveWords<'_>, is_shown: bool) -> u8
 where
-    R: Net<Stream = TcpStream, Listener = TcpListener> + Files + Print + Eprint + AllocGlobal,
-    R: Clock + Copy + Drop,
+    R: Net<Stream = TcpStream, Listener = TcpListener> + Print + Eprint + AllocGlobal,
+    R: Files<File = File> + Wait + Clock + Copy + Drop,
 {
     let mut output = Marked::new(io::writer(rt));
     status_of(run_misbehave(*rt, words, is_shown, &mut output))
@@ -109,8 +132,8 @@ where
 // Lists or runs the wire cases that the words choose, and answers the exit status.
 fn try_wire<R>(rt: &R, words: WireWords<'_>, is_shown: bool) -> u8
 where
-    R: Net<Stream = TcpStream, Listener = TcpListener> + Files + Print + Eprint + AllocGlobal,
-    R: Threads + Wait + Clock + Copy + Send + Sync + Drop + 'static,
+    R: Net<Stream = TcpStream, Listener = TcpListener> + Print + Eprint + AllocGlobal,
+    R: Files<File = File> + Threads + Wait + Clock + Copy + Send + Sync + Drop + 'static,
 {
     let mut output = Marked::new(io::writer(rt));
     status_of(run_wire(*rt, words, is_shown, &mut output))
@@ -129,8 +152,9 @@ enum Server<'a> {
 fn obey_server<R>(rt: R, server: Server<'_>) -> Result<u8, AllocError>
 where
     R: Net<Stream = TcpStream, Listener = TcpListener> + Input<Reader = StdinLock<'static>>,
-    R: Files + Print + Eprint + AllocGlobal,
+    R: Files<File = File> + Print + Eprint + AllocGlobal,
     R: Threads + Wait + Clock + Copy + Send + Sync + Drop + 'static,
+    R::Dir: Send + Sync,
 {
     let alloc = rt.alloc();
     let mut methods: Vec<Box<dyn Method>> = Vec::new(alloc);
@@ -154,8 +178,9 @@ where
 fn serve_all<R>(rt: R, methods: Arc<Methods>, words: ServeWords<'_>) -> u8
 where
     R: Net<Stream = TcpStream, Listener = TcpListener> + Input<Reader = StdinLock<'static>>,
-    R: Files + Print + Eprint + AllocGlobal,
+    R: Files<File = File> + Print + Eprint + AllocGlobal,
     R: Threads + Wait + Clock + Copy + Send + Sync + Drop + 'static,
+    R::Dir: Send + Sync,
 {
     match serve(rt, methods, words) {
         Ok(true) => 0,
@@ -168,7 +193,8 @@ where
 fn try_cases<R>(rt: R, methods: Arc<Methods>, port: u16) -> u8
 where
     R: Net<Stream = TcpStream, Listener = TcpListener> + Print + Eprint + AllocGlobal,
-    R: Threads + Wait + Clock + Copy + Send + Sync + Drop + 'static,
+    R: Files<File = File> + Threads + Wait + Clock + Copy + Send + Sync + Drop + 'static,
+    R::Dir: Send + Sync,
 {
     let Ok(listener) = listen(&rt, LOOPBACK, Port::Number(port)) else {
         return FAILED;
@@ -185,7 +211,8 @@ where
 fn try_drain<R>(rt: R, methods: Arc<Methods>, port: u16) -> u8
 where
     R: Net<Stream = TcpStream, Listener = TcpListener> + Print + Eprint + AllocGlobal,
-    R: Threads + Wait + Clock + Copy + Send + Sync + Drop + 'static,
+    R: Files<File = File> + Threads + Wait + Clock + Copy + Send + Sync + Drop + 'static,
+    R::Dir: Send + Sync,
 {
     let Ok(listener) = listen(&rt, LOOPBACK, Port::Number(port)) else {
         return FAILED;
@@ -232,7 +259,8 @@ where
     R: Net<Stream = TcpStream, Listener = TcpListener> + Input<Reader = StdinLock<'static>>,
     R: Print + Eprint + AllocGlobal,
     R: Threads + Wait + Clock + Copy + Send + Sync + Drop + 'static,
-    R: Files,
+    R: Files<File = File>,
+    R::Dir: Send + Sync,
 {
     if let Some(said) = describe(rt, words) {
         return match said {
@@ -256,7 +284,8 @@ where
     R: Net<Stream = TcpStream, Listener = TcpListener> + Input<Reader = StdinLock<'static>>,
     R: Print + Eprint + AllocGlobal,
     R: Threads + Wait + Clock + Copy + Send + Sync + Drop + 'static,
-    R: Files,
+    R: Files<File = File>,
+    R::Dir: Send + Sync,
     requires { IsInRange words }
 {
     match words {
@@ -268,6 +297,7 @@ where
         Words::Drain(port) => obey_server(*rt, Server::Drain(port)),
         Words::Misbehave(words) => Ok(try_client(rt, words, is_shown)),
         Words::Wire(words) => Ok(try_wire(rt, words, is_shown)),
+        Words::Frames(words) => Ok(print_frames(rt, &words)),
     }
 }
 

@@ -1,14 +1,17 @@
 //! The command `misbehave`: a server that misbehaves, for authors of clients (the crate `misbehave`).
 
-use commands::{TrialFault, Verdict, choice_of, refuse_choice};
 use device::ConnWrite;
 use misbehave::{Misbehaviour, Place, Played, RunFault, Stage, list, misbehaviours};
+use recorder::{Overlooked, Recorder};
 use results::{ChoiceFault, Entry, Level, Suite, chosen};
 use sinks::{Run, Sinks, write_whole};
 use std::alloc::{AllocError, Global};
+use std::fs::File;
 use std::net::Net;
 use std::rt::Files;
+use std::sync::Wait;
 use std::time::Clock;
+use trials::{TrialFault, Verdict, choice_of, refuse_choice, unless_failed};
 use words::{LOOPBACK, MisbehaveRun, MisbehaveWords};
 
 /// Lists the misbehaviours, or runs those that the words choose, and tells what came of each. Where `is_shown`, standard error is
@@ -20,7 +23,7 @@ pub fn run_misbehave<R, W>(
     output: &mut W,
 ) -> Result<Verdict, TrialFault>
 where
-    R: Net + Files + Eprint + AllocGlobal + Clock + Copy + Drop,
+    R: Net + Files<File = File> + Eprint + AllocGlobal + Wait + Clock + Copy + Drop,
     W: ConnWrite,
 {
     let alloc = rt.alloc();
@@ -36,23 +39,21 @@ where
     let plays = misbehaviours(alloc)?;
     let entries = entries_of(alloc, plays.as_slice())?;
     let choice = choice_of(words.names.as_slice(), &words.reporting);
-    match chosen(alloc, entries.as_slice(), choice) {
-        Ok(places) => {
-            let chosen = picked(alloc, plays.as_slice(), places.as_slice())?;
-            let names = names_of(alloc, plays.as_slice())?;
-            run_chosen(
-                rt,
-                alloc,
-                chosen,
-                names.as_slice(),
-                &words,
-                is_shown,
-                output,
-            )
-        }
-        Err(ChoiceFault::NoCase(name)) => Ok(refuse_name(&rt, plays.as_slice(), name)),
-        Err(fault) => refuse_choice(&rt, fault),
+    let places = match chosen(alloc, entries.as_slice(), choice) {
+        Ok(places) => places,
+        Err(ChoiceFault::NoCase(name)) => return Ok(refuse_name(&rt, plays.as_slice(), name)),
+        Err(fault) => return refuse_choice(&rt, fault),
+    };
+    let last = usize::from(words.port)
+        .saturating_add(places.len())
+        .saturating_sub(1);
+    if last > usize::from(u16::MAX) {
+        return Ok(refuse_port(&rt, &words, last));
     }
+    let recorder = Recorder::open(&rt, alloc, words.tracing, None)?;
+    let net = Overlooked::new(rt, &recorder);
+    let verdict = run_chosen(rt, net, alloc, places.as_slice(), &words, is_shown, output)?;
+    unless_failed(&recorder, verdict)
 }
 
 /// Says that there is no misbehaviour of this name, and which there are.
@@ -115,33 +116,31 @@ fn picked(
     Ok(picked)
 }
 
-/// Listens on a port for each of these, and runs them one after another.
-fn run_chosen<R, W>(
+/// Listens on a port of this network for each of the misbehaviours at these places, and runs them one after another.
+// (they are made here once more: a call that passes a network which borrows may pass no type with texts of the program's own)
+fn run_chosen<R, N, W>(
     rt: R,
+    net: N,
     alloc: Global,
-    plays: Vec<Misbehaviour>,
-    names: &[&str],
+    places: &[usize],
     words: &MisbehaveRun<'_>,
     is_shown: bool,
     output: &mut W,
 ) -> Result<Verdict, TrialFault>
 where
-    R: Net + Files + Eprint + AllocGlobal + Clock + Copy + Drop,
+    R: Files + Eprint + AllocGlobal + Clock + Copy + Drop,
+    N: Net + Clock + Copy + Drop,
     W: ConnWrite,
 {
-    let count = plays.len();
-    let last = usize::from(words.port)
-        .saturating_add(count)
-        .saturating_sub(1);
-    if last > usize::from(u16::MAX) {
-        return Ok(refuse_port(&rt, words, last));
-    }
+    let every = misbehaviours(alloc)?;
+    let names = names_of(alloc, every.as_slice())?;
+    let plays = picked(alloc, every.as_slice(), places)?;
     let run = Run {
         suite: Suite::Misbehave,
         reporting: &words.reporting,
-        names,
-        chosen: count,
-        is_shown,
+        names: names.as_slice(),
+        chosen: places.len(),
+        is_shown: is_shown && !words.tracing.is_shown(),
     };
     let mut sinks = Sinks::open(rt, alloc, run)?;
     let place = Place {
@@ -149,31 +148,36 @@ where
         port: words.port,
         seconds: words.seconds,
     };
-    let mut stage = match Stage::open(rt, alloc, plays, place) {
+    let mut stage = match Stage::open(net, alloc, plays, place) {
         Ok(stage) => stage,
         Err(fault) => return Err(told(&rt, words.host, fault)),
     };
     sinks.say(stage.greeting()?.as_str(), output)?;
     tell_ready(&rt, alloc, &stage, words)?;
     'runs: for _ in 0..words.reporting.repeat {
-        for at in 0..count {
+        for at in 0..places.len() {
             run_play(&mut stage, at, &mut sinks, output)?;
             if sinks.is_over() {
                 break 'runs;
             }
         }
     }
+    drop(stage);
     Ok(Verdict::from(sinks.close(output)?))
 }
 
 /// Writes the files that tell that the ports are listened on: the number of the first, and a line with the name and the address of
 /// each.
-fn tell_ready<R: Net + Files + Eprint + Clock + Copy + Drop>(
+fn tell_ready<R, N>(
     rt: &R,
     alloc: Global,
-    stage: &Stage<R>,
+    stage: &Stage<N>,
     words: &MisbehaveRun<'_>,
-) -> Result<(), TrialFault> {
+) -> Result<(), TrialFault>
+where
+    R: Files + Eprint,
+    N: Net + Clock + Copy + Drop,
+{
     if let Some(file) = words.files.port {
         let mut text = String::new(alloc);
         if let Some(first) = stage.address(0) {
@@ -196,14 +200,15 @@ fn tell_ready<R: Net + Files + Eprint + Clock + Copy + Drop>(
 }
 
 /// Runs the misbehaviour at a place, and tells what the client is to do, and what came of it.
-fn run_play<R, W>(
-    stage: &mut Stage<R>,
+fn run_play<R, N, W>(
+    stage: &mut Stage<N>,
     at: usize,
     sinks: &mut Sinks<'_, R>,
     output: &mut W,
 ) -> Result<(), TrialFault>
 where
-    R: Net + Files + Eprint + AllocGlobal + Clock + Copy + Drop,
+    R: Files + Eprint + AllocGlobal + Clock + Drop,
+    N: Net + Clock + Copy + Drop,
     W: ConnWrite,
 {
     sinks.say(stage.heading(at)?.as_str(), output)?;

@@ -101,6 +101,9 @@ pub fn try_case<V: Server>(
             }
         }
     };
+    if judgment == Judgment::Failed && !is_control {
+        talk.tell_fault(script.lawful.as_slice())?;
+    }
     if is_bare && talk.seen.was_shut() {
         // It may have ended the connection for what the case said, or whatever is said.
         let _greeted = open(alloc, server, pace, false)?;

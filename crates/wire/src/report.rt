@@ -3,7 +3,7 @@
 use crate::case::Case;
 use crate::outcome::Ended;
 use crate::reaction::{Lawful, Reaction, push_codes};
-use crate::seen::{SeenFrame, stream_of};
+use crate::seen::{Seen, SeenFrame, stream_of};
 use h2frame::FrameKind;
 use results::{Outcome, Verdict};
 use std::alloc::{AllocError, Global};
@@ -186,6 +186,14 @@ pub fn push_ways(text: &mut String, ways: &[Lawful]) -> Result<(), AllocError> {
         lawful.describe(text)?;
     }
     Ok(())
+}
+
+/// Adds what was wanted, and what came.
+pub fn push_difference(text: &mut String, ways: &[Lawful], seen: &Seen) -> Result<(), AllocError> {
+    text.push_str("wanted ")?;
+    push_ways(text, ways)?;
+    text.push_str(", came ")?;
+    seen.describe(text)
 }
 
 impl Lawful {

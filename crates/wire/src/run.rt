@@ -4,7 +4,7 @@ use crate::case::Case;
 use crate::engine::{Judgment, Try, Unfit, try_case};
 use crate::fault::WireFault;
 use crate::outcome::{Ended, outcome_of};
-use crate::report::{push_frame_line, push_ways};
+use crate::report::{push_difference, push_frame_line, push_ways};
 use crate::seen::SeenFrame;
 use crate::server::{Pace, Server};
 use crate::step::{has_control, rounds_of};
@@ -67,10 +67,8 @@ fn unfit_of_control<V: Server>(
         Judgment::Passed => Ok(None),
         Judgment::Unfit(unfit) => Ok(Some(unfit_outcome(alloc, case, unfit, tried)?)),
         Judgment::Failed => {
-            let mut reason = String::from_str(alloc, "without its fault: wanted ")?;
-            push_ways(&mut reason, tried.lawful.as_slice())?;
-            reason.push_str(", came ")?;
-            tried.seen.describe(&mut reason)?;
+            let mut reason = String::from_str(alloc, "without its fault: ")?;
+            push_difference(&mut reason, tried.lawful.as_slice(), &tried.seen)?;
             Ok(Some(not_applicable(alloc, case, reason, tried)?))
         }
     }

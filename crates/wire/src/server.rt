@@ -16,6 +16,9 @@ pub trait Server {
     /// `NoConnection` where none can be had.
     fn connect(&self) -> Result<Self::Line, WireFault>;
 
+    /// On this connection the server did not do what a case wants: what was wanted, and what came.
+    fn fault(&self, line: &Self::Line, text: &str);
+
     /// How many milliseconds have passed since a moment that stays the same, where the clock can be read.
     fn now(&self) -> Option<u64>;
 }

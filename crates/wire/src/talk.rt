@@ -11,6 +11,8 @@ use crate::frame::{
     ACK, CONTINUATION, DATA, END_HEADERS, HEADERS, PING, PREFACE, PUSH_PROMISE, SETTINGS,
     push_frame,
 };
+use crate::reaction::Lawful;
+use crate::report::push_difference;
 use crate::seen::Seen;
 use crate::server::{Pace, Server};
 use crate::stream_seen::StreamSeen;
@@ -19,7 +21,7 @@ use h2frame::{
 };
 use hpack_codec::{Decoder, HpackFault};
 use session::{FragmentFault, HeaderBlock, Parameter};
-use std::alloc::Global;
+use std::alloc::{AllocError, Global};
 use std::collections::BTreeMap;
 use std::io::{ErrorKind, Read, Write};
 use std::net::OpenStream;
@@ -151,6 +153,14 @@ impl<'a, V: Server> Talk<'a, V> {
     /// Whether the server has read all that was said.
     pub fn has_passed(&self) -> bool {
         matches!(self.fence, Fence::Passed(_))
+    }
+
+    /// Tells whoever looks at the connection that none of the lawful reactions came.
+    pub fn tell_fault(&self, lawful: &[Lawful]) -> Result<(), AllocError> {
+        let mut text = String::new(self.alloc);
+        push_difference(&mut text, lawful, &self.seen)?;
+        self.server.fault(&self.socket, text.as_str());
+        Ok(())
     }
 
     /// Says the preface and SETTINGS, and waits for the server's.

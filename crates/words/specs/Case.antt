@@ -9,6 +9,8 @@ use Rattle.clap.specs.Simple.{App, new_app, with_rule}
 use Rattle.words.specs.Options.{also_named, amount_of, amount_option, by_default, flag, has_flag, number_of, number_option, several, some_texts, text_of, text_option, texts_of}
 use Rattle.words.specs.Reporting as reporting
 use Rattle.words.specs.Reporting.{with_reporting}
+use Rattle.words.specs.Tracing as tracing
+use Rattle.words.specs.Tracing.{with_tracing}
 use Rattle.words.specs.declared.case.CaseRun.{CaseRun}
 use Rattle.words.specs.declared.case.CaseWords.{CaseWords}
 use Rattle.words.specs.declared.case.CaseWords.TheVariants as case_words
@@ -75,7 +77,7 @@ with_credentials app =
     (text_option (codes "server_host_override"))
 
 abbrev pub case_command : App
-case_command = with_reporting (with_soak (with_credentials (
+case_command = with_reporting (with_tracing (with_soak (with_credentials (
     with_rule (with_rule (with_rule (with_rule (with_rule (with_rule (with_rule (with_rule (with_rule (new_app (codes "case"))
     (several (codes "NAME")))
     (text_option (codes "test_case")))
@@ -85,7 +87,7 @@ case_command = with_reporting (with_soak (with_credentials (
     times_option)
     streams_option)
     timeout_option)
-    tls_option)))
+    tls_option))))
 
 -- what a soak is told
 pub record Soak : Type 0 where
@@ -117,6 +119,7 @@ pub record Run : Type 0 where
   pub streams : Option ℕ
   pub patience : ℕ
   pub soak : Soak
+  pub tracing : tracing.Told
   pub reporting : reporting.Told
 
 pub data Trial : Type 0 where
@@ -132,6 +135,7 @@ trial_run words = record {
   streams = words.streams;
   patience = words.patience;
   soak = soak words.soak;
+  tracing = tracing.tracing words.tracing;
   reporting = reporting.reporting words.reporting;
 }
 
@@ -174,7 +178,7 @@ soak_of rows =
 abbrev pub run_of : List Text → reporting.Told → List Row → Option Run
 run_of names told rows =
     option_and_then (λ host. option_and_then (λ port. option_and_then (λ times.
-    option_and_then (λ patience. option_and_then (λ soak. then_some (is_cleartext rows) (record {
+    option_and_then (λ patience. option_and_then (λ soak. option_and_then (λ traced. then_some (is_cleartext rows) (record {
       names = names;
       host = host;
       port = port;
@@ -182,8 +186,10 @@ run_of names told rows =
       streams = number_of (codes "streams") 65535 rows;
       patience = patience;
       soak = soak;
+      tracing = traced;
       reporting = told;
-    })) (soak_of rows))
+    })) (tracing.tracing_of rows))
+    (soak_of rows))
     (number_of (codes "timeout") 65535 rows))
     (number_of (codes "times") 65535 rows))
     (number_of (codes "port") 65535 rows))

@@ -1,11 +1,13 @@
 pub mod Body
 pub mod Case
 pub mod Files
+pub mod Frames
 pub mod Misbehave
 pub mod Options
 pub mod OwnServer
 pub mod Reporting
 pub mod Serve
+pub mod Tracing
 pub mod Wire
 pub mod Words
 pub mod WordsExamples

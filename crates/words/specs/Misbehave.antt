@@ -8,6 +8,8 @@ use Rattle.words.specs.Files.{with_files}
 use Rattle.words.specs.Options.{by_default, flag, has_flag, number_of, number_option, several, some_texts_of, text_of, text_option}
 use Rattle.words.specs.Reporting as reporting
 use Rattle.words.specs.Reporting.{with_reporting}
+use Rattle.words.specs.Tracing as tracing
+use Rattle.words.specs.Tracing.{with_tracing}
 use Rattle.words.specs.declared.misbehave.MisbehaveRun.{MisbehaveRun}
 use Rattle.words.specs.declared.misbehave.MisbehaveWords.{MisbehaveWords}
 use Rattle.words.specs.declared.misbehave.MisbehaveWords.TheVariants as words
@@ -20,14 +22,14 @@ abbrev pub seconds_option : Rule
 seconds_option = by_default (codes "30") (number_option (codes "timeout") 65535)
 
 abbrev pub misbehave_command : App
-misbehave_command = with_reporting (with_files (
+misbehave_command = with_reporting (with_tracing (with_files (
     with_rule (with_rule (with_rule (with_rule (with_rule (with_rule (new_app (codes "misbehave"))
     (several (codes "NAME")))
     (number_option (codes "port") 65535))
     host_option)
     seconds_option)
     (flag (codes "list")))
-    (flag (codes "verbose"))))
+    (flag (codes "verbose")))))
 
 -- what a server is told that misbehaves
 pub record Run : Type 0 where
@@ -36,6 +38,7 @@ pub record Run : Type 0 where
   pub port : ℕ
   pub seconds : ℕ
   pub files : files.Told
+  pub tracing : tracing.Told
   pub reporting : reporting.Told
 
 -- or whether more than names is listed
@@ -50,6 +53,7 @@ run_told words = record {
   port = words.port;
   seconds = words.seconds;
   files = files.files words.files;
+  tracing = tracing.tracing words.tracing;
   reporting = reporting.reporting words.reporting;
 }
 
@@ -60,14 +64,16 @@ misbehaving (words.Play told) = play (run_told told)
 -- how a server misbehaves in the ways that these words choose, and what is told of them
 abbrev pub run_of : List Text → reporting.Told → List Row → Option Run
 run_of names told rows =
-    option_and_then (λ host. option_and_then (λ port. option_map (λ seconds. record {
+    option_and_then (λ host. option_and_then (λ port. option_and_then (λ seconds. option_map (λ traced. record {
       names = names;
       host = host;
       port = port;
       seconds = seconds;
       files = files.files_of rows;
+      tracing = traced;
       reporting = told;
-    }) (number_of (codes "timeout") 65535 rows))
+    }) (tracing.tracing_of rows))
+    (number_of (codes "timeout") 65535 rows))
     (number_of (codes "port") 65535 rows))
     (text_of (codes "host") rows)
 

@@ -1,5 +1,5 @@
 -- `serve --port P`, or `serve --any-port`, with `--host H`, `--conns N`, `--report`, `--log`, or
--- `--log json`, `--time T`, `--drain-on-eof` and `--drain-timeout S`
+-- `--log json`, `--time T`, `--drain-on-eof`, `--drain-timeout S` and `--record DIR`
 use Rattle.std.specs.Prelude.{◌≤◌, ⊤, ℕ, Bool, List, Option, None, Some, [], ◌∷◌, if◌then◌else◌, codes, option_map, option_and_then}
 use Rattle.std.specs.Bool.{then_some}
 use Rattle.std.specs.Option.{option_map_or, option_xor}
@@ -9,6 +9,8 @@ use Rattle.clap.specs.Simple.{App, new_app, with_rule}
 use Rattle.words.specs.Files as files
 use Rattle.words.specs.Files.{with_files}
 use Rattle.words.specs.Options.{by_default, flag, has_flag, number_of, number_option, text_of, text_option}
+use Rattle.words.specs.Tracing as tracing
+use Rattle.words.specs.Tracing.{with_tracing}
 use Rattle.words.specs.declared.serve.LogForm.{LogForm}
 use Rattle.words.specs.declared.serve.LogForm.TheVariants.{Json, Text as Plain}
 use Rattle.words.specs.declared.serve.TimeForm.{TimeForm}
@@ -37,8 +39,8 @@ patience_option = by_default (codes "10") (number_option (codes "drain-timeout")
 
 -- P, N and S are 1 to 65,535
 abbrev pub serve_command : App
-serve_command = with_files (
-    with_rule (with_rule (with_rule (with_rule (with_rule (with_rule (with_rule (with_rule (with_rule (new_app (codes "serve"))
+serve_command = with_tracing (with_files (
+    with_rule (with_rule (with_rule (with_rule (with_rule (with_rule (with_rule (with_rule (with_rule (with_rule (new_app (codes "serve"))
     (number_option (codes "port") 65535))
     (flag (codes "any-port")))
     host_option)
@@ -48,6 +50,7 @@ serve_command = with_files (
     time_option)
     (flag (codes "drain-on-eof")))
     patience_option)
+    (text_option (codes "record"))))
 
 -- what a server is told
 pub record Serving : Type 0 where
@@ -60,6 +63,8 @@ pub record Serving : Type 0 where
   pub drains_on_eof : Bool
   pub patience : ℕ
   pub files : files.Told
+  pub tracing : tracing.Told
+  pub record_in : Option Text
 
 abbrev pub serving : ServeWords → Serving
 serving words = record {
@@ -72,6 +77,8 @@ serving words = record {
   drains_on_eof = words.drains_on_eof;
   patience = words.patience;
   files = files.files words.files;
+  tracing = tracing.tracing words.tracing;
+  record_in = option_map (λ folder. folder.now) words.record;
 }
 
 -- the port that is given, or any: one of the two has to be said, and not both
@@ -98,7 +105,7 @@ abbrev pub time_of : List Row → Option (Option TimeForm)
 time_of rows = option_map_or (λ name. option_map Some (time_form_of name)) (text_of (codes "time") rows) (Some None)
 
 abbrev pub serving_of : List Row → Option Serving
-serving_of rows = option_and_then (λ port. option_and_then (λ host. option_and_then (λ log. option_and_then (λ time. option_map (λ patience. record {
+serving_of rows = option_and_then (λ port. option_and_then (λ host. option_and_then (λ log. option_and_then (λ time. option_and_then (λ patience. option_map (λ told. record {
   host = host;
   port = port;
   connections = number_of (codes "conns") 65535 rows;
@@ -108,7 +115,9 @@ serving_of rows = option_and_then (λ port. option_and_then (λ host. option_and
   drains_on_eof = has_flag (codes "drain-on-eof") rows;
   patience = patience;
   files = files.files_of rows;
-}) (number_of (codes "drain-timeout") 65535 rows)) (time_of rows)) (log_of rows)) (text_of (codes "host") rows)) (port_of rows)
+  tracing = told;
+  record_in = text_of (codes "record") rows;
+}) (tracing.tracing_of rows)) (number_of (codes "drain-timeout") 65535 rows)) (time_of rows)) (log_of rows)) (text_of (codes "host") rows)) (port_of rows)
 
 -- a port's number is not 0
 abbrev pub IsPort : Port → Type 0

@@ -6,6 +6,8 @@ use Rattle.clap.specs.Simple.{App, new_app, with_rule}
 use Rattle.words.specs.Options.{by_default, flag, has_flag, number_of, number_option, several, some_texts_of, text_of, text_option}
 use Rattle.words.specs.Reporting as reporting
 use Rattle.words.specs.Reporting.{with_reporting}
+use Rattle.words.specs.Tracing as tracing
+use Rattle.words.specs.Tracing.{with_tracing}
 use Rattle.words.specs.declared.wire.WireRun.{WireRun}
 use Rattle.words.specs.declared.wire.WireWords.{WireWords}
 use Rattle.words.specs.declared.wire.WireWords.TheVariants as wire_words
@@ -24,7 +26,7 @@ abbrev pub jobs_option : Rule
 jobs_option = by_default (codes "8") (number_option (codes "jobs") 65535)
 
 abbrev pub wire_command : App
-wire_command = with_reporting (
+wire_command = with_reporting (with_tracing (
     with_rule (with_rule (with_rule (with_rule (with_rule (with_rule (with_rule (with_rule (new_app (codes "wire"))
     (several (codes "CASES")))
     (flag (codes "list")))
@@ -33,7 +35,7 @@ wire_command = with_reporting (
     silence_option)
     limit_option)
     jobs_option)
-    (flag (codes "verbose")))
+    (flag (codes "verbose"))))
 
 -- what a run of wire cases is told
 pub record Run : Type 0 where
@@ -44,6 +46,7 @@ pub record Run : Type 0 where
   pub limit : ℕ
   pub jobs : ℕ
   pub is_verbose : Bool
+  pub tracing : tracing.Told
   pub reporting : reporting.Told
 
 pub data Told : Type 0 where
@@ -59,6 +62,7 @@ run_told words = record {
   limit = words.limit;
   jobs = words.jobs;
   is_verbose = words.is_verbose;
+  tracing = tracing.tracing words.tracing;
   reporting = reporting.reporting words.reporting;
 }
 
@@ -70,7 +74,7 @@ told (wire_words.Run words) = run (run_told words)
 abbrev pub run_of : List Text → reporting.Told → List Row → Option Run
 run_of names told rows =
     option_and_then (λ port. option_and_then (λ host. option_and_then (λ silence.
-    option_and_then (λ limit. option_map (λ jobs. record {
+    option_and_then (λ limit. option_and_then (λ jobs. option_map (λ traced. record {
       names = names;
       host = host;
       port = port;
@@ -78,8 +82,10 @@ run_of names told rows =
       limit = limit;
       jobs = jobs;
       is_verbose = has_flag (codes "verbose") rows;
+      tracing = traced;
       reporting = told;
-    }) (number_of (codes "jobs") 65535 rows))
+    }) (tracing.tracing_of rows))
+    (number_of (codes "jobs") 65535 rows))
     (number_of (codes "timeout") 65535 rows))
     (number_of (codes "silence") 65535 rows))
     (text_of (codes "host") rows))

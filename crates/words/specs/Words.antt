@@ -7,6 +7,8 @@ use Rattle.clap.specs.Faults.{fault_of}
 use Rattle.clap.specs.Kinds.{Kinds}
 use Rattle.words.specs.Body.{body_command, cut_of}
 use Rattle.words.specs.Case.{IsTrial, Trial, case_command, trial, trial_of}
+use Rattle.words.specs.Frames as frames
+use Rattle.words.specs.Frames.{frames_command, frames_of}
 use Rattle.words.specs.Misbehave.{IsPlayable, Misbehaving, misbehave_command, misbehaving, misbehaving_of}
 use Rattle.words.specs.OwnServer.{own_command, own_port_of}
 use Rattle.words.specs.Serve.{Serving, IsServing, serve_command, serving, serving_of}
@@ -29,7 +31,7 @@ bare_line = on_top (λ top. record top {
 
 abbrev pub command_line : App
 command_line =
-    with_subcommand (with_subcommand (with_subcommand (with_subcommand (with_subcommand (with_subcommand (with_subcommand (with_subcommand bare_line
+    with_subcommand (with_subcommand (with_subcommand (with_subcommand (with_subcommand (with_subcommand (with_subcommand (with_subcommand (with_subcommand bare_line
     body_command.top)
     (new_app (codes "parts")).top)
     serve_command.top)
@@ -37,7 +39,8 @@ command_line =
     (own_command (codes "self")).top)
     (own_command (codes "drain")).top)
     misbehave_command.top)
-    wire_command.top
+    wire_command.top)
+    frames_command.top
 
 -- what the program is told to do
 pub data Meaning : Type 0 where
@@ -49,6 +52,7 @@ pub data Meaning : Type 0 where
   drain : ℕ → Meaning
   misbehave : Misbehaving → Meaning
   try_wire : Told → Meaning
+  tell_frames : frames.Told → Meaning
 
 abbrev pub meaning : Words → Meaning
 meaning (words.Body cut) = print_body cut
@@ -59,6 +63,7 @@ meaning (words.SelfTest port) = try_itself port
 meaning (words.Drain port) = drain port
 meaning (words.Misbehave told) = misbehave (misbehaving told)
 meaning (words.Wire words) = try_wire (told words)
+meaning (words.Frames words) = tell_frames (frames.frames words)
 
 -- the command of a name and of the values of its options, of those that keep no lists
 abbrev pub plain_command_of : Text × List Row → Option Meaning
@@ -76,6 +81,7 @@ command_of p =
     if bytes_eq p.0 (codes "case") then option_map try_case (trial_of p.1)
     else if bytes_eq p.0 (codes "misbehave") then option_map misbehave (misbehaving_of p.1)
     else if bytes_eq p.0 (codes "wire") then option_map try_wire (told_of p.1)
+    else if bytes_eq p.0 (codes "frames") then option_map tell_frames (frames_of p.1)
     else plain_command_of p
 
 -- nothing, where `clap` refuses the words for any of these kinds of error
@@ -103,6 +109,7 @@ IsInRange (words.SelfTest port) = 1 ≤ port
 IsInRange (words.Drain port) = 1 ≤ port
 IsInRange (words.Misbehave told) = IsPlayable told
 IsInRange (words.Wire words) = wire.IsInRange words
+IsInRange (words.Frames words) = ⊤
 
 -- the words mean no command
 abbrev pub IsBad : WordsFault → Type 0

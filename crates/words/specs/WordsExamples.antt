@@ -8,7 +8,10 @@ use Rattle.words.specs.Misbehave.{play}
 use Rattle.words.specs.Reporting as reporting
 use Rattle.words.specs.Wire.{list, run}
 use Rattle.results.specs.declared.words.Level.TheVariants.{Must}
-use Rattle.words.specs.Words.{command_meant, drain, meaning_of, misbehave, print_body, serve, try_case, try_wire}
+use Rattle.words.specs.Tracing as tracing
+use Rattle.words.specs.Words.{command_meant, drain, meaning_of, misbehave, print_body, serve, tell_frames, try_case, try_wire}
+use Rattle.words.specs.declared.frames.Side.TheVariants.{Server}
+use Rattle.words.specs.declared.tracing.TraceForm.TheVariants.{Full, Short}
 use Rattle.words.specs.declared.serve.LogForm.TheVariants.{Json, Text as Plain}
 use Rattle.words.specs.declared.serve.Port.TheVariants.{Any, Number}
 
@@ -30,6 +33,10 @@ no_reporting = record {
 -- no file is named
 abbrev pub no_files : files.Told
 no_files = record { port = None; ready = None }
+
+-- nothing of what passes is written
+abbrev pub no_tracing : tracing.Told
+no_tracing = record { form = None; lines = None; capture = None }
 
 pub no_words : meaning_of [] ≡ Some (print_body 3)
 no_words = refl
@@ -56,6 +63,8 @@ pub any_port : meaning_of (codes "serve" ∷ codes "--any-port" ∷ codes "--hos
   drains_on_eof = false;
   patience = 10;
   files = no_files;
+  tracing = no_tracing;
+  record_in = None;
 }))
 unfolding clap_on_literals command_meant
 any_port = refl
@@ -70,6 +79,8 @@ pub bare_log : meaning_of (codes "serve" ∷ codes "--log" ∷ codes "--port" �
   drains_on_eof = false;
   patience = 10;
   files = no_files;
+  tracing = no_tracing;
+  record_in = None;
 }))
 unfolding clap_on_literals command_meant
 bare_log = refl
@@ -84,6 +95,8 @@ pub log_of_objects : meaning_of (codes "serve" ∷ codes "--any-port" ∷ codes 
   drains_on_eof = false;
   patience = 10;
   files = no_files;
+  tracing = no_tracing;
+  record_in = None;
 }))
 unfolding clap_on_literals command_meant
 log_of_objects = refl
@@ -102,6 +115,8 @@ pub drained_at_the_end : meaning_of (codes "serve" ∷ codes "--drain-on-eof" �
   drains_on_eof = true;
   patience = 10;
   files = no_files;
+  tracing = no_tracing;
+  record_in = None;
 }))
 unfolding clap_on_literals command_meant
 drained_at_the_end = refl
@@ -131,6 +146,7 @@ pub flags_of_grpc : meaning_of (codes "case" ∷ codes "--server_host=localhost"
       streams = None;
       patience = 10;
       soak = soak_of_grpc;
+      tracing = no_tracing;
       reporting = no_reporting;
     })))
 unfolding clap_on_literals command_meant
@@ -145,6 +161,7 @@ pub flags_of_soaks : meaning_of (codes "case" ∷ codes "rpc_soak" ∷ codes "--
       streams = None;
       patience = 10;
       soak = record soak_of_grpc { iterations = 1000; overall = Some 60 };
+      tracing = no_tracing;
       reporting = no_reporting;
     })))
 unfolding clap_on_literals command_meant
@@ -180,6 +197,7 @@ pub wire_cases : meaning_of (codes "wire" ∷ codes "grpc/4" ∷ codes "hpack" �
       limit = 10;
       jobs = 8;
       is_verbose = false;
+      tracing = no_tracing;
       reporting = record no_reporting {
         json = Some (codes "-");
         skip = codes "grpc/5" ∷ codes "hpack/1" ∷ codes "flow" ∷ [];
@@ -208,7 +226,40 @@ pub misbehaviours : meaning_of (codes "misbehave" ∷ codes "goaway" ∷ codes "
       port = 5;
       seconds = 30;
       files = record no_files { port = Some (codes "p") };
+      tracing = no_tracing;
       reporting = record no_reporting { repeat = 2 };
     })))
 unfolding clap_on_literals command_meant
 misbehaviours = refl
+
+pub traced : meaning_of (codes "serve" ∷ codes "--any-port" ∷ codes "--trace" ∷ codes "--pcap=p" ∷ codes "--record" ∷ codes "d" ∷ []) ≡ Some (serve (record {
+  host = codes "127.0.0.1";
+  port = Any;
+  connections = None;
+  has_report = false;
+  log = None;
+  time = None;
+  drains_on_eof = false;
+  patience = 10;
+  files = no_files;
+  tracing = record { form = Some Short; lines = None; capture = Some (codes "p") };
+  record_in = Some (codes "d");
+}))
+unfolding clap_on_literals command_meant
+traced = refl
+
+pub trace_of_no_form : meaning_of (codes "case" ∷ codes "--trace" ∷ codes "all" ∷ codes "--port=5" ∷ []) ≡ None
+unfolding clap_on_literals command_meant
+trace_of_no_form = refl
+
+pub frames_of_two : meaning_of (codes "frames" ∷ codes "a" ∷ codes "b" ∷ codes "--full" ∷ codes "--side=server" ∷ []) ≡ Some (tell_frames (record {
+  files = codes "a" ∷ codes "b" ∷ [];
+  side = Some Server;
+  is_full = true;
+}))
+unfolding clap_on_literals command_meant
+frames_of_two = refl
+
+pub frames_of_three : meaning_of (codes "frames" ∷ codes "a" ∷ codes "b" ∷ codes "c" ∷ []) ≡ None
+unfolding clap_on_literals command_meant
+frames_of_three = refl

@@ -15,6 +15,7 @@ use crate::options::{
     some_texts_of, text_of, text_option, texts_of,
 };
 use crate::reporting::{Reporting, reporting_of, with_reporting};
+use crate::tracing::{Tracing, tracing_of, with_tracing};
 use clap::{Arg, ArgMatches, Command};
 use std::alloc::{AllocError, Global};
 
@@ -51,6 +52,7 @@ pub struct CaseRun<'a> {
     /// How many seconds a case may take.
     pub patience: u16,
     pub soak: SoakWords,
+    pub tracing: Tracing<'a>,
     pub reporting: Reporting<'a>,
 }
 
@@ -183,7 +185,8 @@ pub(crate) fn case_command<'a>(alloc: Global) -> Result<Command<'a>, AllocError>
         .arg(streams_option(alloc))?
         .arg(timeout_option(alloc))?
         .arg(tls_option(alloc))?;
-    with_reporting(alloc, with_soak(alloc, with_credentials(alloc, command)?)?)
+    let whole = with_soak(alloc, with_credentials(alloc, command)?)?;
+    with_reporting(alloc, with_tracing(alloc, whole)?)
 }
 
 // A command that takes what gRPC's runners say of TLS, which means nothing without it.
@@ -273,6 +276,7 @@ fn run_of<'a>(
     let times = small_number_of(options, "times")?;
     let patience = small_number_of(options, "timeout")?;
     let soak = soak_of(options)?;
+    let tracing = tracing_of(options)?;
     if !is_cleartext(options) {
         return None;
     }
@@ -284,6 +288,7 @@ fn run_of<'a>(
         streams: small_number_of(options, "streams"),
         patience,
         soak,
+        tracing,
         reporting,
     })
 }

@@ -12,6 +12,7 @@ use crate::options::{
     text_option,
 };
 use crate::reporting::{Reporting, reporting_of, with_reporting};
+use crate::tracing::{Tracing, tracing_of, with_tracing};
 use clap::{Arg, ArgMatches, Command};
 use std::alloc::{AllocError, Global};
 
@@ -27,6 +28,7 @@ pub struct MisbehaveRun<'a> {
     /// How many seconds each may take.
     pub seconds: u16,
     pub files: Files<'a>,
+    pub tracing: Tracing<'a>,
     pub reporting: Reporting<'a>,
 }
 
@@ -73,7 +75,7 @@ pub(crate) fn misbehave_command<'a>(alloc: Global) -> Result<Command<'a>, AllocE
         .arg(seconds_option(alloc))?
         .arg(list)?
         .arg(verbose)?;
-    with_reporting(alloc, with_files(alloc, command)?)
+    with_reporting(alloc, with_tracing(alloc, with_files(alloc, command)?)?)
 }
 
 // How a server misbehaves in the ways that these words choose, and what is told of them.
@@ -90,12 +92,14 @@ fn run_of<'a>(
     let host = text_of(options, "host")?;
     let port = small_number_of(options, "port")?;
     let seconds = small_number_of(options, "timeout")?;
+    let tracing = tracing_of(options)?;
     Some(MisbehaveRun {
         names,
         host,
         port,
         seconds,
         files: files_of(options),
+        tracing,
         reporting,
     })
 }

@@ -6,6 +6,7 @@ ghost use Rattle.words.specs.declared.read.WordsFault.TheVariants.{OutOfMemory};
 
 use crate::body::{body_command, cut_of};
 use crate::case::{CaseWords, case_command, trial_of};
+use crate::frames::{FramesWords, frames_command, frames_of};
 use crate::misbehave::{MisbehaveWords, misbehave_command, misbehaving_of};
 use crate::own_server::{own_command, own_port_of};
 use crate::reason::{Reason, reason_of};
@@ -16,10 +17,11 @@ use clap::{ArgMatches, Command};
 use std::alloc::{AllocError, Global};
 
 /// The names of the commands.
-pub const COMMANDS: [&str; 8] = [
+pub const COMMANDS: [&str; 9] = [
     "body",
     "case",
     "drain",
+    "frames",
     "misbehave",
     "parts",
     "self",
@@ -46,6 +48,8 @@ pub enum Words<'a> {
     Misbehave(MisbehaveWords<'a>),
     /// Run wire cases against a server, or list them.
     Wire(WireWords<'a>),
+    /// Tell the frames in the bytes of connections.
+    Frames(FramesWords<'a>),
 }
 
 /// Why words are not obeyed.
@@ -103,7 +107,8 @@ pub(crate) fn command_line<'a>(alloc: Global) -> Result<Command<'a>, AllocError>
         .subcommand(own_command(alloc, "self")?)?
         .subcommand(own_command(alloc, "drain")?)?
         .subcommand(misbehave_command(alloc)?)?
-        .subcommand(wire_command(alloc)?)
+        .subcommand(wire_command(alloc)?)?
+        .subcommand(frames_command(alloc)?)
 }
 
 // A command with the values of its options.
@@ -127,6 +132,10 @@ fn command_of<'a>(
         },
         "wire" => match wire_of(alloc, options)? {
             Some(told) => Ok(Some(Words::Wire(told))),
+            None => Ok(None),
+        },
+        "frames" => match frames_of(alloc, options)? {
+            Some(told) => Ok(Some(Words::Frames(told))),
             None => Ok(None),
         },
         _ => Ok(plain_command_of(name, options)),

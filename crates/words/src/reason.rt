@@ -3,9 +3,10 @@
 //! That the words mean none was found by `clap`. Here the words are walked over once more, in `clap`'s order, for the first
 //! of them that the command does not take; where each is taken, something is missing, or two things exclude each other.
 
+use crate::frames::side_named;
 use crate::read::{COMMANDS, command_line};
 use crate::serve::{form_of, time_form_of};
-use crate::{body, case, misbehave, own_server, reporting, serve, wire};
+use crate::{body, case, frames, misbehave, own_server, reporting, serve, tracing, wire};
 use clap::builder::ValueParser;
 use clap::{Arg, ArgAction, Command};
 use results::Level;
@@ -65,6 +66,7 @@ fn takes(command: &str) -> &'static str {
     match command {
         "body" => body::TAKES,
         "case" => case::TAKES,
+        "frames" => frames::TAKES,
         "misbehave" => misbehave::TAKES,
         "self" | "drain" => own_server::TAKES,
         "serve" => serve::TAKES,
@@ -78,13 +80,22 @@ fn has_cases(command: &str) -> bool {
     matches!(command, "case" | "misbehave" | "wire")
 }
 
-/// Adds the options for outcomes, where a command takes them.
+/// Whether a command has connections, and takes the options for what passes on them.
+fn has_connections(command: &str) -> bool {
+    has_cases(command) || command == "serve"
+}
+
+/// Adds the options that commands share, where a command takes them.
 fn push_shared<W: fmt::Write>(f: &mut fmt::Formatter<W>, command: &str) -> fmt::Result {
-    if !has_cases(command) {
-        return Ok(());
+    if has_connections(command) {
+        let shared = tracing::TAKES;
+        write!(f, "; {shared}")?;
     }
-    let shared = reporting::TAKES;
-    write!(f, "; and {shared}")
+    if has_cases(command) {
+        let shared = reporting::TAKES;
+        write!(f, "; and {shared}")?;
+    }
+    Ok(())
 }
 
 impl<'a> fmt::Display for Reason<'a> {
@@ -220,6 +231,8 @@ impl<'c, 'a> Given<'c, 'a> {
             _ => match self.arg.get_id() {
                 "log" => form_of(value).is_some(),
                 "time" => time_form_of(value).is_some(),
+                "trace" => tracing::form_of(value).is_some(),
+                "side" => side_named(value).is_some(),
                 "use_tls" => value == "false",
                 "level" => Level::named(value).is_some(),
                 _ => true,
@@ -299,52 +312,44 @@ fn given_by<'c, 'a>(
 /// Why the words behind a command are not enough, or too many, where it takes each of them. `is_placed` tells whether one
 /// of them stands for itself.
 fn reason_of_whole<'a>(command: &'a str, words: &[String], is_placed: bool) -> Reason<'a> {
-    let what = match command {
-        _ if has_cases(command) && has_option(words, "--tap") && has_json_output(words) => {
-            return Reason::Excluding {
-                both: "--tap and --json -",
-            };
-        }
-        "serve" if has_option(words, "--any-port") => {
-            return Reason::Excluding {
-                both: "--port and --any-port",
-            };
-        }
-        "case" if has_option(words, "--list") => {
-            return Reason::Excluding {
-                both: "NAME and --list",
-            };
-        }
-        "case" if is_placed && has_option(words, "--test_case") => {
-            return Reason::Excluding {
-                both: "NAME and --test_case",
-            };
-        }
-        "misbehave" if has_option(words, "--list") => {
-            return Reason::Excluding {
-                both: if is_placed {
-                    "--list and NAME"
-                } else {
-                    "--list and --port"
-                },
-            };
-        }
+    match excluding(command, words, is_placed) {
+        Some(both) => Reason::Excluding { both },
+        None => Reason::Missing {
+            command,
+            what: missing(command, words, is_placed),
+        },
+    }
+}
+
+/// Which two of a command's words exclude each other, if any do.
+fn excluding(command: &str, words: &[String], is_placed: bool) -> Option<&'static str> {
+    if has_cases(command) && has_option(words, "--tap") && has_json_output(words) {
+        return Some("--tap and --json -");
+    }
+    match command {
+        "serve" if has_option(words, "--any-port") => Some("--port and --any-port"),
+        "case" if has_option(words, "--list") => Some("NAME and --list"),
+        "case" if is_placed && has_option(words, "--test_case") => Some("NAME and --test_case"),
+        "misbehave" if has_option(words, "--list") && is_placed => Some("--list and NAME"),
+        "misbehave" if has_option(words, "--list") => Some("--list and --port"),
+        "wire" if is_placed && has_option(words, "--list") => Some("CASES and --list"),
+        _ => None,
+    }
+}
+
+/// What is missing, or all that the command takes.
+fn missing(command: &str, words: &[String], is_placed: bool) -> &'static str {
+    match command {
         "misbehave" if has_option(words, "--verbose") => "--list",
-        "misbehave" if is_placed => "--port P",
-        "misbehave" => "NAME.., or --list",
-        "wire" if is_placed && has_option(words, "--list") => {
-            return Reason::Excluding {
-                both: "CASES and --list",
-            };
-        }
-        "serve" => "--port P or --any-port",
-        "case" if is_placed || has_option(words, "--test_case") => "--port P",
+        "case" if has_option(words, "--test_case") => "--port P",
+        "case" | "misbehave" | "wire" if is_placed => "--port P",
         "case" => "NAME.. or --test_case NAME, or --list",
-        "wire" if is_placed => "--port P",
+        "misbehave" => "NAME.., or --list",
+        "serve" => "--port P or --any-port",
         "wire" => "all, GROUP, GROUP/N or GROUP/N-M, or --list",
+        "frames" => "two files at most",
         _ => takes(command),
-    };
-    Reason::Missing { command, what }
+    }
 }
 
 fn has_option(words: &[String], option: &str) -> bool {

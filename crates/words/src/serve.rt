@@ -1,5 +1,5 @@
 //! `serve --port P`, or `serve --any-port`, with `--host H`, `--conns N`, `--report`, `--log`, or `--log json`, `--time T`,
-//! `--drain-on-eof`, `--drain-timeout S`, and the files of `files`.
+//! `--drain-on-eof`, `--drain-timeout S`, `--record DIR`, the files of `files`, and what `tracing` has.
 
 ghost use Rattle.std.specs.Prelude.{◌≡◌, ◌≤◌, false, IfOk, IfSome, option_map};
 ghost use Rattle.clap.specs.Words.{app_of, found_of, rows_of};
@@ -10,6 +10,7 @@ use crate::files::{Files, files_of, with_files};
 use crate::options::{
     LOOPBACK, flag, has_flag, number_option, small_number_of, text_of, text_option,
 };
+use crate::tracing::{Tracing, tracing_of, with_tracing};
 use clap::{Arg, ArgMatches, Command};
 use std::alloc::{AllocError, Global};
 
@@ -59,12 +60,15 @@ pub struct ServeWords<'a> {
     /// How many seconds it waits at most for connections that it drains.
     pub patience: u16,
     pub files: Files<'a>,
+    pub tracing: Tracing<'a>,
+    /// The folder for the bytes of each connection.
+    pub record: Option<&'a str>,
 }
 
 /// The words that it takes.
 pub(crate) const TAKES: &str = "--port P or --any-port, --host H, --conns N, --report, \
     --log [text|json], --time seconds|utc, --drain-on-eof, --drain-timeout S, --port-file FILE, \
-    --ready-file FILE";
+    --ready-file FILE, --record DIR";
 
 // `--host H`.
 fn host_option<'a>(alloc: Global) -> Arg<'a>
@@ -113,8 +117,9 @@ pub(crate) fn serve_command<'a>(alloc: Global) -> Result<Command<'a>, AllocError
         .arg(log_option(alloc))?
         .arg(time_option(alloc))?
         .arg(drains)?
-        .arg(patience_option(alloc))?;
-    with_files(alloc, command)
+        .arg(patience_option(alloc))?
+        .arg(text_option(alloc, "record", "a folder's name"))?;
+    with_tracing(alloc, with_files(alloc, command)?)
 }
 
 // The port that is given, or any: one of the two has to be said, and not both.
@@ -180,6 +185,7 @@ pub(crate) fn serving_of<'a>(options: &ArgMatches<'a>) -> Option<ServeWords<'a>>
     let log = log_of(options)?;
     let time = time_of(options)?;
     let patience = small_number_of(options, "drain-timeout")?;
+    let tracing = tracing_of(options)?;
     Some(ServeWords {
         host,
         port,
@@ -190,5 +196,7 @@ pub(crate) fn serving_of<'a>(options: &ArgMatches<'a>) -> Option<ServeWords<'a>>
         drains_on_eof: has_flag(options, "drain-on-eof"),
         patience,
         files: files_of(options),
+        tracing,
+        record: text_of(options, "record"),
     })
 }

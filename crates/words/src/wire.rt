@@ -13,6 +13,7 @@ use crate::options::{
     text_option,
 };
 use crate::reporting::{Reporting, reporting_of, with_reporting};
+use crate::tracing::{Tracing, tracing_of, with_tracing};
 use clap::{Arg, ArgMatches, Command};
 use std::alloc::{AllocError, Global};
 
@@ -32,6 +33,7 @@ pub struct WireRun<'a> {
     pub jobs: u16,
     /// Whether each case's section, and what was written, is told too.
     pub is_verbose: bool,
+    pub tracing: Tracing<'a>,
     pub reporting: Reporting<'a>,
 }
 
@@ -88,7 +90,7 @@ pub(crate) fn wire_command<'a>(alloc: Global) -> Result<Command<'a>, AllocError>
         .arg(limit_option(alloc))?
         .arg(jobs_option(alloc))?
         .arg(flag(alloc, "verbose"))?;
-    with_reporting(alloc, command)
+    with_reporting(alloc, with_tracing(alloc, command)?)
 }
 
 // How the cases are run that these words choose, and what is told of them.
@@ -107,6 +109,7 @@ fn run_of<'a>(
     let silence = small_number_of(options, "silence")?;
     let limit = small_number_of(options, "timeout")?;
     let jobs = small_number_of(options, "jobs")?;
+    let tracing = tracing_of(options)?;
     Some(WireRun {
         names,
         host,
@@ -115,6 +118,7 @@ fn run_of<'a>(
         limit,
         jobs,
         is_verbose: has_flag(options, "verbose"),
+        tracing,
         reporting,
     })
 }

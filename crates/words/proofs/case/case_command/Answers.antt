@@ -13,4 +13,4 @@ returns c =
     let streams = with_option _ _ _ _ _ c.in_ok-arg-7.ensures times c.streams_option.ensures in
     let timeout = with_option _ _ _ _ _ c.in_ok-arg-8.ensures streams c.timeout_option.ensures in
     let tls = with_option _ _ _ _ _ c.in_ok-command.ensures timeout c.tls_option.ensures in
-    c.with_reporting.ensures _ (c.in_ok-with_soak.ensures _ (c.in_ok-with_credentials.ensures _ tls))
+    c.with_reporting.ensures _ (c.in_ok-with_tracing.ensures _ (c.in_ok-whole.ensures _ (c.in_ok-with_credentials.ensures _ tls)))

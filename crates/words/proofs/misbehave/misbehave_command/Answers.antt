@@ -10,4 +10,4 @@ returns c =
     let seconds = with_option _ _ _ _ _ c.in_ok-arg-4.ensures host c.seconds_option.ensures in
     let listed = with_option _ _ _ _ _ c.in_ok-arg-5.ensures seconds (is_option c.flag-list.result _ c.flag-list.ensures.rule c.flag-list.ensures.local) in
     let verbose = with_option _ _ _ _ _ c.in_ok-command.ensures listed (is_option c.flag-verbose.result _ c.flag-verbose.ensures.rule c.flag-verbose.ensures.local) in
-    c.with_reporting.ensures _ (c.in_ok-with_files.ensures _ verbose)
+    c.with_reporting.ensures _ (c.in_ok-with_tracing.ensures _ (c.in_ok-with_files.ensures _ verbose))

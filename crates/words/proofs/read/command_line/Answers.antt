@@ -11,5 +11,6 @@ returns c =
     let own = with_command _ _ _ _ _ c.in_ok-subcommand-5.ensures case c.in_ok-own_command.ensures in
     let drain = with_command _ _ _ _ _ c.in_ok-subcommand-6.ensures own c.in_ok-own_command-2.ensures in
     let misbehave = with_command _ _ _ _ _ c.in_ok-subcommand-7.ensures drain c.in_ok-misbehave_command.ensures in
-    IfOk-weaker c.subcommand-8.result _ _ (λ command added.
-    with_command _ _ _ _ _ added misbehave c.in_ok-wire_command.ensures) c.subcommand-8.ensures
+    let wire = with_command _ _ _ _ _ c.in_ok-subcommand-8.ensures misbehave c.in_ok-wire_command.ensures in
+    IfOk-weaker c.subcommand-9.result _ _ (λ command added.
+    with_command _ _ _ _ _ added wire c.in_ok-frames_command.ensures) c.subcommand-9.ensures

@@ -12,5 +12,6 @@ returns c =
     let log = with_option _ _ _ _ _ c.in_ok-arg-6.ensures report c.log_option.ensures in
     let time = with_option _ _ _ _ _ c.in_ok-arg-7.ensures log c.time_option.ensures in
     let drains = with_option _ _ _ _ _ c.in_ok-arg-8.ensures time (is_option c.flag-drains.result _ c.flag-drains.ensures.rule c.flag-drains.ensures.local) in
-    let patience = with_option _ _ _ _ _ c.in_ok-command.ensures drains c.patience_option.ensures in
-    c.with_files.ensures _ patience
+    let patience = with_option _ _ _ _ _ c.in_ok-arg-9.ensures drains c.patience_option.ensures in
+    let record_in = with_option _ _ _ _ _ c.in_ok-command.ensures patience (is_option c.text_option.result _ c.text_option.ensures.rule c.text_option.ensures.local) in
+    c.with_tracing.ensures _ (c.in_ok-with_files.ensures _ record_in)

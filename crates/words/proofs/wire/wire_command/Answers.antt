@@ -12,4 +12,4 @@ returns c =
     let limit = with_option _ _ _ _ _ c.in_ok-arg-6.ensures silence c.limit_option.ensures in
     let jobs = with_option _ _ _ _ _ c.in_ok-arg-7.ensures limit c.jobs_option.ensures in
     let verbose = with_option _ _ _ _ _ c.in_ok-command.ensures jobs (is_option c.flag-2.result _ c.flag-2.ensures.rule c.flag-2.ensures.local) in
-    c.with_reporting.ensures _ verbose
+    c.with_reporting.ensures _ (c.in_ok-with_tracing.ensures _ verbose)

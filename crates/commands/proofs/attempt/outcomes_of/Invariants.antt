@@ -1,6 +1,0 @@
-use Rattle.std.proofs.Common.{◌≡◌, map, take}
-use Rattle.commands.specs.Summing.{verdict_on}
-use Rattle.commands.proofs.attempt.outcomes_of.Given as goal
-
-abbrev pub invariant-loop-one : goal.invariant-loop-one
-invariant-loop-one l = map (λ outcome. outcome.verdict) l.outcomes.items ≡ map verdict_on (take l.one-index l.ended)

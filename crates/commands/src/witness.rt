@@ -1,0 +1,131 @@
+//! Who sees the connections of a server: its log, and whoever writes down what passes.
+
+ghost use Rattle.std.specs.Prelude.{IsNone};
+
+use crate::log::{Log, Logged};
+use crate::stopping::Connection;
+use crate::stream::Ended;
+use capture::Side;
+use handlers::Methods;
+use recorder::{Eye, Recorder, Sight, look_and_record};
+use std::alloc::Global;
+use std::fs::File;
+use std::net::TcpStream;
+use std::rt::Files;
+use std::sync::{Arc, Wait};
+use std::time::Clock;
+
+/// Who sees connections. Who serves them takes it as a type parameter: that threads may share it is then shown once, and not again
+/// together with all else that they share.
+pub trait Witness {
+    /// A connection begins. The log doesn't follow it where there is none, or no memory for that.
+    fn begin<R: Wait + Clock>(
+        &self,
+        rt: &R,
+        alloc: Global,
+        connection: Connection,
+    ) -> Option<Logged>;
+
+    /// Who looks at what passes on a connection that begins, if anyone does.
+    fn look<R>(&self, rt: R, stream: &TcpStream, connection: Connection) -> Option<Eye<R>>
+    where
+        R: Files<File = File> + Wait + Clock + Eprint + Copy + Drop;
+
+    /// Leaves the report on a connection to the log, to be printed behind its lines.
+    fn report<R: Wait + Clock>(
+        &self,
+        rt: &R,
+        alloc: Global,
+        methods: &Methods,
+        connection: Connection,
+        ended: &Ended,
+    );
+
+    /// The file with what passed on a connection, where there is one.
+    fn file_of(&self, connection: Connection) -> Option<String>;
+}
+
+/// The log of a server and its recorder, where it has them.
+#[derive(Drop)]
+pub struct Witnesses {
+    pub log: Option<Arc<Log>>,
+    pub recorder: Option<Arc<Recorder>>,
+}
+
+impl Witnesses {
+    /// Nobody sees anything.
+    pub fn none() -> Witnesses {
+        Witnesses {
+            log: None,
+            recorder: None,
+        }
+    }
+
+    /// Who looks at what passes on a connection, if anyone does.
+    fn eye<R>(&self, rt: R, stream: &TcpStream, connection: Connection) -> Option<Eye<R>>
+    where
+        R: Files<File = File> + Wait + Clock + Eprint + Copy + Drop,
+        ensures { IsNone self.now.recorder → IsNone result }
+    {
+        let Connection { number, peer } = connection;
+        if self.recorder.is_none() {
+            return None;
+        }
+        let own = stream.local_addr().ok()?;
+        look_and_record(
+            rt,
+            &self.recorder,
+            number,
+            Sight {
+                number: None,
+                side: Side::Server,
+                own,
+                peer,
+                label: None,
+                is_served: true,
+            },
+        )
+    }
+}
+
+impl Witness for Witnesses {
+    fn begin<R: Wait + Clock>(
+        &self,
+        rt: &R,
+        alloc: Global,
+        connection: Connection,
+    ) -> Option<Logged> {
+        let log = self.log.as_ref()?;
+        Logged::begin(rt, alloc, log, connection).ok()
+    }
+
+    // (kept out of its caller, whose frame is on the stack of each connection that lives)
+    #[inline(never)]
+    fn look<R>(&self, rt: R, stream: &TcpStream, connection: Connection) -> Option<Eye<R>>
+    where
+        R: Files<File = File> + Wait + Clock + Eprint + Copy + Drop,
+    {
+        self.eye(rt, stream, connection)
+    }
+
+    fn report<R: Wait + Clock>(
+        &self,
+        rt: &R,
+        alloc: Global,
+        methods: &Methods,
+        connection: Connection,
+        ended: &Ended,
+    ) {
+        if let Some(log) = &self.log {
+            let file = self.file_of(connection);
+            log.report(rt, alloc, methods, connection, ended, &file);
+        }
+    }
+
+    fn file_of(&self, connection: Connection) -> Option<String> {
+        match &self.recorder {
+            Some(recorder) => recorder.file_of(connection.number).ok()?,
+            None => None,
+        }
+    }
+}

@@ -1,0 +1,16 @@
+//! The frames in bytes of connections, a line for each: what a trace would have said of them.
+//!
+//! A file has a capture that this program wrote, of any number of connections; or what `trace::sent_of` reads: what both sides of a
+//! connection sent, or one side, as text or as it is. Two files have a side each.
+//!
+//! Read `given` for what files have, `printing` for lines, `captured` for those of a capture, and `run` for the command.
+#![tactic(auto)]
+
+mod captured;
+mod fault;
+mod given;
+mod printing;
+mod run;
+
+pub use fault::FramesFault;
+pub use run::run_frames;

@@ -1,0 +1,27 @@
+//! What passes on connections, written down as it passes: a line for each frame, a capture, and the bytes themselves.
+//!
+//! A `Recorder` has the places, which all connections share. An `Eye` looks at one connection, as the `Tap` of its devices; where two
+//! threads read and write it, each has an `Eye` of the same connection. What is known of a connection is behind a lock, so that what
+//! is written of it has one order; the connection's end is written where the last of its eyes is dropped.
+//!
+//! A recorder that can't write says so on standard error, once, and writes no more: the connections go on.
+//!
+//! Read `notes` for what is made of what passes, without threads or files; `outputs`, `transcript` and `places` for where it is written;
+//! `eye` for connections, `overlooked` for a network all of whose connections are looked at; `start` and `ends` for times and
+//! addresses.
+#![tactic(auto)]
+
+mod ends;
+mod eye;
+mod fault;
+mod notes;
+mod outputs;
+mod overlooked;
+mod places;
+mod start;
+mod transcript;
+
+pub use eye::{Eye, Line, Sight, look_and_record, look_at_server};
+pub use fault::RecorderFault;
+pub use overlooked::{Overlooked, OverlookedListener};
+pub use places::Recorder;

@@ -1,0 +1,64 @@
+//! The places that all connections share.
+
+use crate::notes::Entry;
+use std::fs::File;
+use std::io;
+use std::io::Write;
+
+/// Where lines are written.
+#[derive(Drop)]
+pub enum Lines {
+    /// Nowhere: there are none.
+    Nowhere,
+    /// On standard error.
+    Standard,
+    File(File),
+}
+
+/// The places that all connections share.
+#[derive(Drop)]
+pub struct Outputs {
+    pub lines: Lines,
+    pub capture: Option<File>,
+}
+
+/// What can't be written, and why.
+#[derive(Drop)]
+pub struct Unwritten {
+    pub what: &'static str,
+    pub why: io::Error,
+}
+
+impl Unwritten {
+    pub fn new(what: &'static str, why: io::Error) -> Unwritten {
+        Unwritten { what, why }
+    }
+}
+
+impl Outputs {
+    /// Writes the whole of it, each kind at once.
+    pub fn write(&mut self, rt: &impl Eprint, entry: &Entry) -> Result<(), Unwritten> {
+        let lines = entry.lines.as_str();
+        if !lines.is_empty() {
+            let written = match &mut self.lines {
+                Lines::Nowhere => Ok(()),
+                Lines::Standard => eprint!(rt; "{lines}"),
+                Lines::File(file) => file.write_all(lines.as_bytes()),
+            };
+            if let Err(why) = written {
+                return Err(Unwritten::new("the trace", why));
+            }
+        }
+        self.capture(entry.records.as_slice())
+    }
+
+    fn capture(&mut self, records: &[u8]) -> Result<(), Unwritten> {
+        match &mut self.capture {
+            Some(file) if !records.is_empty() => match file.write_all(records) {
+                Ok(()) => Ok(()),
+                Err(why) => Err(Unwritten::new("the capture", why)),
+            },
+            _ => Ok(()),
+        }
+    }
+}

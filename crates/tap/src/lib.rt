@@ -1,0 +1,9 @@
+//! Devices at which someone looks.
+//!
+//! A `Tapped` device reads and writes as the device in it does, byte for byte and fault for fault. Where it has a `Tap`, that is shown
+//! what was read, and what was written, once it has passed.
+#![tactic(auto)]
+
+mod tapped;
+
+pub use tapped::{Tap, Tapped};

@@ -1,0 +1,4 @@
+pub mod Cuts
+pub mod Contents
+pub mod Lines
+pub mod Sides
