@@ -122,8 +122,9 @@ def frames_of(entries, side):
 
 
 def without_windows(entries, side):
-    """What the lines of a side say, but for windows, which depend on when the other side's frames came."""
-    return [re.sub(r"; windows.*$|: \+[\d,]+: .*$", "", entry[5]) for entry in entries if entry[2] == side]
+    """What the lines of a side say, but for windows, which depend on when the other side's frames came: credit for a stream that is over moves
+    none."""
+    return [re.sub(r"; windows.*$|(: \+[\d,]+): .*$", r"\1", entry[5]) for entry in entries if entry[2] == side]
 
 
 def run(program, *words, status=0, **more):
