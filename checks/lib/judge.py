@@ -163,7 +163,7 @@ class Written:
     def control(self, stream, kind, flags, content):
         if kind == wire.GOAWAY:
             last, code = int.from_bytes(content[:4], "big"), int.from_bytes(content[4:8], "big")
-            want(len(content) == 8 and not flags, "the content of a GOAWAY")
+            want(8 <= len(content) <= 136 and content[8:].isascii() and not flags, "the content of a GOAWAY")
             self.is_over = code != 0
             stream.tell(f"goaway {last} {code}")
         elif kind == wire.PING:

@@ -23,6 +23,7 @@ use Rattle.outwriter.specs.Parts.{IsPart, Mark}
 use Rattle.outwriter.specs.Runs.{Asks, IsAsked, IsLawful, is_opened, opens_stream}
 use Rattle.outwriter.specs.Steps.{Order, Taken, Granted, Written, Returned}
 use Rattle.outwriter.specs.Steps.{Step as RunStep}
+use Rattle.reasons.specs.declared.Reason.TheVariants as reason
 use Rattle.session.specs.declared.event.Control.{Control}
 use Rattle.session.specs.declared.event.Control.TheVariants as controls
 use Rattle.session.specs.declared.event.InEvent.{InEvent}
@@ -54,7 +55,7 @@ caused-more P Q O N R S resets opens refuses (Probe bytes) is = tt
 caused-more P Q O N R S resets opens refuses (Window id increment) is = tt
 caused-more P Q O N R S resets opens refuses (Open id sender) is = opens id is
 caused-more P Q O N R S resets opens refuses (Refuse id fields) is = refuses id fields is
-caused-more P Q O N R S resets opens refuses (Goaway last code) is = tt
+caused-more P Q O N R S resets opens refuses (Goaway last cause) is = tt
 caused-more P Q O N R S resets opens refuses InputEnded is = tt
 caused-more P Q O N R S resets opens refuses Close is = tt
 
@@ -152,7 +153,7 @@ last-caused : (told : List Step) (id : ℕ) (draining : Bool) (before : List ℕ
 last-caused told id true before = tt
 last-caused told id false before = by (length before == 4095)
   where
-    by : (b : Bool) → AreCaused told (if b then Goaway id error.NoError ∷ [] else [])
+    by : (b : Bool) → AreCaused told (if b then Goaway id (reason.Code error.NoError) ∷ [] else [])
     by true = (tt, tt)
     by false = tt
 
@@ -245,7 +246,7 @@ at-caused before (Told (events.Loose counted) fate) = loose-caused (Told (events
 at-caused before (Told (events.Reset id code) fate) = (tt, tt)
 at-caused before (Told (events.StreamError id code) fate) = (inl (told-now (events.StreamError id code) fate before), tt)
 at-caused before (Told (events.Control control) fate) = news-caused (Told (events.Control control) fate ∷ before) control
-at-caused before (Told (events.Fatal code) fate) = (tt, tt)
+at-caused before (Told (events.Fatal cause) fate) = (tt, tt)
 at-caused before (Told (events.End id) fate) = tt
 at-caused before (Told events.PeerGoaway fate) = tt
 at-caused before Drains = (tt, tt)
@@ -274,7 +275,7 @@ module _ (told : List Step) (put : List Order) (run : List RunStep) where
   own-answer : (last id : ℕ) → HasCauseOf error.FlowControlError id told put run → IsCausedIn (own_order last id)
   own-answer last id has = by (id == 0)
     where
-      by : (b : Bool) → IsCausedIn (if b then Goaway last error.FlowControlError else Reset id error.FlowControlError true)
+      by : (b : Bool) → IsCausedIn (if b then Goaway last reason.Window else Reset id error.FlowControlError true)
       by true = tt
       by false = has
 

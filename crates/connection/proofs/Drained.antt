@@ -19,6 +19,7 @@ use Rattle.outwriter.specs.Steps.{Order, Taken, Granted, Written, Returned}
 use Rattle.outwriter.specs.Steps.{Step as RunStep}
 use Rattle.outwriter.proofs.Drained.{last-is-ordered, none-is-last}
 use Rattle.outwriter.proofs.Leads.{either-false}
+use Rattle.reasons.specs.declared.Reason.TheVariants as reason
 use Rattle.session.specs.declared.event.Control.{Control as News}
 use Rattle.session.specs.declared.event.Control.TheVariants as news
 use Rattle.session.specs.declared.event.InEvent.{InEvent}
@@ -51,14 +52,14 @@ some-not found g none some = cc
 
 -- ---- of a run
 
-own-fails : (last : ℕ) → fails (Goaway last FlowControlError) ≡ true
+own-fails : (last : ℕ) → fails (Goaway last reason.Window) ≡ true
 own-fails last = refl
 
 -- an answer of the writer's own is an error, or it is no GOAWAY
 answer-none : (last id : ℕ) (order : Order) → order ≡ own_order last id → fails order ≡ false → goaway_by order ≡ None
 answer-none last id order is clean = by (id == 0) is
   where
-    by : (b : Bool) → order ≡ (if b then Goaway last FlowControlError else Reset id FlowControlError true) → goaway_by order ≡ None
+    by : (b : Bool) → order ≡ (if b then Goaway last reason.Window else Reset id FlowControlError true) → goaway_by order ≡ None
     by true same = absurd (true≢false (sym (ap fails same ∙ own-fails last) ∙ clean))
     by false same = ap goaway_by same
 
@@ -178,20 +179,20 @@ event-none before (events.Loose counted) fate draining calm = loose-none (named 
 event-none before (events.Reset id code) fate draining calm = refl
 event-none before (events.StreamError id code) fate draining calm = refl
 event-none before (events.Control control) fate draining calm = news-none control
-event-none before (events.Fatal code) fate draining calm = absurd cc
+event-none before (events.Fatal cause) fate draining calm = absurd cc
 event-none before (events.End id) fate draining calm = refl
 event-none before events.PeerGoaway fate draining calm = refl
 
 -- ---- of all steps
 
 abbrev Names : List Step → Type 0
-Names told = goaway_in (orders_by told) ≡ Some (goaway_frame (greatest (reported told)) NoError)
+Names told = goaway_in (orders_by told) ≡ Some (goaway_frame (greatest (reported told)) (reason.Code NoError))
 
 names-still : (before : List Step) (step : Step) → goaway_in (orders_at before step) ≡ None → reported_by step ≡ None → Names before → Names (step ∷ before)
 names-still before step none unreported names =
     goaway-append (orders_by before) (orders_at before step)
     ∙ (ap (λ (o : Option Frame). option_or o (goaway_in (orders_by before))) none
-    ∙ (names ∙ ap (λ (ids : List ℕ). Some (goaway_frame (greatest ids) NoError)) (sym still)))
+    ∙ (names ∙ ap (λ (ids : List ℕ). Some (goaway_frame (greatest ids) (reason.Code NoError))) (sym still)))
   where
     still : reported (step ∷ before) ≡ reported before
     still = rw unreported (append-nil (reported before))
@@ -202,7 +203,7 @@ none-ends is = cc
 drain-names : (told : List Step) → AreCalm told → AdmitsNoMore told → is_draining told ≡ true → Names told
 drain-names [] calm closed draining = absurd (true≢false (sym draining))
 drain-names (Drains ∷ before) calm closed draining =
-    goaway-append (orders_by before) (orders_at before Drains) ∙ ap (λ (ids : List ℕ). Some (goaway_frame (greatest ids) NoError)) (sym (append-nil (reported before)))
+    goaway-append (orders_by before) (orders_at before Drains) ∙ ap (λ (ids : List ℕ). Some (goaway_frame (greatest ids) (reason.Code NoError))) (sym (append-nil (reported before)))
 drain-names (Lacks ∷ before) calm closed draining = absurd (none-ends calm.0)
 drain-names (Told event fate ∷ before) calm closed draining =
     names-still before (Told event fate) (event-none before event fate draining calm.0) (closed.0 draining) (drain-names before calm.1 closed.1 draining)

@@ -65,7 +65,7 @@ one-began P (events.Reset id code) fate all = tt
 one-began P (events.StreamError id code) fate all = tt
 one-began P (events.Control control) fate all = tt
 one-began P events.PeerGoaway fate all = tt
-one-began P (events.Fatal code) fate all = tt
+one-began P (events.Fatal cause) fate all = tt
 
 pub all-began : (P : ℕ → Type 0) (told : List Step) → Each P (openings (events_of told)) → Each P (reported told)
 all-began P [] all = tt

@@ -57,7 +57,7 @@ as-step lines (Probe bytes) = refl
 as-step lines (Window id n) = refl
 as-step lines (Refuse id fields) = refl
 as-step lines (Reset id code written) = refl
-as-step lines (Goaway last code) = refl
+as-step lines (Goaway last cause) = refl
 as-step lines InputEnded = refl
 as-step lines Close = refl
 
@@ -108,7 +108,7 @@ fresh-of lines (Probe bytes ∷ orders) new = (tt, fresh-of lines orders new.1)
 fresh-of lines (Window id n ∷ orders) new = (tt, fresh-of lines orders new.1)
 fresh-of lines (Refuse id fields ∷ orders) new = (tt, fresh-of lines orders new.1)
 fresh-of lines (Reset id code written ∷ orders) new = (tt, fresh-of lines orders new.1)
-fresh-of lines (Goaway last code ∷ orders) new = (tt, fresh-of lines orders new.1)
+fresh-of lines (Goaway last cause ∷ orders) new = (tt, fresh-of lines orders new.1)
 fresh-of lines (InputEnded ∷ orders) new = (tt, fresh-of lines orders new.1)
 fresh-of lines (Close ∷ orders) new = (tt, fresh-of lines orders new.1)
 
@@ -209,7 +209,7 @@ few-from slots (Probe bytes ∷ orders) new few = few-from slots orders new.1 fe
 few-from slots (Window id n ∷ orders) new few = few-from slots orders new.1 few
 few-from slots (Refuse id fields ∷ orders) new few = few-from slots orders new.1 few
 few-from slots (Reset id code written ∷ orders) new few = few-from slots orders new.1 few
-few-from slots (Goaway last code ∷ orders) new few = few-from slots orders new.1 few
+few-from slots (Goaway last cause ∷ orders) new few = few-from slots orders new.1 few
 few-from slots (InputEnded ∷ orders) new few = few-from slots orders new.1 few
 few-from slots (Close ∷ orders) new few = few-from slots orders new.1 few
 
@@ -311,7 +311,7 @@ grow-step slots (Probe bytes) = grow-same slots
 grow-step slots (Window id n) = grow-same slots
 grow-step slots (Refuse id fields) = grow-same slots
 grow-step slots (Reset id code written) = grow-same slots
-grow-step slots (Goaway last code) = grow-same slots
+grow-step slots (Goaway last cause) = grow-same slots
 grow-step slots InputEnded = grow-same slots
 grow-step slots Close = grow-same slots
 
@@ -500,7 +500,7 @@ topped-from lines (Probe bytes ∷ orders) new are = topped-from lines orders ne
 topped-from lines (Window id n ∷ orders) new are = topped-from lines orders new.1 are
 topped-from lines (Refuse id fields ∷ orders) new are = topped-from lines orders new.1 are
 topped-from lines (Reset id code written ∷ orders) new are = topped-from lines orders new.1 are
-topped-from lines (Goaway last code ∷ orders) new are = topped-from lines orders new.1 are
+topped-from lines (Goaway last cause ∷ orders) new are = topped-from lines orders new.1 are
 topped-from lines (InputEnded ∷ orders) new are = topped-from lines orders new.1 are
 topped-from lines (Close ∷ orders) new are = topped-from lines orders new.1 are
 

@@ -23,6 +23,7 @@ use Rattle.outwriter.specs.Runs.{IsLawful, due, due_by, has_begun, told_by, with
 use Rattle.outwriter.specs.Runs.{told as duties_told}
 use Rattle.outwriter.specs.Steps.{Order, Taken, Granted, Written, Returned, frames_of}
 use Rattle.outwriter.specs.Steps.{Step as RunStep}
+use Rattle.reasons.specs.declared.Reason.TheVariants as reason
 use Rattle.session.specs.declared.event.Control.{Control}
 use Rattle.session.specs.declared.event.Control.TheVariants as controls
 use Rattle.session.specs.declared.event.InEvent.{InEvent}
@@ -42,7 +43,7 @@ last-news : (id : ℕ) (draining : Bool) (before : List ℕ) → news_in (last_s
 last-news id true before = refl
 last-news id false before = by (length before == 4095)
   where
-    by : (b : Bool) → news_in (if b then Goaway id error.NoError ∷ [] else []) ≡ []
+    by : (b : Bool) → news_in (if b then Goaway id (reason.Code error.NoError) ∷ [] else []) ≡ []
     by true = refl
     by false = refl
 
@@ -129,7 +130,7 @@ event-news before (events.Loose counted) fate = loose-news (named before) fate
 event-news before (events.Reset id code) fate = refl
 event-news before (events.StreamError id code) fate = refl
 event-news before (events.Control control) fate = control-news control
-event-news before (events.Fatal code) fate = refl
+event-news before (events.Fatal cause) fate = refl
 event-news before (events.End id) fate = refl
 event-news before events.PeerGoaway fate = refl
 
@@ -162,7 +163,7 @@ taken-silent before order told none is = taken-more before order told is ∙ (ap
 answer-silent : (last id : ℕ) → news_in (own_order last id ∷ []) ≡ []
 answer-silent last id = by (id == 0)
   where
-    by : (b : Bool) → news_in ((if b then Goaway last error.FlowControlError else Reset id error.FlowControlError true) ∷ []) ≡ []
+    by : (b : Bool) → news_in ((if b then Goaway last reason.Window else Reset id error.FlowControlError true) ∷ []) ≡ []
     by true = refl
     by false = refl
 
@@ -185,7 +186,7 @@ took-news orders (Granted id n ∷ before) took = took-news orders before took
 took-news orders (Written frame ∷ before) took = took-news orders before took
 took-news orders (Returned id items ∷ before) took = took-news orders before took
 
-last-silent : (order : Order) (rest : List Order) → ((last : ℕ) × (order ≡ Goaway last error.InternalError)) ⊎ ((order ≡ Close) × IsAmong order rest) → news_in (order ∷ []) ≡ []
+last-silent : (order : Order) (rest : List Order) → ((last : ℕ) × (order ≡ Goaway last reason.Memory)) ⊎ ((order ≡ Close) × IsAmong order rest) → news_in (order ∷ []) ≡ []
 last-silent order rest (inl goaway) = ap (λ (o : Order). news_in (o ∷ [])) goaway.1
 last-silent order rest (inr close) = ap (λ (o : Order). news_in (o ∷ [])) close.0
 
@@ -247,7 +248,7 @@ one-due (Window id increment) = refl
 one-due (Open id sender) = refl
 one-due (Refuse id fields) = refl
 one-due (Reset id code written) = refl
-one-due (Goaway last code) = refl
+one-due (Goaway last cause) = refl
 one-due InputEnded = refl
 one-due Close = refl
 

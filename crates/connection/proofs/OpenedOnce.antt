@@ -19,6 +19,7 @@ use Rattle.outwriter.specs.Drains.{draining, warning}
 use Rattle.outwriter.specs.Runs.{is_opened, opens_stream}
 use Rattle.outwriter.specs.Steps.{Order, Taken, Granted, Written, Returned}
 use Rattle.outwriter.specs.Steps.{Step as RunStep}
+use Rattle.reasons.specs.declared.Reason.TheVariants as reason
 use Rattle.session.specs.declared.event.Control.{Control as News}
 use Rattle.session.specs.declared.event.Control.TheVariants as news
 use Rattle.session.specs.declared.event.InEvent.{InEvent}
@@ -120,7 +121,7 @@ last-none : (id stream : ℕ) (drains : Bool) (before : List ℕ) → touches id
 last-none id stream true before = refl
 last-none id stream false before = by (length before == 4095)
   where
-    by : (b : Bool) → touches id (if b then Goaway stream NoError ∷ [] else []) ≡ 0
+    by : (b : Bool) → touches id (if b then Goaway stream (reason.Code NoError) ∷ [] else []) ≡ 0
     by true = refl
     by false = refl
 
@@ -217,7 +218,7 @@ told-once id before (events.Reset stream code) fate = omega arith
 told-once id before (events.StreamError stream code) fate = omega arith
 told-once id before (events.Control control) fate = omega (arith, news-none id control)
 told-once id before events.PeerGoaway fate = omega arith
-told-once id before (events.Fatal code) fate = omega arith
+told-once id before (events.Fatal cause) fate = omega arith
 
 ordered-once : (id : ℕ) (told : List Step) → touches id (orders_by told) ≤ many (nat_eq id) (openings (events_of told))
 ordered-once id [] = omega arith
@@ -246,7 +247,7 @@ many-opens id (Probe bytes ∷ orders) = omega (arith, many-opens id orders)
 many-opens id (Window stream increment ∷ orders) = omega (arith, many-opens id orders)
 many-opens id (Refuse stream fields ∷ orders) = omega (arith, many-opens id orders)
 many-opens id (Reset stream code written ∷ orders) = omega (arith, many-opens id orders)
-many-opens id (Goaway last code ∷ orders) = omega (arith, many-opens id orders)
+many-opens id (Goaway last cause ∷ orders) = omega (arith, many-opens id orders)
 many-opens id (InputEnded ∷ orders) = omega (arith, many-opens id orders)
 many-opens id (Close ∷ orders) = omega (arith, many-opens id orders)
 
@@ -285,7 +286,7 @@ many_taken P (Returned id items ∷ before) = many_taken P before
 pub record PassesNone (P : Order → Bool) : Type 0 where
   pub answers : (last id : ℕ) → P (own_order last id) ≡ false
   pub leaves : (id : ℕ) → P (Reset id InternalError true) ≡ false
-  pub gives_up : (last : ℕ) → P (Goaway last InternalError) ≡ false
+  pub gives_up : (last : ℕ) → P (Goaway last reason.Memory) ≡ false
   pub warns : P warning ≡ false
   pub probes : P (Probe draining) ≡ false
   pub input : P InputEnded ≡ false
@@ -317,8 +318,8 @@ module _ (P : Order → Bool) (own : PassesNone P) where
   took-many orders (Written frame ∷ before) took = took-many orders before took
   took-many orders (Returned id items ∷ before) took = took-many orders before took
 
-  end-none : (order : Order) (rest : List Order) → ((last : ℕ) × (order ≡ Goaway last InternalError)) ⊎ ((order ≡ Close) × IsAmong order rest) → bit (P order) ≡ 0
-  end-none order rest (inl goaway) = none-by order (Goaway goaway.0 InternalError) goaway.1 (own.gives_up goaway.0)
+  end-none : (order : Order) (rest : List Order) → ((last : ℕ) × (order ≡ Goaway last reason.Memory)) ⊎ ((order ≡ Close) × IsAmong order rest) → bit (P order) ≡ 0
+  end-none order rest (inl goaway) = none-by order (Goaway goaway.0 reason.Memory) goaway.1 (own.gives_up goaway.0)
   end-none order rest (inr close) = none-by order Close close.0 own.closes
 
   ends-none : (rest : List Order) (ends steps : List RunStep) → AreLast rest ends → many_taken P (ends ++ steps) ≡ many_taken P steps
@@ -367,7 +368,7 @@ opens-none id = record {
   closes = refl;
 }
   where
-    by : (last one : ℕ) (b : Bool) → opens_stream id (if b then Goaway last FlowControlError else Reset one FlowControlError true) ≡ false
+    by : (last one : ℕ) (b : Bool) → opens_stream id (if b then Goaway last reason.Window else Reset one FlowControlError true) ≡ false
     by last one true = refl
     by last one false = refl
 
@@ -382,7 +383,7 @@ refuses-none id = record {
   closes = refl;
 }
   where
-    by : (last one : ℕ) (b : Bool) → refuses_stream id (if b then Goaway last FlowControlError else Reset one FlowControlError true) ≡ false
+    by : (last one : ℕ) (b : Bool) → refuses_stream id (if b then Goaway last reason.Window else Reset one FlowControlError true) ≡ false
     by last one true = refl
     by last one false = refl
 
@@ -421,7 +422,7 @@ refuses-here id fields (Probe bytes) same = absurd same
 refuses-here id fields (Window stream increment) same = absurd same
 refuses-here id fields (Open stream sender) same = absurd same
 refuses-here id fields (Reset stream code written) same = absurd same
-refuses-here id fields (Goaway last code) same = absurd same
+refuses-here id fields (Goaway last cause) same = absurd same
 refuses-here id fields InputEnded same = absurd same
 refuses-here id fields Close same = absurd same
 

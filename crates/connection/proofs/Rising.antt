@@ -92,7 +92,7 @@ still id slots (Probe bytes) has = has
 still id slots (Window stream n) has = has
 still id slots (Refuse stream fields) has = has
 still id slots (Reset stream code written) has = has
-still id slots (Goaway last code) has = has
+still id slots (Goaway last cause) has = has
 still id slots InputEnded has = has
 still id slots Close has = has
 
@@ -119,7 +119,7 @@ above-from slots (Probe bytes ∷ orders) new id has = above-from slots orders n
 above-from slots (Window stream n ∷ orders) new id has = above-from slots orders new.1 id has
 above-from slots (Refuse stream fields ∷ orders) new id has = above-from slots orders new.1 id has
 above-from slots (Reset stream code written ∷ orders) new id has = above-from slots orders new.1 id has
-above-from slots (Goaway last code ∷ orders) new id has = above-from slots orders new.1 id has
+above-from slots (Goaway last cause ∷ orders) new id has = above-from slots orders new.1 id has
 above-from slots (InputEnded ∷ orders) new id has = above-from slots orders new.1 id has
 above-from slots (Close ∷ orders) new id has = above-from slots orders new.1 id has
 

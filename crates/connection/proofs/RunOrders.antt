@@ -10,6 +10,7 @@ use Rattle.outwriter.specs.RunState.{Blames, Concerns}
 use Rattle.outwriter.specs.Drains.{draining, warning}
 use Rattle.outwriter.specs.Steps.{Order, Taken, Granted, Written, Returned}
 use Rattle.outwriter.specs.Steps.{Step as RunStep}
+use Rattle.reasons.specs.declared.Reason.TheVariants as reason
 use Rattle.slotwriter.specs.Orders.{AreLast, HasTaken, IsAmong, IsAnswer, Obeys, ResetsCall, Warns, ends_input}
 use Rattle.connection.specs.Causes.{WasTaken}
 use Rattle.connection.specs.Heard.{HasPut}
@@ -69,7 +70,7 @@ taken-one P order (Returned id items ∷ before) was all = taken-one P order bef
 pub record IsOfOwn (P : Order → Type 0) (put : List Order) (run : List RunStep) : Type 0 where
   pub answers : (last id : ℕ) (order : Order) (before later : List RunStep) → run ≡ later ++ Taken order ∷ before → Concerns (PeerWindow id) order → Blames (PeerWindow id) order before → P (own_order last id)
   pub leaves : (id : ℕ) (front rest : List Order) → put ≡ front ++ rest → IsAmong (Open id tt) front → list_any ends_input front ≡ false → P (Reset id InternalError true)
-  pub gives_up : (last : ℕ) → P (Goaway last InternalError)
+  pub gives_up : (last : ℕ) → P (Goaway last reason.Memory)
   pub warns : P warning
   pub probes : P (Probe draining)
   pub closes : P Close
@@ -108,7 +109,7 @@ module _ (P : Order → Type 0) (put : List Order) (run : List RunStep) (own : I
   took-each later orders rest (Written frame ∷ before) is parts all took = took-each (later ++ Written frame ∷ []) orders rest before (at-step later before (Written frame) is) parts all took
   took-each later orders rest (Returned id items ∷ before) is parts all took = took-each (later ++ Returned id items ∷ []) orders rest before (at-step later before (Returned id items) is) parts all took
 
-  last-one : (order : Order) (rest : List Order) → ((last : ℕ) × (order ≡ Goaway last InternalError)) ⊎ ((order ≡ Close) × IsAmong order rest) → P order
+  last-one : (order : Order) (rest : List Order) → ((last : ℕ) × (order ≡ Goaway last reason.Memory)) ⊎ ((order ≡ Close) × IsAmong order rest) → P order
   last-one order rest (inl goaway) = subst P (sym goaway.1) (own.gives_up goaway.0)
   last-one order rest (inr close) = subst P (sym close.0) own.closes
 

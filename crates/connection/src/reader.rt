@@ -35,6 +35,7 @@ use device::ConnRead;
 use h2frame::{ErrorCode, StreamId};
 use handlers::{Method, Methods};
 use outwriter::Control;
+use reasons::Reason;
 use session::{InCore, InEvent};
 use slots::{Decided, Ended, Reading, Worker};
 use std::alloc::{AllocError, Global};
@@ -367,7 +368,7 @@ where
             InEvent::StreamError(id, code) => self.fail(id, code),
             InEvent::Control(news) => self.pass_on(news),
             InEvent::PeerGoaway => self.hear_goaway(),
-            InEvent::Fatal(code) => self.fatal(code),
+            InEvent::Fatal(reason) => self.fatal(reason),
         }
     }
 
@@ -408,11 +409,11 @@ where
     }
 
     /// The client has made an error that ends the connection.
-    fn fatal(&mut self, code: ErrorCode) -> Option<Ending>
-        ensures reads { ReadsTo M.names (events.Fatal code ∷ []) result
+    fn fatal(&mut self, reason: Reason) -> Option<Ending>
+        ensures reads { ReadsTo M.names (events.Fatal reason ∷ []) result
             self.old.reading self.old.orders self.new.reading self.new.orders }
     {
-        let decided = self.reading.fatal(code);
+        let decided = self.reading.fatal(reason);
         self.act(decided)
     }
 

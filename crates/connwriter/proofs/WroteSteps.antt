@@ -6,7 +6,7 @@ use Rattle.std.specs.Io.KnownBytes.{Appends}
 use Rattle.std.specs.Prelude.{◌==◌, Err, IfSome, if◌then◌else◌}
 use Rattle.callbox.specs.declared.sender.Sender.{Sender}
 use Rattle.device.specs.Bytes.{AppendsPrefix}
-use Rattle.h2frame.specs.declared.error_code.ErrorCode.TheVariants.{FlowControlError, InternalError}
+use Rattle.h2frame.specs.declared.error_code.ErrorCode.TheVariants.{FlowControlError}
 use Rattle.h2frame.specs.declared.frame.Frame.{Frame}
 use Rattle.h2frame.specs.Spelling.{spelled}
 use Rattle.outwriter.specs.declared.control.Control.{Control}
@@ -26,6 +26,7 @@ use Rattle.connwriter.specs.declared.writer.ConnWriter.{ConnWriter}
 use Rattle.connwriter.specs.Orders.{own_control, own_order, parting}
 use Rattle.connwriter.specs.Spelled.{Holds, IsFront, IsAll, Parted, ended_by}
 use Rattle.connwriter.specs.Wrote.{Wrote, WritesOn, Fills, Puts, RestsIf}
+use Rattle.reasons.specs.declared.Reason.TheVariants as reason
 use Rattle.connwriter.proofs.SpelledLemmas.{parted-more, holds-all, holds-cut, holds-flushed, holds-front}
 
 appends-nothing : (bytes : Option (List ℕ)) → Appends bytes bytes []
@@ -45,18 +46,18 @@ not-broken-2 e = cc
 
 module _ {L In Out Shut : Type 0} (got : Out → List OutItem) where
   own-unused-by : (is_zero : Bool) (last id : ℕ) (control : Control (Sender L In Out Shut))
-      → control ≡ (if is_zero then Goaway last FlowControlError else Reset id FlowControlError true) → IsUnused got control
+      → control ≡ (if is_zero then Goaway last reason.Window else Reset id FlowControlError true) → IsUnused got control
   own-unused-by true last id control is = subst (λ (c : Control (Sender L In Out Shut)). IsUnused got c) (sym is) tt
   own-unused-by false last id control is = subst (λ (c : Control (Sender L In Out Shut)). IsUnused got c) (sym is) tt
 
   own-order-by : (is_zero : Bool) (last id : ℕ) (control : Control (Sender L In Out Shut))
-      → control ≡ (if is_zero then Goaway last FlowControlError else Reset id FlowControlError true)
-      → order_of control ≡ (if is_zero then Goaway last FlowControlError else Reset id FlowControlError true)
+      → control ≡ (if is_zero then Goaway last reason.Window else Reset id FlowControlError true)
+      → order_of control ≡ (if is_zero then Goaway last reason.Window else Reset id FlowControlError true)
   own-order-by true last id control is = ap (λ (c : Control (Sender L In Out Shut)). order_of c) is
   own-order-by false last id control is = ap (λ (c : Control (Sender L In Out Shut)). order_of c) is
 
   own-blameless-by : (is_zero : Bool) (last id stream : ℕ) (control : Control (Sender L In Out Shut))
-      → control ≡ (if is_zero then Goaway last FlowControlError else Reset id FlowControlError true) → Concerns (PeerWindow stream) control → ⊥
+      → control ≡ (if is_zero then Goaway last reason.Window else Reset id FlowControlError true) → Concerns (PeerWindow stream) control → ⊥
   own-blameless-by true last id stream control is h = subst (λ (c : Control (Sender L In Out Shut)). Concerns (PeerWindow stream) c) is h
   own-blameless-by false last id stream control is h = subst (λ (c : Control (Sender L In Out Shut)). Concerns (PeerWindow stream) c) is h
 
@@ -149,13 +150,13 @@ module _ {L In Out Shut W : Type 0} (got : Out → List OutItem) (contents : W �
 
   -- ---- the last word
 
-  pub parts-on : (last : ℕ) (frame : Frame) (old new : ConnWriter L W In Out Shut) → frame ≡ goaway_frame last InternalError → old.standing ≡ OutOfMemory
-      → ((run : List Step) → Leads got run old.core → Leads got (Written frame ∷ Taken (Goaway last InternalError) ∷ run) new.core)
+  pub parts-on : (last : ℕ) (frame : Frame) (old new : ConnWriter L W In Out Shut) → frame ≡ goaway_frame last reason.Memory → old.standing ≡ OutOfMemory
+      → ((run : List Step) → Leads got run old.core → Leads got (Written frame ∷ Taken (Goaway last reason.Memory) ∷ run) new.core)
       → new.standing ≡ old.standing → new.device ≡ old.device → new.buffer.items ≡ old.buffer.items ++ spelled frame → new.ended.items ≡ old.ended.items
       → WritesOn got contents failed (parting last true) old new
   parts-on last frame old new is memory leads standing device buffer ended before run w =
       let held = subst (λ (s : Standing). Holds s (frames_of run) before (contents old.device) old.buffer.items old.ended.items) memory w.bytes in
-      subst (λ (f : Frame). Wrote got contents failed before (Written f ∷ Taken (Goaway last InternalError) ∷ run) new) is (record {
+      subst (λ (f : Frame). Wrote got contents failed before (Written f ∷ Taken (Goaway last reason.Memory) ∷ run) new) is (record {
         leads = leads run w.leads;
         bytes = rw (standing, memory, device, buffer, ended)
             (subst (λ (ids : List ℕ). Parted (frame ∷ frames_of run) before (contents old.device) (old.buffer.items ++ spelled frame) ids)

@@ -1,6 +1,6 @@
 -- The orders that a writer makes by itself: the peer's window overflows (RFC 9113, sections 6.9.1 and 6.9.2), or its core ran out of memory.
 use Rattle.std.specs.Prelude.{◌≡◌, ◌≢◌, ℕ, ◌==◌, Bool, true, false, List, [], ◌∷◌, if◌then◌else◌}
-use Rattle.h2frame.specs.declared.error_code.ErrorCode.TheVariants.{FlowControlError, InternalError}
+use Rattle.h2frame.specs.declared.error_code.ErrorCode.TheVariants.{FlowControlError}
 use Rattle.outwriter.specs.declared.control.Control.{Control}
 use Rattle.outwriter.specs.declared.control.Control.TheVariants.{Reset, Goaway}
 use Rattle.outwriter.specs.declared.control.OutFault.TheVariants.{PeerWindow}
@@ -10,18 +10,19 @@ use Rattle.outwriter.specs.Steps.{Order, Step, Taken, Written}
 use Rattle.connwriter.specs.declared.standing.Standing.{Standing}
 use Rattle.connwriter.specs.declared.standing.Standing.TheVariants.{Going}
 use Rattle.connwriter.specs.declared.taking.Taking.{Taking}
+use Rattle.reasons.specs.declared.Reason.TheVariants as reason
 use Rattle.connwriter.specs.declared.taking.Taking.TheVariants.{Done, Ended, Unanswered, HandedBack}
 
 -- what ends a stream, or the connection as stream 0: an error of flow control
 abbrev pub own_control : {S : Type 0} → ℕ → ℕ → Control S
-own_control last id = if id == 0 then Goaway last FlowControlError else Reset id FlowControlError true
+own_control last id = if id == 0 then Goaway last reason.Window else Reset id FlowControlError true
 
 abbrev pub own_order : ℕ → ℕ → Order
 own_order last id = own_control last id
 
 -- The last word of a writer whose core ran out of memory, where it is said: GOAWAY with INTERNAL_ERROR, and before it the order for it.
 abbrev pub parting : ℕ → Bool → List Step
-parting last true = Written (goaway_frame last InternalError) ∷ Taken (Goaway last InternalError) ∷ []
+parting last true = Written (goaway_frame last reason.Memory) ∷ Taken (Goaway last reason.Memory) ∷ []
 parting last false = []
 
 module _ {S : Type 0} where

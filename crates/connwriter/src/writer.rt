@@ -31,6 +31,7 @@ use device::{ConnWrite, DeviceFault, write_all};
 use h2frame::{ErrorCode, Flags, Frame, FrameKind, StreamId, write_frame};
 use lane::Lane;
 use outwriter::{Control, Next, OutCore, OutFault};
+use reasons::Reason;
 use std::alloc::{AllocError, Global};
 use std::mem;
 
@@ -335,7 +336,7 @@ impl<L: Lane<Item = OutItem>, W: ConnWrite> ConnWriter<L, W> {
         if self.standing != Standing::OutOfMemory || self.buffer.len() > BUFFER - LONGEST_FRAME {
             return false;
         }
-        let Some(frame) = self.core.farewell(last, ErrorCode::InternalError) else {
+        let Some(frame) = self.core.farewell(last, Reason::Memory) else {
             return false;
         };
         match write_frame(&frame, &mut self.buffer) {
@@ -515,13 +516,13 @@ fn carries_items(frame: &Frame) -> bool {
 fn own_order<S>(id: StreamId, last: StreamId) -> Control<S>
     ensures { result ≡ own_control last id }
 {
-    let code = ErrorCode::FlowControlError;
     if id == 0 {
-        return Control::Goaway { last, code };
+        let reason = Reason::Window;
+        return Control::Goaway { last, reason };
     }
     Control::Reset {
         id,
-        code,
+        code: ErrorCode::FlowControlError,
         written: true,
     }
 }

@@ -60,7 +60,7 @@ module _ (run after : List Step) (o new : Outbound) (streams left : OpenStreams)
   stays-due s due_kind.SettingsAck h = tt
   stays-due s (due_kind.PingAck bytes) h = tt
   stays-due s (due_kind.Ping bytes) h = tt
-  stays-due s (due_kind.Goaway last code) h = tt
+  stays-due s (due_kind.Goaway last reason) h = tt
 
   pub all-due : StaysDue → (waiting : List Due) → All (MayBeDue run o streams) waiting → All (MayBeDue after new left) waiting
   all-due s waiting all = All-weaker (MayBeDue run o streams) (MayBeDue after new left) (stays-due s) waiting all
@@ -74,7 +74,7 @@ refused-reason run o streams id (due_kind.Reset stream code) e may = absurd (tru
 refused-reason run o streams id due_kind.SettingsAck e may = absurd (true≢false (sym e))
 refused-reason run o streams id (due_kind.PingAck bytes) e may = absurd (true≢false (sym e))
 refused-reason run o streams id (due_kind.Ping bytes) e may = absurd (true≢false (sym e))
-refused-reason run o streams id (due_kind.Goaway last code) e may = absurd (true≢false (sym e))
+refused-reason run o streams id (due_kind.Goaway last reason) e may = absurd (true≢false (sym e))
 
 refused-or-heard : (id : ℕ) (more : List Due) (heard : Bool) (run : List Step) (o : Outbound) (streams : OpenStreams) → All (MayBeDue run o streams) more
     → (list_any (refuses id) more || heard) ≡ true → ((is_fresh id run ≡ false) × (has_reason id run ≡ true)) ⊎ (heard ≡ true)

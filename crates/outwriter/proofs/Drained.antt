@@ -46,7 +46,7 @@ by-order (Window id n) = refl
 by-order (Open id sender) = refl
 by-order (Refuse id fields) = refl
 by-order (Reset id code written) = refl
-by-order (Goaway last code) = refl
+by-order (Goaway last reason) = refl
 by-order InputEnded = refl
 by-order Close = refl
 
@@ -129,7 +129,7 @@ fails-order (Window id n) = refl
 fails-order (Open id sender) = refl
 fails-order (Refuse id fields) = refl
 fails-order (Reset id code written) = refl
-fails-order (Goaway last code) = or-false (is_last (goaway_frame last code))
+fails-order (Goaway last reason) = or-false (is_last (goaway_frame last reason))
 fails-order InputEnded = refl
 fails-order Close = refl
 

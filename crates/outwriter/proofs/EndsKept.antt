@@ -38,7 +38,7 @@ one-due owed left id same (due_kind.Refuse stream fields) = by (id == stream) re
 one-due owed left id same due_kind.SettingsAck = refl
 one-due owed left id same (due_kind.PingAck bytes) = refl
 one-due owed left id same (due_kind.Ping bytes) = refl
-one-due owed left id same (due_kind.Goaway last code) = refl
+one-due owed left id same (due_kind.Goaway last reason) = refl
 
 pub dues-same : (owed left : States) (id : ℕ) → is_reset left id ≡ is_reset owed id → (dues : List Due) → list_any (is_due_of left id) dues ≡ list_any (is_due_of owed id) dues
 dues-same owed left id same [] = refl

@@ -9,6 +9,7 @@ use Rattle.flow.specs.Windows.{Windows}
 use Rattle.h2frame.specs.declared.error_code.ErrorCode.{ErrorCode}
 use Rattle.h2frame.specs.declared.frame.Frame.{Frame}
 use Rattle.h2frame.specs.declared.kind.FrameKind.TheVariants as kind
+use Rattle.reasons.specs.declared.Reason.{Reason}
 use Rattle.outwriter.specs.declared.blocks.HeaderBlock.{HeaderBlock}
 use Rattle.outwriter.specs.declared.control.Control.TheVariants.{Goaway}
 use Rattle.outwriter.specs.declared.due.Due.{Due}
@@ -266,8 +267,8 @@ ping-ack-plain bytes = record { no_data = λ e. cc; no_continuation = λ e. cc; 
 pub ping-plain : (bytes : List ℕ) → IsPlain (ping_frame bytes)
 ping-plain bytes = record { no_data = λ e. cc; no_continuation = λ e. cc; no_fragment = λ begun. refl; no_closing = refl; no_spending = refl; no_end = refl; no_reset = refl }
 
-pub goaway-plain : (last : ℕ) (code : ErrorCode) → IsPlain (goaway_frame last code)
-goaway-plain last code = record { no_data = λ e. cc; no_continuation = λ e. cc; no_fragment = λ begun. refl; no_closing = refl; no_spending = refl; no_end = refl; no_reset = refl }
+pub goaway-plain : (last : ℕ) (reason : Reason) → IsPlain (goaway_frame last reason)
+goaway-plain last reason = record { no_data = λ e. cc; no_continuation = λ e. cc; no_fragment = λ begun. refl; no_closing = refl; no_spending = refl; no_end = refl; no_reset = refl }
 
 pub none-over : (o : Option Bool) → o ≡ None → is_some o ≡ false
 none-over None e = refl
@@ -304,10 +305,10 @@ due-written run begun gone after w one waiting block owed made frame is is_begun
 
 -- between header blocks, a GOAWAY may be written that is asked for now
 pub may-part : (run : List Step) (begun gone : Bool) (w : Windows) (waiting : List Due) (block : Option HeaderBlock) (owed : States)
-    (last : ℕ) (code : ErrorCode) → begun ≡ true → gone ≡ false → block ≡ None → Mirrors run begun gone w waiting block owed
-    → MayWrite (Taken (Goaway last code) ∷ run) (goaway_frame last code)
-may-part run begun gone w waiting block owed last code is_begun not_gone no_block m =
-    let frame : Frame = goaway_frame last code in
+    (last : ℕ) (reason : Reason) → begun ≡ true → gone ≡ false → block ≡ None → Mirrors run begun gone w waiting block owed
+    → MayWrite (Taken (Goaway last reason) ∷ run) (goaway_frame last reason)
+may-part run begun gone w waiting block owed last reason is_begun not_gone no_block m =
+    let frame : Frame = goaway_frame last reason in
     let nothing : unfinished run ≡ None = subst (HasBlock run) no_block m.goes_on in
     let still = connection-on run owed m.stand.over m.stand.no_stream_0 in
     let none = no-updates run frame refl in

@@ -44,7 +44,7 @@ reason-step run (order.Probe bytes) k before (inl p) = absurd (true≢false (sym
 reason-step run (order.Window id n) k before (inl p) = absurd (true≢false (sym p))
 reason-step run (order.Open id sender) k before (inl p) = absurd (true≢false (sym p))
 reason-step run (order.Refuse id fields) k before (inl p) = absurd (true≢false (sym p))
-reason-step run (order.Goaway last code) k before (inl p) = absurd (true≢false (sym p))
+reason-step run (order.Goaway last reason) k before (inl p) = absurd (true≢false (sym p))
 reason-step run order.InputEnded k before (inl p) = absurd (true≢false (sym p))
 reason-step run order.Close k before (inl p) = absurd (true≢false (sym p))
 

@@ -16,6 +16,7 @@ use Rattle.h2frame.specs.declared.settings.PeerSetting.TheVariants.{TableSize, W
 use Rattle.h2frame.specs.Faults.{increment_of}
 use Rattle.h2frame.specs.Flags.{end_stream}
 use Rattle.h2frame.specs.declared.kind.FrameKind.TheVariants as kind
+use Rattle.reasons.specs.declared.Reason.TheVariants.{Code}
 use Rattle.outwriter.specs.declared.control.Control.TheVariants as order
 use Rattle.outwriter.specs.Frames.{frame_with, update_kind, update_on, first_settings, settings_ack, ping_ack, reset_frame, goaway_frame, update_frame, data_frame, headers_frame, continuation_frame, is_data}
 use Rattle.outwriter.specs.Histories.{HasHistory, Takes}
@@ -96,30 +97,30 @@ out-of-order m = by m.answers
     by (rest, e) = true≢false (ap (λ (frames : List Frame). (first settings_ack frames).head.length == 0) e)
 
 -- nothing asked for GOAWAY
-pub unasked-goaway : ¬ MayWrite begun (goaway_frame 7 Cancel)
+pub unasked-goaway : ¬ MayWrite begun (goaway_frame 7 (Code Cancel))
 unasked-goaway m = by m.parts
   where
-    by : goaway_frame 7 Cancel ∷ [] ≡ [] → ⊥
+    by : goaway_frame 7 (Code Cancel) ∷ [] ≡ [] → ⊥
     by e = cc
 
 -- GOAWAY of a later control was written
 abbrev swapped : List Frame
-swapped = goaway_frame 7 NoError ∷ goaway_frame 3 NoError ∷ []
+swapped = goaway_frame 7 (Code NoError) ∷ goaway_frame 3 (Code NoError) ∷ []
 
-pub goaways-out-of-order : ¬ MayWrite (Written (goaway_frame 7 NoError) ∷ Taken (order.Goaway 7 NoError) ∷ Taken (order.Goaway 3 NoError) ∷ begun) (goaway_frame 3 NoError)
+pub goaways-out-of-order : ¬ MayWrite (Written (goaway_frame 7 (Code NoError)) ∷ Taken (order.Goaway 7 (Code NoError)) ∷ Taken (order.Goaway 3 (Code NoError)) ∷ begun) (goaway_frame 3 (Code NoError))
 goaways-out-of-order m = by m.parts
   where
     last_of : List Frame → ℕ
     last_of [] = 0
     last_of (frame ∷ frames) = from_be_bytes w32 frame.content
 
-    later : AreAmong swapped (goaway_frame 7 NoError ∷ []) → ⊥
+    later : AreAmong swapped (goaway_frame 7 (Code NoError) ∷ []) → ⊥
     later (inl e) = cc
     later (inr (rest, e, none)) =
-        let one : 2 ≡ 1 = ap (λ (frames : List Frame). length frames) e ∙ ap (λ (frames : List Frame). length (goaway_frame 7 NoError ∷ frames)) none in
+        let one : 2 ≡ 1 = ap (λ (frames : List Frame). length frames) e ∙ ap (λ (frames : List Frame). length (goaway_frame 7 (Code NoError) ∷ frames)) none in
         omega (arith, one)
 
-    by : AreAmong swapped (goaway_frame 3 NoError ∷ goaway_frame 7 NoError ∷ []) → ⊥
+    by : AreAmong swapped (goaway_frame 3 (Code NoError) ∷ goaway_frame 7 (Code NoError) ∷ []) → ⊥
     by (inl among) = later among
     by (inr (rest, e, among)) = true≢false (ap (λ (frames : List Frame). last_of frames == 7) e)
 
@@ -196,7 +197,7 @@ after-the-end m = by (m.not_ended refl)
     by (inr e) = true≢false (sym (ap may_follow e))
 
 -- a GOAWAY with an error was the last frame
-pub after-the-last : ¬ MayWrite (Written (goaway_frame 7 Cancel) ∷ Taken (order.Goaway 7 Cancel) ∷ begun) settings_ack
+pub after-the-last : ¬ MayWrite (Written (goaway_frame 7 (Code Cancel)) ∷ Taken (order.Goaway 7 (Code Cancel)) ∷ begun) settings_ack
 after-the-last m = true≢false m.goes_on
 
 -- more credit than was granted

@@ -9,6 +9,7 @@ use Rattle.callbox.specs.declared.sender.Sender.{Sender}
 use Rattle.h2frame.specs.declared.error_code.ErrorCode.{ErrorCode}
 use Rattle.h2frame.specs.declared.frame.Frame.{Frame}
 use Rattle.lists.specs.declared.field.Field.{Field}
+use Rattle.reasons.specs.declared.Reason.{Reason}
 use Rattle.outwriter.specs.declared.control.Control.{Control}
 use Rattle.outwriter.specs.declared.control.Control.TheVariants as order
 use Rattle.outwriter.specs.declared.control.Control.TheVariants.{Goaway}
@@ -73,7 +74,7 @@ is-calm (order.Settings settings) plain = record { unopened = λ id. refl; unref
 is-calm (order.Ping bytes) plain = record { unopened = λ id. refl; unrefused = λ id. refl; calm = λ id opened. refl; unreset = λ id. refl }
 is-calm (order.Probe bytes) plain = record { unopened = λ id. refl; unrefused = λ id. refl; calm = λ id opened. refl; unreset = λ id. refl }
 is-calm (order.Window id n) plain = record { unopened = λ id. refl; unrefused = λ id. refl; calm = λ id opened. refl; unreset = λ id. refl }
-is-calm (order.Goaway last code) plain = record { unopened = λ id. refl; unrefused = λ id. refl; calm = λ id opened. refl; unreset = λ id. refl }
+is-calm (order.Goaway last reason) plain = record { unopened = λ id. refl; unrefused = λ id. refl; calm = λ id opened. refl; unreset = λ id. refl }
 is-calm order.InputEnded plain = record { unopened = λ id. refl; unrefused = λ id. refl; calm = λ id opened. refl; unreset = λ id. refl }
 is-calm order.Close plain = record { unopened = λ id. refl; unrefused = λ id. refl; calm = λ id opened. refl; unreset = λ id. refl }
 
@@ -90,7 +91,7 @@ plain-may run o streams (due_kind.Reset id code) h = absurd h
 plain-may run o streams due_kind.SettingsAck h = tt
 plain-may run o streams (due_kind.PingAck bytes) h = tt
 plain-may run o streams (due_kind.Ping bytes) h = tt
-plain-may run o streams (due_kind.Goaway last code) h = tt
+plain-may run o streams (due_kind.Goaway last reason) h = tt
 
 pub one-plain : (one : Due) → IsPlainDue one → All IsPlainDue (one ∷ [])
 one-plain one h = All-cons IsPlainDue one [] h (All-nil IsPlainDue)
@@ -212,9 +213,9 @@ kept-without (Err e) old new stays takes = kept-room old new stays takes
 -- ---- what a dead core may say
 
 -- more credit, or a sender that is given back, forbids no GOAWAY
-may-part-granted : (run : List Step) (id n last : ℕ) (code : ErrorCode) → MayWrite (Taken (Goaway last code) ∷ run) (goaway_frame last code)
-    → MayWrite (Taken (Goaway last code) ∷ Granted id n ∷ run) (goaway_frame last code)
-may-part-granted run id n last code m = record {
+may-part-granted : (run : List Step) (id n last : ℕ) (reason : Reason) → MayWrite (Taken (Goaway last reason) ∷ run) (goaway_frame last reason)
+    → MayWrite (Taken (Goaway last reason) ∷ Granted id n ∷ run) (goaway_frame last reason)
+may-part-granted run id n last reason m = record {
   first = m.first;
   windows = λ e. cc;
   content = λ e. cc;
@@ -226,13 +227,13 @@ may-part-granted run id n last code m = record {
   not_reset = m.not_reset;
   not_ended = m.not_ended;
   goes_on = m.goes_on;
-  owes = λ k. omega (arith, no-updates run (goaway_frame last code) refl k);
+  owes = λ k. omega (arith, no-updates run (goaway_frame last reason) refl k);
   update = λ e. cc;
 }
 
-pub may-part-returned : (run : List Step) (id : ℕ) (items : List OutItem) (last : ℕ) (code : ErrorCode) → MayWrite (Taken (Goaway last code) ∷ run) (goaway_frame last code)
-    → MayWrite (Taken (Goaway last code) ∷ Returned id items ∷ run) (goaway_frame last code)
-may-part-returned run id items last code m = record {
+pub may-part-returned : (run : List Step) (id : ℕ) (items : List OutItem) (last : ℕ) (reason : Reason) → MayWrite (Taken (Goaway last reason) ∷ run) (goaway_frame last reason)
+    → MayWrite (Taken (Goaway last reason) ∷ Returned id items ∷ run) (goaway_frame last reason)
+may-part-returned run id items last reason m = record {
   first = m.first;
   windows = λ e. cc;
   content = λ e. cc;
@@ -249,9 +250,9 @@ may-part-returned run id items last code m = record {
 }
 
 -- the frames of a stream tell with a GOAWAY what they told before
-part-parted : (id : ℕ) (run : List Step) (last : ℕ) (code : ErrorCode) (part : List Mark) → IsPart id run part
-    → IsPart id (Written (goaway_frame last code) ∷ Taken (Goaway last code) ∷ run) part
-part-parted id run last code part (table, marks, tells, is) = (table, marks, (table, marks, tells, (refl, sym (append-nil marks))), is)
+part-parted : (id : ℕ) (run : List Step) (last : ℕ) (reason : Reason) (part : List Mark) → IsPart id run part
+    → IsPart id (Written (goaway_frame last reason) ∷ Taken (Goaway last reason) ∷ run) part
+part-parted id run last reason part (table, marks, tells, is) = (table, marks, (table, marks, tells, (refl, sym (append-nil marks))), is)
 
 -- ---- whether the peer may be warned
 
@@ -271,13 +272,13 @@ pub either-false : (a b : Bool) → (a || b) ≡ false → (a ≡ false) × (b �
 either-false false b both = (refl, both)
 either-false true b both = absurd (true≢false both)
 
-pub unsaid-goaway : (last : ℕ) (code : ErrorCode) (leaving probed failed fails_now : Bool) → fails_now ≡ (failed || is_last (goaway_frame last code)) → (run : List Step)
-    → IsUnsaid run leaving probed failed → IsUnsaid (Taken (Goaway last code) ∷ run) true probed fails_now
-unsaid-goaway last code leaving probed failed fails_now is run unsaid = record {
+pub unsaid-goaway : (last : ℕ) (reason : Reason) (leaving probed failed fails_now : Bool) → fails_now ≡ (failed || is_last (goaway_frame last reason)) → (run : List Step)
+    → IsUnsaid run leaving probed failed → IsUnsaid (Taken (Goaway last reason) ∷ run) true probed fails_now
+unsaid-goaway last reason leaving probed failed fails_now is run unsaid = record {
   goaway = λ still. absurd (true≢false still);
   probe = unsaid.probe;
   error = λ still.
-      let none = either-false failed (is_last (goaway_frame last code)) (sym is ∙ still) in
+      let none = either-false failed (is_last (goaway_frame last reason)) (sym is ∙ still) in
       ap (λ (b : Bool). b || has_failed run) none.1 ∙ unsaid.error none.0;
 }
 
@@ -344,22 +345,22 @@ module _ {L In Out Shut : Type 0} (got : Out → List OutItem) where
     returned = l.returned;
     others = l.others;
     closed = l.closed;
-    parts = λ dead may last code. may-part-granted run id n last code (l.parts dead may last code);
+    parts = λ dead may last reason. may-part-granted run id n last reason (l.parts dead may last reason);
     unsaid = λ alive. let before = l.unsaid alive in record { goaway = before.goaway; probe = before.probe; error = before.error };
     keeps = λ alive. kept alive run (calls got old.sending.senders.items) (l.keeps alive);
   }
 
   -- the last word of a dead core is its next frame, behind a control that asks for it; it tells nothing of a stream
-  pub leads-parted : (old : OutCore L In Out Shut) (last : ℕ) (code : ErrorCode) (frame : Frame) → frame ≡ goaway_frame last code → old.is_dead ≡ true → old.may_part ≡ true
-      → (run : List Step) → Leads got run old → Leads got (Written frame ∷ Taken (Goaway last code) ∷ run) (record old { may_part = false })
-  leads-parted old last code frame is dead may run l =
-      subst (λ (f : Frame). Leads got (Written f ∷ Taken (Goaway last code) ∷ run) (record old { may_part = false })) (sym is) (record {
-        lawful = (sound-goaway last code, l.parts dead may last code, l.lawful);
-        fronts = λ k d within served. let t = l.fronts k d within served in (t.0, part-parted (get_or (calls got old.sending.senders.items) k d).0 run last code t.0 t.1, t.2);
-        returned = λ id items given served. let t = l.returned id items given served in (t.0, part-parted id run last code t.0 t.1, t.2);
+  pub leads-parted : (old : OutCore L In Out Shut) (last : ℕ) (reason : Reason) (frame : Frame) → frame ≡ goaway_frame last reason → old.is_dead ≡ true → old.may_part ≡ true
+      → (run : List Step) → Leads got run old → Leads got (Written frame ∷ Taken (Goaway last reason) ∷ run) (record old { may_part = false })
+  leads-parted old last reason frame is dead may run l =
+      subst (λ (f : Frame). Leads got (Written f ∷ Taken (Goaway last reason) ∷ run) (record old { may_part = false })) (sym is) (record {
+        lawful = (sound-goaway last reason, l.parts dead may last reason, l.lawful);
+        fronts = λ k d within served. let t = l.fronts k d within served in (t.0, part-parted (get_or (calls got old.sending.senders.items) k d).0 run last reason t.0 t.1, t.2);
+        returned = λ id items given served. let t = l.returned id items given served in (t.0, part-parted id run last reason t.0 t.1, t.2);
         others = λ id unopened.
             let t = l.others id unopened in
-            (t.0, part-parted id run last code t.0 t.1, other-later run (Written (goaway_frame last code) ∷ Taken (Goaway last code) ∷ run) id t.0 (λ fields asked. inr asked) t.2);
+            (t.0, part-parted id run last reason t.0 t.1, other-later run (Written (goaway_frame last reason) ∷ Taken (Goaway last reason) ∷ run) id t.0 (λ fields asked. inr asked) t.2);
         closed = l.closed;
         parts = λ dead may. absurd (true≢false (sym may));
         unsaid = λ alive. absurd (true≢false (sym dead ∙ alive));

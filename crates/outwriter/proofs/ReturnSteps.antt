@@ -322,7 +322,7 @@ module _ {L In Out Shut : Type 0} (got : Out → List OutItem) where
         returned = λ k given r. given-back k given r;
         others = l.others;
         closed = l.closed;
-        parts = λ dead may last code. may-part-returned run id items last code (l.parts dead may last code);
+        parts = λ dead may last reason. may-part-returned run id items last reason (l.parts dead may last reason);
         unsaid = λ alive. let before = l.unsaid alive in record { goaway = before.goaway; probe = before.probe; error = before.error };
         keeps = λ alive. let k = l.keeps alive in record {
           mirrors = mirrors-but-open (Returned id items ∷ run) o left same_out (mirrors-returned run o id items k.mirrors);

@@ -135,7 +135,7 @@ due-same run next o after streams left later fresh served heard closed (due_kind
 due-same run next o after streams left later fresh served heard closed due_kind.SettingsAck m = tt
 due-same run next o after streams left later fresh served heard closed (due_kind.PingAck bytes) m = tt
 due-same run next o after streams left later fresh served heard closed (due_kind.Ping bytes) m = tt
-due-same run next o after streams left later fresh served heard closed (due_kind.Goaway last code) m = tt
+due-same run next o after streams left later fresh served heard closed (due_kind.Goaway last reason) m = tt
 
 was-open : (streams left : OpenStreams) (id : ℕ) (stream : OpenStream) → (streams id ≡ None → left id ≡ None)
     → left id ≡ Some stream → (o : Option OpenStream) → streams id ≡ o → (st : OpenStream) × (streams id ≡ Some st)

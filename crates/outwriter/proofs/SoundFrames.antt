@@ -1,6 +1,7 @@
 -- Each frame that a writer makes is sound.
-use Rattle.std.proofs.Common.{◌≡◌, ℕ, ◌<◌, ◌≤◌, ◌^◌, ◌==◌, Bool, true, false, List, Option, Some, None, length, take, ap, sym, subst, refl, arith, ◌∙◌}
+use Rattle.std.proofs.Common.{◌≡◌, ℕ, ◌+◌, ◌++◌, length-append, ◌<◌, ◌≤◌, ◌^◌, ◌==◌, Bool, true, false, List, Option, Some, None, length, take, ap, sym, subst, refl, arith, ◌∙◌}
 use Rattle.std.specs.Prelude.{if◌then◌else◌, bit_and}
+use Rattle.std.specs.Int.{bytes_high_first}
 use Rattle.std.specs.Option.{option_or}
 use Rattle.std.proofs.lemmas.Bool.{le-leb, le-ltb, lt-ltb, ne_eqb}
 use Rattle.std.proofs.lemmas.List.{length-take}
@@ -9,8 +10,13 @@ use Rattle.h2frame.specs.declared.fault.FrameFault.{FrameFault}
 use Rattle.h2frame.specs.declared.fault.FrameFault.TheVariants.{TooLong, BadLength, WrongStream, ZeroIncrement}
 use Rattle.h2frame.specs.declared.frame.Frame.{Frame}
 use Rattle.h2frame.specs.declared.kind.FrameKind.TheVariants.{Headers, Continuation}
+use Rattle.h2frame.specs.ErrorCode.{error_number}
 use Rattle.h2frame.specs.Faults.{frame_fault, lacks_increment, may_be_on, may_have_length}
 use Rattle.h2frame.specs.Flags.{has_priority, is_padded}
+use Rattle.reasons.specs.declared.Reason.{Reason}
+use Rattle.reasons.specs.Codes.{code_of}
+use Rattle.reasons.specs.Texts.{max_text, text_of}
+use Rattle.reasons.proofs.TextLemmas.{short-text}
 use Rattle.outwriter.specs.declared.blocks.HeaderBlock.{HeaderBlock}
 use Rattle.outwriter.specs.Blocks.{frame_of, is_short}
 use Rattle.outwriter.specs.Frames.{IsSound, flags_of, first_settings, settings_ack, ping_ack, ping_frame, reset_frame, goaway_frame, update_frame, data_frame, headers_frame, continuation_frame}
@@ -67,12 +73,21 @@ sound-reset id code some small = record {
   flags = refl;
 }
 
-pub sound-goaway : (last : ℕ) (code : ErrorCode) → IsSound (goaway_frame last code)
-sound-goaway last code = record {
-  writable = record { kind = refl; stream = omega arith; whole = refl; not_padded = refl; no_priority = refl };
-  faultless = refl;
-  flags = refl;
-}
+-- a text of 128 bytes at most, behind eight
+goaway-length : (last : ℕ) (reason : Reason) → (goaway_frame last reason).head.length ≡ 8 + length (text_of reason)
+goaway-length last reason = length-append (bytes_high_first 4 last ++ bytes_high_first 4 (error_number (code_of reason))) (text_of reason)
+
+pub short-goaway : (last : ℕ) (reason : Reason) → (goaway_frame last reason).head.length ≤ 8 + max_text
+short-goaway last reason = let short : length (text_of reason) ≤ 128 = short-text reason in omega (arith, short, goaway-length last reason)
+
+pub sound-goaway : (last : ℕ) (reason : Reason) → IsSound (goaway_frame last reason)
+sound-goaway last reason =
+    let short : (goaway_frame last reason).head.length ≤ 136 = short-goaway last reason in record {
+      writable = record { kind = refl; stream = omega arith; whole = refl; not_padded = refl; no_priority = refl };
+      faultless = no-fault (goaway_frame last reason) (omega (arith, short)) refl
+          (le-leb 8 (goaway_frame last reason).head.length (omega (arith, goaway-length last reason))) refl;
+      flags = refl;
+    }
 
 pub sound-update : (id n : ℕ) → id < 2 ^ 31 → 0 < n → n < 2 ^ 31 → IsSound (update_frame id n)
 sound-update id n small some fits = record {

@@ -169,8 +169,8 @@ due-own mid popped new (due_kind.PingAck bytes) frame first is ((same, known, ke
 due-own mid popped new (due_kind.Ping bytes) frame first is ((same, known, kept), (tells, over)) =
     rests-own mid popped new frame (dropped-rests mid popped (due_kind.Ping bytes) first is (λ id there e. absurd (true≢false (sym e))))
     (known, inl (tells, over, ([], ap (λ due. due.items) (sym same), none-over popped)), kept)
-due-own mid popped new (due_kind.Goaway last code) frame first is ((same, known, kept), (tells, over)) =
-    rests-own mid popped new frame (dropped-rests mid popped (due_kind.Goaway last code) first is (λ id there e. absurd (true≢false (sym e))))
+due-own mid popped new (due_kind.Goaway last reason) frame first is ((same, known, kept), (tells, over)) =
+    rests-own mid popped new frame (dropped-rests mid popped (due_kind.Goaway last reason) first is (λ id there e. absurd (true≢false (sym e))))
     (known, inl (tells, over, ([], ap (λ due. due.items) (sym same), none-over popped)), kept)
 due-own mid popped new (due_kind.Reset id code) frame first is ((same, known, kept), (tells, (none, sets))) = (
   standing-then mid popped new (standing-same mid popped (ap (λ (o : Outbound). o.states) is)) known,

@@ -3,6 +3,7 @@ use Rattle.std.specs.Prelude.{◌≡◌, ◌⊎◌, ℕ, Bool, true, false, All,
 use Rattle.account.specs.declared.call.OutItem.{OutItem}
 use Rattle.callbox.specs.declared.sender.Sender.{Sender}
 use Rattle.flow.specs.Windows.{room}
+use Rattle.reasons.specs.declared.Reason.{Reason}
 use Rattle.outwriter.specs.States.{open_at, pays}
 use Rattle.outwriter.specs.declared.control.Control.{Control}
 use Rattle.outwriter.specs.declared.control.Control.TheVariants.{Open, Goaway}
@@ -15,7 +16,6 @@ use Rattle.outwriter.specs.declared.outbound.Outbound.{Outbound}
 use Rattle.outwriter.specs.declared.sending.Sending.{Sending}
 use Rattle.outwriter.specs.declared.stream.OpenStream.{OpenStream}
 use Rattle.outwriter.specs.Calls.{TellEnds, TellFronts, TellReturned, TellOthers, is_closed, is_served}
-use Rattle.h2frame.specs.declared.error_code.ErrorCode.{ErrorCode}
 use Rattle.outwriter.specs.Drains.{IsUnsaid}
 use Rattle.outwriter.specs.Frames.{goaway_frame}
 use Rattle.outwriter.specs.Histories.{is_stream, is_over, was_reset}
@@ -72,7 +72,7 @@ module _ {L In Out Shut : Type 0} where
   -- what a dead core may say yet, it may say after this run: any GOAWAY
   abbrev pub Parts : List Step → OutCore L In Out Shut → Type 0
   Parts run core = core.is_dead ≡ true → core.may_part ≡ true
-      → (last : ℕ) (code : ErrorCode) → MayWrite (Taken (Goaway last code) ∷ run) (goaway_frame last code)
+      → (last : ℕ) (reason : Reason) → MayWrite (Taken (Goaway last reason) ∷ run) (goaway_frame last reason)
 
   -- This run leads to the core. Each of its frames was lawful; what was told of each call is a front of what its sender gave, also where that
   -- was given back, and of other streams what is to be told of them; and as long as the core lives, all that it keeps follows from the run.

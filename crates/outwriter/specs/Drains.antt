@@ -7,6 +7,7 @@ use Rattle.std.specs.List.{find}
 use Rattle.std.specs.Option.{is_some, option_or}
 use Rattle.h2frame.specs.declared.error_code.ErrorCode.TheVariants.{NoError}
 use Rattle.h2frame.specs.declared.frame.Frame.{Frame}
+use Rattle.reasons.specs.declared.Reason.TheVariants.{Code}
 use Rattle.outwriter.specs.declared.control.Control.TheVariants.{Probe, Goaway}
 use Rattle.outwriter.specs.Frames.{goaway_frame, is_last}
 use Rattle.outwriter.specs.Runs.{is_goaway}
@@ -22,13 +23,13 @@ draining = 100 ∷ 114 ∷ 97 ∷ 105 ∷ 110 ∷ 105 ∷ 110 ∷ 103 ∷ []
 
 -- the GOAWAY by which it warns
 abbrev pub warning : Order
-warning = Goaway greatest_stream NoError
+warning = Goaway greatest_stream (Code NoError)
 
 -- ---- which GOAWAY is the last
 
 -- the GOAWAY that an order obliges to
 abbrev pub goaway_by : Order → Option Frame
-goaway_by (Goaway last code) = Some (goaway_frame last code)
+goaway_by (Goaway last reason) = Some (goaway_frame last reason)
 goaway_by _ = None
 
 -- that of the Goaway which was taken last, where one was
@@ -57,7 +58,7 @@ was_probed (Returned id items ∷ before) = was_probed before
 
 -- a GOAWAY with an error was ordered
 abbrev pub fails : Order → Bool
-fails (Goaway last code) = is_last (goaway_frame last code)
+fails (Goaway last reason) = is_last (goaway_frame last reason)
 fails _ = false
 
 abbrev pub has_failed : List Step → Bool
@@ -79,4 +80,4 @@ last_goaway run = find (λ frame. is_goaway frame.head.kind) (frames_of run)
 
 -- The server has drained: the last GOAWAY that it wrote has no error, and names this stream.
 abbrev pub HasDrained : ℕ → List Step → Type 0
-HasDrained last run = last_goaway run ≡ Some (goaway_frame last NoError)
+HasDrained last run = last_goaway run ≡ Some (goaway_frame last (Code NoError))

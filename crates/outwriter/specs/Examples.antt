@@ -9,6 +9,7 @@ use Rattle.h2frame.specs.Spelling.{spelled as spelling}
 use Rattle.hpack_codec.specs.Codec.{first_encoding}
 use Rattle.hpack_codec.specs.Table.{empty_table}
 use Rattle.lists.specs.declared.field.Field.{Field}
+use Rattle.reasons.specs.declared.Reason.TheVariants.{Code}
 use Rattle.outwriter.specs.declared.control.Control.TheVariants.{Settings, Ping, Goaway}
 use Rattle.outwriter.specs.declared.control.Control.TheVariants as order
 use Rattle.h2frame.specs.declared.settings.PeerSetting.TheVariants.{TableSize, WindowSize}
@@ -45,7 +46,7 @@ one_is_told = refl
 
 -- a GOAWAY is due by its control, and a reset is asked for by one that is to be written
 abbrev pub leaving : List Step
-leaving = Written (goaway_frame 7 Cancel) ∷ Taken (order.Reset 3 Cancel true) ∷ Taken (Goaway 7 Cancel) ∷ Written first_settings ∷ []
+leaving = Written (goaway_frame 7 (Code Cancel)) ∷ Taken (order.Reset 3 Cancel true) ∷ Taken (Goaway 7 (Code Cancel)) ∷ Written first_settings ∷ []
 
 pub goaway_is_told : told leaving ≡ due leaving
 goaway_is_told = refl
@@ -164,10 +165,10 @@ pub most_owed : owed 0 (Granted 0 2147483647 ∷ crediting) ≡ 2147483647
 most_owed = refl
 
 -- a GOAWAY without an error isn't the last frame
-pub last_with_an_error : is_last (goaway_frame 7 Cancel) ≡ true
+pub last_with_an_error : is_last (goaway_frame 7 (Code Cancel)) ≡ true
 last_with_an_error = refl
 
-pub not_last : is_last (goaway_frame 7 NoError) ≡ false
+pub not_last : is_last (goaway_frame 7 (Code NoError)) ≡ false
 not_last = refl
 
 -- a message in two DATA frames tells the same bytes as the item spells

@@ -12,6 +12,9 @@ use Rattle.h2frame.specs.declared.setting.SettingId.TheVariants.{MaxConcurrentSt
 use Rattle.h2frame.specs.Setting.{setting_code}
 use Rattle.h2frame.specs.Flags.{has, ack, end_stream, end_headers}
 use Rattle.h2frame.specs.Spelling.{IsWritable}
+use Rattle.reasons.specs.declared.Reason.{Reason}
+use Rattle.reasons.specs.Codes.{code_of}
+use Rattle.reasons.specs.Texts.{text_of}
 
 -- a frame without padding or priority
 abbrev pub frame_with : FrameKind → ℕ → ℕ → List ℕ → Frame
@@ -44,8 +47,9 @@ ping_frame bytes = frame_with Ping 0 0 bytes
 abbrev pub reset_frame : ℕ → ErrorCode → Frame
 reset_frame id code = frame_with RstStream 0 id (bytes_high_first 4 (error_number code))
 
-abbrev pub goaway_frame : ℕ → ErrorCode → Frame
-goaway_frame last code = frame_with GoAway 0 0 (bytes_high_first 4 last ++ bytes_high_first 4 (error_number code))
+-- the last stream, the code, and as debug data why (section 6.8)
+abbrev pub goaway_frame : ℕ → Reason → Frame
+goaway_frame last reason = frame_with GoAway 0 0 ((bytes_high_first 4 last ++ bytes_high_first 4 (error_number (code_of reason))) ++ text_of reason)
 
 abbrev pub update_frame : ℕ → ℕ → Frame
 update_frame id increment = frame_with WindowUpdate 0 id (bytes_high_first 4 increment)

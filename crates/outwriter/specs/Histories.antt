@@ -73,7 +73,7 @@ Takes run history (Ping bytes) next = next ≡ history
 Takes run history (Probe bytes) next = next ≡ history
 Takes run history (Refuse id fields) next = next ≡ history
 Takes run history (Reset id code written) next = next ≡ Closing id ∷ history
-Takes run history (Goaway last code) next = next ≡ history
+Takes run history (Goaway last reason) next = next ≡ history
 Takes run history InputEnded next = next ≡ history
 Takes run history Close next = next ≡ history
 

@@ -37,7 +37,7 @@ duties_of (due_kind.PingAck bytes) = ping_ack bytes ∷ []
 duties_of (due_kind.Ping bytes) = ping_frame bytes ∷ []
 duties_of (due_kind.Refuse id fields) = []
 duties_of (due_kind.Reset id code) = []
-duties_of (due_kind.Goaway last code) = goaway_frame last code ∷ []
+duties_of (due_kind.Goaway last reason) = goaway_frame last reason ∷ []
 
 abbrev pub resets_of : Due → List (ℕ × ErrorCode)
 resets_of (due_kind.Reset id code) = (id, code) ∷ []

@@ -22,7 +22,7 @@ abbrev pub due_by : Order → List Frame
 due_by (Settings settings) = settings_ack ∷ []
 due_by (Ping bytes) = ping_ack bytes ∷ []
 due_by (Probe bytes) = ping_frame bytes ∷ []
-due_by (Goaway last code) = goaway_frame last code ∷ []
+due_by (Goaway last reason) = goaway_frame last reason ∷ []
 due_by _ = []
 
 -- what the controls of a run oblige to, in their order

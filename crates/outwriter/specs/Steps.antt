@@ -21,7 +21,7 @@ module _ {S : Type 0} where
   order_of (Open id sender) = Open id tt
   order_of (Refuse id fields) = Refuse id fields
   order_of (Reset id code written) = Reset id code written
-  order_of (Goaway last code) = Goaway last code
+  order_of (Goaway last reason) = Goaway last reason
   order_of InputEnded = InputEnded
   order_of Close = Close
 

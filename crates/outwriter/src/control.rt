@@ -2,6 +2,7 @@
 
 use h2frame::{ErrorCode, PeerSettings, StreamId};
 use lists::{Field, Sequence};
+use reasons::Reason;
 use std::fmt;
 
 /// What the core is told, by the peer or by its own side. `S` is the sender of a call.
@@ -26,11 +27,11 @@ pub enum Control<S> {
         code: ErrorCode,
         written: bool,
     },
-    /// The connection ends: `last`, below 2^31, is the greatest stream that was looked at. With a code other than 0 it is the last
-    /// frame (section 6.8).
+    /// The connection ends, and the peer is told why: `last`, below 2^31, is the greatest stream that was looked at. Where the code of the
+    /// reason is other than 0 it is the last frame (section 6.8).
     Goaway {
         last: StreamId,
-        code: ErrorCode,
+        reason: Reason,
     },
     /// No more comes from the peer, so no more credit either.
     InputEnded,

@@ -2,6 +2,7 @@
 
 use h2frame::{ErrorCode, StreamId};
 use lists::{Field, Sequence};
+use reasons::Reason;
 
 /// What is to be written before anything of the open calls.
 #[derive(Drop)]
@@ -11,5 +12,5 @@ pub(crate) enum Due {
     Ping([u8; 8]),
     Refuse(StreamId, Sequence<Field>),
     Reset(StreamId, ErrorCode),
-    Goaway(StreamId, ErrorCode),
+    Goaway(StreamId, Reason),
 }

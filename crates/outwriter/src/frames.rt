@@ -7,6 +7,7 @@ use crate::small::SmallContents;
 use bytes::Bytes;
 use flow::MAX_LIVE;
 use h2frame::{ErrorCode, Flags, Frame, FrameKind, StreamId};
+use reasons::Reason;
 use std::alloc::AllocError;
 
 /// The numbers of two parameters (section 6.5.2), which `SettingId::code` has too.
@@ -78,13 +79,14 @@ pub(crate) fn make_reset(
 pub(crate) fn make_goaway(
     small: &mut SmallContents,
     last: StreamId,
-    code: ErrorCode,
+    reason: Reason,
 ) -> Result<Frame, AllocError>
-    ensures { IfOk result (λ frame. frame ≡ goaway_frame last code) }
+    ensures { IfOk result (λ frame. frame ≡ goaway_frame last reason) }
 {
     let [a, b, c, d] = last.to_be_bytes();
-    let [e, f, g, h] = code.code().to_be_bytes();
-    let content = small.content(&[a, b, c, d, e, f, g, h])?;
+    let [e, f, g, h] = reason.number().to_be_bytes();
+    let text = reason.text().as_bytes();
+    let content = small.content_with(&[a, b, c, d, e, f, g, h], text)?;
     Ok(Frame::new(FrameKind::GoAway, Flags::NONE, 0, content))
 }
 

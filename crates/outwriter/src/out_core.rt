@@ -26,8 +26,9 @@ use crate::frames::make_goaway;
 use crate::sending::Sending;
 use account::OutItem;
 use callbox::Sender;
-use h2frame::{ErrorCode, Frame, StreamId};
+use h2frame::{Frame, StreamId};
 use lane::Lane;
+use reasons::Reason;
 use std::alloc::Global;
 
 /// What a connection's writer keeps between frames.
@@ -154,10 +155,10 @@ impl<L: Lane<Item = OutItem>> OutCore<L> {
             Control::Open(id, sender) => self.sending.begin(id, sender),
             Control::Refuse(id, fields) => self.sending.outbound.refuse(id, fields),
             Control::Reset { id, code, written } => self.sending.outbound.reset(id, code, written),
-            Control::Goaway { last, code } => {
+            Control::Goaway { last, reason } => {
                 self.is_leaving = true;
-                self.has_failed = self.fails_by(code);
-                self.sending.outbound.take_goaway(last, code);
+                self.has_failed = self.fails_by(reason);
+                self.sending.outbound.take_goaway(last, reason);
                 Ok(())
             }
             Control::InputEnded | Control::Close => unreachable!(),
@@ -192,21 +193,21 @@ impl<L: Lane<Item = OutItem>> OutCore<L> {
         !self.is_dead && !self.has_failed
     }
 
-    /// Whether a Goaway with an error was taken, with one of this code.
-    fn fails_by(&self, code: ErrorCode) -> bool
-        ensures { (last : ℕ) → result ≡ (self.now.has_failed || is_last (goaway_frame last code)) }
+    /// Whether a Goaway with an error was taken, with one for this reason.
+    fn fails_by(&self, reason: Reason) -> bool
+        ensures { (last : ℕ) → result ≡ (self.now.has_failed || is_last (goaway_frame last reason)) }
     {
-        self.has_failed || code.code() != 0
+        self.has_failed || reason.number() != 0
     }
 
     /// The last word of a core that is dead, once: GOAWAY, where SETTINGS were written, no header block is unfinished and no GOAWAY
     /// with an error was written. What else was due goes unsaid. Out of memory, nothing is said.
-    pub fn farewell(&mut self, last: StreamId, code: ErrorCode) -> Option<Frame>
-        ensures goaway { IfSome result (λ frame. frame ≡ goaway_frame last code) }
+    pub fn farewell(&mut self, last: StreamId, reason: Reason) -> Option<Frame>
+        ensures goaway { IfSome result (λ frame. frame ≡ goaway_frame last reason) }
 
         // It is the next step of the run, behind the control that asks for it.
         ensures leads { IfSome result (λ frame. (run : List Step) → Leads L.got run self.old
-            → Leads L.got (Written frame ∷ Taken (order.Goaway last code) ∷ run) self.new) }
+            → Leads L.got (Written frame ∷ Taken (order.Goaway last reason) ∷ run) self.new) }
 
         // A frame that is not written is no step.
         ensures still { LeadsStill L.got self.old self.new }
@@ -223,7 +224,7 @@ impl<L: Lane<Item = OutItem>> OutCore<L> {
         if !may_part {
             return None;
         }
-        match make_goaway(&mut self.sending.outbound.small, last, code) {
+        match make_goaway(&mut self.sending.outbound.small, last, reason) {
             Ok(frame) => Some(frame),
             Err(_e) => None,
         }

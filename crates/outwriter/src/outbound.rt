@@ -24,6 +24,7 @@ use flow::{MAX_WINDOW, WindowFault};
 use h2frame::{ErrorCode, PeerSetting, PeerSettings, StreamId};
 use hpack_codec::Encoder;
 use lists::{Field, Sequence};
+use reasons::Reason;
 use std::alloc::{AllocError, Global};
 use std::collections::VecDeque;
 
@@ -270,13 +271,13 @@ impl Outbound {
     }
 
     /// Owes GOAWAY.
-    pub(crate) fn take_goaway(&mut self, last: StreamId, code: ErrorCode)
+    pub(crate) fn take_goaway(&mut self, last: StreamId, reason: Reason)
         requires room { deque_len self.old.due < deque_capacity self.old.due }
-        ensures taken { MirrorsOn (Taken (order.Goaway last code)) self.old self.new }
-        ensures takes { Takes (due_kind.Goaway last code ∷ []) none_is_new [] self.old self.new }
+        ensures taken { MirrorsOn (Taken (order.Goaway last reason)) self.old self.new }
+        ensures takes { Takes (due_kind.Goaway last reason ∷ []) none_is_new [] self.old self.new }
         ensures encoder { self.new.encoder ≡ self.old.encoder }
     {
-        self.due.push_back_reserved(Due::Goaway(last, code));
+        self.due.push_back_reserved(Due::Goaway(last, reason));
     }
 }
 

@@ -1,6 +1,8 @@
-//! The contents of small frames: WINDOW_UPDATE, RST_STREAM, PING and GOAWAY have four or eight bytes.
+//! The contents of small frames: WINDOW_UPDATE, RST_STREAM and PING have four or eight bytes, GOAWAY eight and a text of 128 at
+//! most.
 
-ghost use Rattle.std.specs.Prelude.{◌≡◌, IfOk};
+ghost use Rattle.std.specs.Prelude.{◌≡◌, ◌≤◌, ◌++◌, length, IfOk};
+ghost use Rattle.reasons.specs.Texts.{max_text};
 
 use bytes::{Bytes, BytesMut};
 use std::alloc::{AllocError, Global};
@@ -40,5 +42,21 @@ impl SmallContents {
         }
         self.block.extend_from_slice(bytes)?;
         self.block.freeze_to(bytes.len())
+    }
+
+    /// A content of these bytes, and of a text behind them.
+    pub(crate) fn content_with(&mut self, bytes: &[u8], text: &[u8]) -> Result<Bytes, AllocError>
+        requires bytes { length bytes.now ≤ 8 }
+        requires text { length text.now ≤ max_text }
+        ensures { IfOk result (λ content. content ≡ bytes.now ++ text.now) }
+    {
+        let len = bytes.len() + text.len();
+        self.block.clear();
+        if !self.block.try_reclaim(len) {
+            self.block.reserve(BLOCK)?;
+        }
+        self.block.extend_from_slice(bytes)?;
+        self.block.extend_from_slice(text)?;
+        self.block.freeze_to(len)
     }
 }

@@ -15,6 +15,7 @@ use crate::stream_state::Over;
 use bytes::Bytes;
 use h2frame::{ErrorCode, Frame, StreamId};
 use lists::{Field, Sequence};
+use reasons::Reason;
 use std::alloc::AllocError;
 
 impl Outbound {
@@ -109,7 +110,7 @@ impl Outbound {
             Due::SettingsAck => Ok(Some(self.settings_ack())),
             Due::PingAck(bytes) => Ok(Some(self.ping_ack(bytes)?)),
             Due::Ping(bytes) => Ok(Some(self.ping(bytes)?)),
-            Due::Goaway(last, code) => Ok(Some(self.goaway_frame(last, code)?)),
+            Due::Goaway(last, reason) => Ok(Some(self.goaway_frame(last, reason)?)),
             Due::Reset(id, code) => {
                 if !self.may_end(id) {
                     return Ok(None);
@@ -156,16 +157,16 @@ impl Outbound {
         make_ping(&mut self.small, bytes)
     }
 
-    fn goaway_frame(&mut self, last: StreamId, code: ErrorCode) -> Result<Frame, AllocError>
+    fn goaway_frame(&mut self, last: StreamId, reason: Reason) -> Result<Frame, AllocError>
         requires { IsBetween self.old }
         ensures sound { IfOk result IsSound }
         ensures written { IfOk result
-            (λ frame. WritesDue (due_kind.Goaway last code) frame self.old self.new) }
+            (λ frame. WritesDue (due_kind.Goaway last reason) frame self.old self.new) }
         ensures own { IfOk result
-            (λ frame. OwnByDue (due_kind.Goaway last code) frame self.old self.new) }
+            (λ frame. OwnByDue (due_kind.Goaway last reason) frame self.old self.new) }
     {
-        let frame = make_goaway(&mut self.small, last, code)?;
-        self.gone = code.code() != 0;
+        let frame = make_goaway(&mut self.small, last, reason)?;
+        self.gone = reason.number() != 0;
         Ok(frame)
     }
 

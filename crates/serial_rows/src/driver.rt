@@ -231,7 +231,7 @@ impl<'a> Serial<'a> {
             InEvent::Reset(id, code) => Some(self.reading.reset(id, code)),
             InEvent::StreamError(id, code) => Some(self.reading.fail(id, code)),
             InEvent::Control(news) => Some(self.reading.pass_on(news)),
-            InEvent::Fatal(code) => Some(self.reading.fatal(code)),
+            InEvent::Fatal(reason) => Some(self.reading.fatal(reason)),
             InEvent::Open(_, _) | InEvent::Data(_, _, _) | InEvent::Loose(_) => None,
         }
     }

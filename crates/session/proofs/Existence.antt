@@ -6,14 +6,12 @@ use Rattle.std.proofs.lemmas.Bool.{cases_lt, cases_eq, cases_Bool}
 use Rattle.std.proofs.lemmas.List.{append-nil, length-append, map-append}
 use Rattle.std.proofs.lemmas.List.Elements.{All-nil, All-cons, All-head, All-tail, All-append}
 use Rattle.h2frame.specs.declared.error_code.ErrorCode.{ErrorCode}
-use Rattle.h2frame.specs.declared.error_code.ErrorCode.TheVariants.{ProtocolError}
 use Rattle.h2frame.specs.declared.fault.FrameFault.{FrameFault}
 use Rattle.h2frame.specs.declared.frame.Frame.{Frame}
 use Rattle.h2frame.specs.declared.frame.FrameHead.{FrameHead}
 use Rattle.h2frame.specs.declared.kind.FrameKind.{FrameKind}
 use Rattle.h2frame.specs.declared.kind.FrameKind.TheVariants.{Data, Headers, Priority, RstStream, Settings, PushPromise, Ping, GoAway, WindowUpdate, Continuation, Unknown}
 use Rattle.h2frame.specs.Flags.{has, ack, end_headers, is_padded}
-use Rattle.h2frame.specs.Faults.{fault_error}
 use Rattle.h2frame.specs.Spelling.{head_text}
 use Rattle.h2frame.specs.FrameList.{Entry, Whole, NoIncrement, Spells, Joined, Ends, IsLawful, IsUnfinished, IsFaulty}
 use Rattle.h2frame.proofs.Steps.{lawful_since}
@@ -26,6 +24,8 @@ use Rattle.callhead.proofs.Existence.{each_has_answer as each_head}
 use Rattle.flow.specs.declared.halves.HalfVerdict.{HalfVerdict}
 use Rattle.flow.specs.declared.halves.HalfVerdict.TheVariants.{Open, Accept, Discard, StreamError, ConnectionError}
 use Rattle.flow.specs.Halves.{Event, verdict, is_connection_error}
+use Rattle.reasons.specs.declared.Reason.{Reason}
+use Rattle.reasons.specs.declared.Reason.TheVariants as reason
 use Rattle.session.specs.declared.event.InEvent.{InEvent}
 use Rattle.session.specs.declared.event.InEvent.TheVariants as events
 use Rattle.session.specs.declared.event.Control.TheVariants as controls
@@ -34,8 +34,8 @@ use Rattle.session.specs.declared.header_block.FragmentFault.TheVariants.{Interr
 use Rattle.session.specs.Prefaces.{preface, Departs}
 use Rattle.session.specs.Streams.{after_frame, end_of, refusal, data_events, reset_events, window_event, window_events, credit_head, credit_verdict}
 use Rattle.session.specs.Frames.{fatal, SettingsGive, ping_events, WindowGives, KindGives}
-use Rattle.session.specs.HeaderBlocks.{max_block, Pending, IsContinuation, Collects, fragment_error}
-use Rattle.session.specs.Blocks.{block_error, bad_head_events, after_bad_head, trailer_events, after_trailers, FieldsGive, BlockGives}
+use Rattle.session.specs.HeaderBlocks.{max_block, Pending, IsContinuation, Collects, fragment_reason}
+use Rattle.session.specs.Blocks.{bad_head_events, after_bad_head, trailer_events, after_trailers, FieldsGive, BlockGives}
 use Rattle.session.specs.Events.{Situation, start, Group, Single, Credit, Block, entries_of, IsBegun, GroupGives, IsCalm, Runs, IsSettings, Opens, Passes, Close, Unfinished, Faulty, Refused, Broken, Ended, IsPartial, Breaks, Closes, Follows, Events, Greeted, Departed, Unsettled, Read}
 use Rattle.session.proofs.LawfulFrames.{settings_length, lawful_short}
 use Rattle.session.proofs.HeaderBlockSteps.{collects_first, collects_more}
@@ -94,8 +94,8 @@ kind_gives Settings history frame is other lawful all =
     (told.0, history, (told.1, refl))
 kind_gives Ping history frame is other lawful all = (ping_events (has ack frame.head.flags) frame.content, history, (refl, refl))
 kind_gives GoAway history frame is other lawful all = (events.PeerGoaway ∷ [], history, (refl, refl))
-kind_gives PushPromise history frame is other lawful all = (fatal ProtocolError, history, (refl, refl))
-kind_gives Continuation history frame is other lawful all = (fatal ProtocolError, history, (refl, refl))
+kind_gives PushPromise history frame is other lawful all = (fatal reason.Push, history, (refl, refl))
+kind_gives Continuation history frame is other lawful all = (fatal reason.Lone, history, (refl, refl))
 kind_gives Priority history frame is other lawful all = ([], history, (refl, refl))
 kind_gives (Unknown code) history frame is other lawful all = ([], history, (refl, refl))
 kind_gives Headers history frame is other lawful all = absurd (other refl)
@@ -109,16 +109,16 @@ fields_give Open head fields history =
       | inr fault ↦ (bad_head_events fault.0 head, after_bad_head fault.0 head.stream history, inr (fault.0, fault.1, refl, refl))
     ]
 fields_give Accept head fields history = (trailer_events (are_malformed_trailers fields) head, after_trailers (are_malformed_trailers fields) head.stream history, (refl, refl))
-fields_give Discard head fields history = (refusal Discard head.stream, history, (refl, refl))
-fields_give (StreamError error) head fields history = (refusal (StreamError error) head.stream, history, (refl, refl))
-fields_give (ConnectionError error) head fields history = (refusal (ConnectionError error) head.stream, history, (refl, refl))
+fields_give Discard head fields history = (refusal Discard head, history, (refl, refl))
+fields_give (StreamError error) head fields history = (refusal (StreamError error) head, history, (refl, refl))
+fields_give (ConnectionError error) head fields history = (refusal (ConnectionError error) head, history, (refl, refl))
 
 block_gives : (kept : Option Table) (head : FrameHead) (judged : HalfVerdict) (block : List ℕ) (history : List Event) → AreBytes block
     → (given : List InEvent) × (next : List Event) × (kept_next : Option Table) × BlockGives kept head judged block history given next kept_next
 block_gives kept head judged block history all =
     elim (each_block kept block all) [
       | inl (fields, kept_next, reads) ↦ (let g = fields_give judged head fields history in (g.0, g.1, kept_next, inl (fields, reads, g.2)))
-      | inr (fault, live, first) ↦ (fatal (block_error fault), history, kept, inr (fault, first, live, refl, refl))
+      | inr (fault, live, first) ↦ (fatal (reason.Hpack fault), history, kept, inr (fault, first, live, refl, refl))
     ]
 
 -- ---- entries behind a situation
@@ -165,7 +165,7 @@ stops now behind unread rest close last closes = record {
   closes = closes;
 }
 
-ended : (now next : Situation) (group : Group) (given : List InEvent) (error : ErrorCode) (entries : List Entry) (rest : List ℕ) → GroupGives now group given next → given ≡ fatal error → Outcome now (entries_of group ++ entries) rest
+ended : (now next : Situation) (group : Group) (given : List InEvent) (error : Reason) (entries : List Entry) (rest : List ℕ) → GroupGives now group given next → given ≡ fatal error → Outcome now (entries_of group ++ entries) rest
 ended now next group given error entries rest gives e =
     stops now (entries_of group) entries rest (Ended group next error) (fatal error)
     (λ left same. (refl, subst (λ (es : List InEvent). GroupGives now group es next) e gives, refl))
@@ -180,13 +180,13 @@ group_first now next group given entries rest gives o =
 -- nothing more came
 waits : (end : Option FrameFault) (rest : List ℕ) → Ends end rest → (now : Situation) (behind : List Entry) → IsPartial now.history behind → Outcome now (behind ++ []) rest
 waits None rest ends now behind partial = stops now behind [] rest Unfinished [] (λ left same. (partial, subst IsUnfinished (sym (same refl)) ends, refl))
-waits (Some fault) rest ends now behind partial = stops now behind [] rest (Faulty fault) (fatal (fault_error fault)) (λ left same. (partial, subst (IsFaulty fault) (sym (same refl)) ends, refl))
+waits (Some fault) rest ends now behind partial = stops now behind [] rest (Faulty fault) (fatal (reason.Frame fault)) (λ left same. (partial, subst (IsFaulty fault) (sym (same refl)) ends, refl))
 
 breaks_off : (now : Situation) (frames : List Frame) (block : Pending) (entry : Entry) (fault : FragmentFault) (entries : List Entry) (rest : List ℕ)
     → IsBegun now.history frames block → block.whole ≡ false → Breaks entry block fault → Outcome now (map Whole frames ++ entry ∷ entries) rest
 breaks_off now frames block entry fault entries rest begun still breaks =
     subst (λ (es : List Entry). Outcome now es rest) (append_assoc (map Whole frames) (entry ∷ []) entries)
-    (stops now (map Whole frames ++ entry ∷ []) entries rest (Broken frames block entry fault) (fatal (fragment_error fault)) (λ left same. (begun, still, refl, breaks, refl)))
+    (stops now (map Whole frames ++ entry ∷ []) entries rest (Broken frames block entry fault) (fatal (fragment_reason fault)) (λ left same. (begun, still, refl, breaks, refl)))
 
 -- ---- further entries, between groups and inside a header block
 
@@ -255,7 +255,7 @@ between_frame now frame entries rest lawful all between inside =
           let next : Situation = record { history = g.1; kept = now.kept } in
           group_first now next (Single frame) g.0 entries rest (g.2, refl) (between next))
       | inl kind ↦ elim (refused_or (verdict now.history frame.head)) [
-        | inl refused ↦ stops now (Whole frame ∷ []) entries rest (Refused frame refused.0) (fatal refused.0) (λ left same. (refl, kind, refused.1, refl))
+        | inl refused ↦ stops now (Whole frame ∷ []) entries rest (Refused frame refused.0) (fatal (reason.Stream frame.head.kind refused.0)) (λ left same. (refl, kind, refused.1, refl))
         | inr fine ↦ block_first now (frame ∷ []) (record { head = frame.head; block = frame.content; whole = has end_headers frame.head.flags }) entries rest
             (record { collects = collects_first frame kind (lawful_short frame lawful); lawful = fine }) all between inside
       ]
@@ -276,7 +276,7 @@ both end rest ends (NoIncrement id ∷ entries) good =
       λ now.
           let judged = credit_verdict now.history id in
           let next : Situation = record { history = after_frame judged (credit_head id) now.history; kept = now.kept } in
-          group_first now next (Credit id) (refusal judged id) entries rest (refl, refl, refl) (again.0 next),
+          group_first now next (Credit id) (refusal judged (credit_head id)) entries rest (refl, refl, refl) (again.0 next),
       λ now frames block begun still all. breaks_off now frames block (NoIncrement id) Interrupted entries rest begun still tt,
     )
 
@@ -362,13 +362,13 @@ has_frames bytes text e all =
       | inl opens ↦ has_read bytes text entries rest e joined opens ((both list.1 rest list.2.2 entries (good_entries text entries rest joined all)).0 start)
       | inr (entry, others, first, other) ↦
           (let front = joined_front text (entry ∷ []) others rest (subst (λ (es : List Entry). Joined text es rest) first joined) in
-          (fatal ProtocolError, Unsettled text (entry ∷ []) front.0 e front.1 (entry, refl, other) refl))
+          (fatal reason.First, Unsettled text (entry ∷ []) front.0 e front.1 (entry, refl, other) refl))
     ]
 
 pub each_has_events : (bytes : List ℕ) → All (λ byte. byte < 256) bytes → (given : List InEvent) × Events bytes given
 each_has_events bytes all =
     elim (greeting preface bytes) [
       | inl due ↦ ([], Greeted due.0 due.1 refl)
-      | inr (inl departs) ↦ (fatal ProtocolError, Departed departs refl)
+      | inr (inl departs) ↦ (fatal reason.Preface, Departed departs refl)
       | inr (inr text) ↦ has_frames bytes text.0 text.1 (bytes_behind preface text.0 (subst AreBytes text.1 all))
     ]

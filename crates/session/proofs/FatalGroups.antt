@@ -1,7 +1,6 @@
 -- The events of a group are calm, or the end of the connection and nothing else.
 use Rattle.std.proofs.Common.{◌≡◌, ℕ, ◌⊎◌, inl, inr, Bool, true, false, List, [], ◌∷◌, refl, sym, subst}
 use Rattle.std.specs.Prelude.{Option, ◌==◌, if◌then◌else◌}
-use Rattle.h2frame.specs.declared.error_code.ErrorCode.{ErrorCode}
 use Rattle.h2frame.specs.declared.error_code.ErrorCode.TheVariants.{ProtocolError}
 use Rattle.h2frame.specs.declared.frame.Frame.{Frame}
 use Rattle.h2frame.specs.declared.frame.FrameHead.{FrameHead}
@@ -16,16 +15,17 @@ use Rattle.callhead.specs.MalformedHeads.{are_malformed_trailers}
 use Rattle.flow.specs.declared.halves.HalfVerdict.{HalfVerdict}
 use Rattle.flow.specs.declared.halves.HalfVerdict.TheVariants.{Open, Accept, Discard, StreamError, ConnectionError}
 use Rattle.flow.specs.Halves.{Event, verdict}
+use Rattle.reasons.specs.declared.Reason.{Reason}
 use Rattle.session.specs.declared.event.InEvent.{InEvent}
 use Rattle.session.specs.declared.event.InEvent.TheVariants as events
-use Rattle.session.specs.Streams.{counted, end_of, refusal, data_events, reset_events, window_event, window_events, credit_verdict}
+use Rattle.session.specs.Streams.{counted, end_of, refusal, data_events, reset_events, window_event, window_events, credit_head, credit_verdict}
 use Rattle.session.specs.Frames.{fatal, SettingsGive, ping_events, WindowGives, KindGives}
 use Rattle.session.specs.Blocks.{bad_head_events, trailer_events, HeadGives, FieldsGive, BlockGives}
 use Rattle.session.specs.Events.{Situation, Group, Single, Credit, Block, GroupGives, IsCalm}
 use Rattle.session.proofs.Groups.{calm_join}
 
 abbrev pub IsCalmOrEnd : List InEvent → Type 0
-IsCalmOrEnd given = IsCalm given ⊎ ((error : ErrorCode) × (given ≡ fatal error))
+IsCalmOrEnd given = IsCalm given ⊎ ((why : Reason) × (given ≡ fatal why))
 
 same_events : (given due : List InEvent) → given ≡ due → IsCalmOrEnd due → IsCalmOrEnd given
 same_events given due e is = subst IsCalmOrEnd (sym e) is
@@ -38,17 +38,17 @@ end_calm head = elim (has end_stream head.flags) as (λ (b : Bool). IsCalm (if b
 counted_calm : (n : ℕ) (event : InEvent) → IsCalm (event ∷ []) → IsCalm (counted n event)
 counted_calm n event calm = elim (n == 0) as (λ (b : Bool). IsCalm (if b then [] else event ∷ [])) [ true ↦ refl | false ↦ calm ]
 
-refusal_or_end : (judged : HalfVerdict) (id : ℕ) → IsCalmOrEnd (refusal judged id)
-refusal_or_end Open id = inl refl
-refusal_or_end Accept id = inl refl
-refusal_or_end Discard id = inl refl
-refusal_or_end (StreamError error) id = inl refl
-refusal_or_end (ConnectionError error) id = inr (error, refl)
+refusal_or_end : (judged : HalfVerdict) (head : FrameHead) → IsCalmOrEnd (refusal judged head)
+refusal_or_end Open head = inl refl
+refusal_or_end Accept head = inl refl
+refusal_or_end Discard head = inl refl
+refusal_or_end (StreamError error) head = inl refl
+refusal_or_end (ConnectionError error) head = inr (_, refl)
 
 data_or_end : (judged : HalfVerdict) (frame : Frame) → IsCalmOrEnd (data_events judged frame)
 data_or_end Accept frame =
     inl (calm_join (counted frame.head.length (events.Data frame.head.stream frame.content frame.head.length)) (end_of frame.head) (counted_calm frame.head.length _ refl) (end_calm frame.head))
-data_or_end (ConnectionError error) frame = inr (error, refl)
+data_or_end (ConnectionError error) frame = inr (_, refl)
 data_or_end Open frame = inl (calm_join (counted frame.head.length (events.Loose frame.head.length)) [] (counted_calm frame.head.length _ refl) refl)
 data_or_end Discard frame = inl (calm_join (counted frame.head.length (events.Loose frame.head.length)) [] (counted_calm frame.head.length _ refl) refl)
 data_or_end (StreamError error) frame =
@@ -59,14 +59,14 @@ reset_or_end Accept frame = inl refl
 reset_or_end Open frame = inl refl
 reset_or_end Discard frame = inl refl
 reset_or_end (StreamError error) frame = inl refl
-reset_or_end (ConnectionError error) frame = inr (error, refl)
+reset_or_end (ConnectionError error) frame = inr (_, refl)
 
 credit_or_end : (judged : HalfVerdict) (frame : Frame) → IsCalmOrEnd (window_events judged frame)
 credit_or_end Accept frame = inl refl
 credit_or_end Open frame = inl refl
 credit_or_end Discard frame = inl refl
 credit_or_end (StreamError error) frame = inl refl
-credit_or_end (ConnectionError error) frame = inr (error, refl)
+credit_or_end (ConnectionError error) frame = inr (_, refl)
 
 -- ---- frames of the connection
 
@@ -107,15 +107,15 @@ head_calm head fields history next given (inl (call, is, e, same)) = rw e (end_c
 head_calm head fields history next given (inr (fault, first, e, same)) = rw e (bad_head_calm fault head)
 
 trailers_or_end : (malformed : Bool) (head : FrameHead) → IsCalmOrEnd (trailer_events malformed head)
-trailers_or_end true head = refusal_or_end (StreamError ProtocolError) head.stream
+trailers_or_end true head = refusal_or_end (StreamError ProtocolError) head
 trailers_or_end false head = inl (end_calm head)
 
 fields_or_end : (judged : HalfVerdict) (head : FrameHead) (fields : List Field) (history next : List Event) (given : List InEvent) → FieldsGive judged head fields history given next → IsCalmOrEnd given
 fields_or_end Open head fields history next given gives = inl (head_calm head fields history next given gives)
 fields_or_end Accept head fields history next given (e, same) = same_events given _ e (trailers_or_end (are_malformed_trailers fields) head)
-fields_or_end Discard head fields history next given (e, same) = same_events given _ e (refusal_or_end Discard head.stream)
-fields_or_end (StreamError error) head fields history next given (e, same) = same_events given _ e (refusal_or_end (StreamError error) head.stream)
-fields_or_end (ConnectionError error) head fields history next given (e, same) = same_events given _ e (refusal_or_end (ConnectionError error) head.stream)
+fields_or_end Discard head fields history next given (e, same) = same_events given _ e (refusal_or_end Discard head)
+fields_or_end (StreamError error) head fields history next given (e, same) = same_events given _ e (refusal_or_end (StreamError error) head)
+fields_or_end (ConnectionError error) head fields history next given (e, same) = same_events given _ e (refusal_or_end (ConnectionError error) head)
 
 block_or_end : (kept kept_next : Option Table) (head : FrameHead) (judged : HalfVerdict) (block : List ℕ) (history next : List Event) (given : List InEvent)
     → BlockGives kept head judged block history given next kept_next → IsCalmOrEnd given
@@ -124,6 +124,6 @@ block_or_end kept kept_next head judged block history next given (inr (fault, fi
 
 pub group_or_end : (old new : Situation) (group : Group) (given : List InEvent) → GroupGives old group given new → IsCalmOrEnd given
 group_or_end old new (Single frame) given gives = kind_or_end frame.head.kind old.history new.history frame given gives.0
-group_or_end old new (Credit id) given gives = same_events given _ gives.0 (refusal_or_end (credit_verdict old.history id) id)
+group_or_end old new (Credit id) given gives = same_events given _ gives.0 (refusal_or_end (credit_verdict old.history id) (credit_head id))
 group_or_end old new (Block frames block) given gives =
     block_or_end old.kept new.kept block.head (verdict old.history block.head) block.block _ new.history given gives.2

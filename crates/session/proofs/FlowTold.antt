@@ -21,7 +21,7 @@ use Rattle.flow.specs.declared.halves.HalfVerdict.TheVariants.{Open, Accept, Dis
 use Rattle.flow.specs.Halves.{Event, verdict}
 use Rattle.session.specs.declared.event.InEvent.{InEvent}
 use Rattle.session.specs.declared.event.InEvent.TheVariants as events
-use Rattle.session.specs.Streams.{counted, end_of, refusal, data_events, reset_events, window_events, credit_verdict}
+use Rattle.session.specs.Streams.{counted, end_of, refusal, data_events, reset_events, window_events, credit_head, credit_verdict}
 use Rattle.session.specs.Frames.{SettingsGive, ping_events, WindowGives, KindGives}
 use Rattle.session.specs.Blocks.{bad_head_events, trailer_events, HeadGives, FieldsGive, BlockGives}
 use Rattle.session.specs.Events.{Situation, start, Group, Single, Credit, Block, entries_of, GroupGives, Runs}
@@ -48,12 +48,12 @@ end_none head = elim (has end_stream head.flags) as (λ (b : Bool). CountsNone (
 before_end : (event : InEvent) (head : FrameHead) → counted_by event ≡ 0 → CountsNone (event ∷ end_of head)
 before_end event head none = omega (arith, sum_by-cons counted_by event (end_of head), none, end_none head)
 
-refusal_none : (judged : HalfVerdict) (id : ℕ) → CountsNone (refusal judged id)
-refusal_none (StreamError error) id = refl
-refusal_none (ConnectionError error) id = refl
-refusal_none Open id = refl
-refusal_none Accept id = refl
-refusal_none Discard id = refl
+refusal_none : (judged : HalfVerdict) (head : FrameHead) → CountsNone (refusal judged head)
+refusal_none (StreamError error) head = refl
+refusal_none (ConnectionError error) head = refl
+refusal_none Open head = refl
+refusal_none Accept head = refl
+refusal_none Discard head = refl
 
 reset_none : (judged : HalfVerdict) (frame : Frame) → CountsNone (reset_events judged frame)
 reset_none Accept frame = refl
@@ -153,7 +153,7 @@ block_none kept kept_next head judged block history next given (inr (fault, firs
 group_within : (old new : Situation) (group : Group) (given : List InEvent) → GroupGives old group given new → IsWithin given (payloads (entries_of group))
 group_within old new (Single frame) given (gives, same) =
     omega (arith, kind_within frame.head.kind old.history new.history frame given gives, sum_by-cons payload_of (Whole frame) [])
-group_within old new (Credit id) given (e, next, same) = none_within given _ (none_same given _ e (refusal_none (credit_verdict old.history id) id))
+group_within old new (Credit id) given (e, next, same) = none_within given _ (none_same given _ e (refusal_none (credit_verdict old.history id) (credit_head id)))
 group_within old new (Block frames block) given (is_begun, whole, gives) = none_within given _ (block_none old.kept new.kept block.head (verdict old.history block.head) block.block _ new.history given gives)
 
 runs_within : (old new : Situation) (groups : List Group) (given : List InEvent) → Runs old groups given new → IsWithin given (payloads (front_of groups))

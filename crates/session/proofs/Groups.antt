@@ -4,8 +4,8 @@ use Rattle.std.specs.Prelude.{Some, flat_map, slice_get, ◌||◌}
 use Rattle.std.specs.List.{list_any}
 use Rattle.std.proofs.lemmas.List.{append-nil, flat_map_more, length-append}
 use Rattle.std.proofs.lemmas.List.Folds.{list_any-append}
-use Rattle.h2frame.specs.declared.error_code.ErrorCode.{ErrorCode}
 use Rattle.h2frame.specs.FrameList.{Entry}
+use Rattle.reasons.specs.declared.Reason.{Reason}
 use Rattle.session.specs.declared.event.InEvent.{InEvent}
 use Rattle.session.specs.declared.event.InEvent.TheVariants.{Fatal}
 use Rattle.session.specs.Frames.{fatal}
@@ -43,7 +43,7 @@ last_at : (xs : List InEvent) (x : InEvent) → slice_get (xs ++ x ∷ []) (leng
 last_at [] x = refl
 last_at (y ∷ ys) x = last_at ys x
 
-pub fatal_ends : (xs : List InEvent) (error : ErrorCode) → ends_at (slice_get (xs ++ fatal error) (length (xs ++ fatal error) - 1)) ≡ true
+pub fatal_ends : (xs : List InEvent) (error : Reason) → ends_at (slice_get (xs ++ fatal error) (length (xs ++ fatal error) - 1)) ≡ true
 fatal_ends xs error =
     let n : length (xs ++ fatal error) - 1 ≡ length xs = omega (arith, length-append xs (fatal error)) in
     ap (λ (i : ℕ). ends_at (slice_get (xs ++ fatal error) i)) n ∙ ap ends_at (last_at xs (Fatal error))

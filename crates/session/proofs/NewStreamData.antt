@@ -17,6 +17,7 @@ use Rattle.flow.specs.declared.halves.Half.TheVariants.{Opened, Ended}
 use Rattle.flow.specs.declared.halves.HalfVerdict.{HalfVerdict}
 use Rattle.flow.specs.declared.halves.HalfVerdict.TheVariants.{Open, ConnectionError}
 use Rattle.flow.specs.Halves.{Event, Received, Cut, is_headers, verdict}
+use Rattle.reasons.specs.declared.Reason.TheVariants as reason
 use Rattle.session.specs.declared.event.InEvent.{InEvent}
 use Rattle.session.specs.declared.event.InEvent.TheVariants as events
 use Rattle.session.specs.Streams.{after_frame, refusal, data_events, reset_events, credit_head, credit_verdict, without_increment}
@@ -55,10 +56,10 @@ single_unbegun : (kind : FrameKind) (id : ℕ) (old new : Situation) (frame : Fr
 single_unbegun Headers id old new frame given is gives calm on none few = absurd gives
 single_unbegun Data id old new frame given is gives calm on none few =
     let judged : verdict old.history frame.head ≡ ConnectionError ProtocolError = verdict_unbegun id old.history frame.head on none few (ap is_headers is) in
-    absurd (not_calm_end ProtocolError given (gives.0 ∙ ap (λ (v : HalfVerdict). data_events v frame) judged) calm)
+    absurd (not_calm_end (reason.Stream frame.head.kind ProtocolError) given (gives.0 ∙ ap (λ (v : HalfVerdict). data_events v frame) judged) calm)
 single_unbegun RstStream id old new frame given is gives calm on none few =
     let judged : verdict old.history frame.head ≡ ConnectionError ProtocolError = verdict_unbegun id old.history frame.head on none few (ap is_headers is) in
-    absurd (not_calm_end ProtocolError given (gives.0 ∙ ap (λ (v : HalfVerdict). reset_events v frame) judged) calm)
+    absurd (not_calm_end (reason.Stream frame.head.kind ProtocolError) given (gives.0 ∙ ap (λ (v : HalfVerdict). reset_events v frame) judged) calm)
 single_unbegun WindowUpdate id old new frame given is gives calm on none few =
     stays_unbegun id old new frame given (kind_silent id WindowUpdate old.history new.history frame given (λ (e : WindowUpdate ≡ Data). cc) gives)
     (window_unbegun (frame.head.stream == 0) id old new frame given gives calm (verdict_unbegun id old.history frame.head on none few (ap is_headers is))) none (ap is_headers is)
@@ -80,7 +81,7 @@ single_unbegun (Unknown code) id old new frame given is gives calm on none few =
 credit_unbegun : (id : ℕ) (old new : Situation) (stream : ℕ) (given : List InEvent) → GroupGives old (Credit stream) given new → IsCalm given → nat_eq id stream ≡ true → half_at old.history id ≡ None → IsFew old.history → UnbegunNext id new (Credit stream) given
 credit_unbegun id old new stream given (e, next, same) calm on none few =
     let judged : credit_verdict old.history stream ≡ ConnectionError ProtocolError = ap without_increment (verdict_unbegun id old.history (credit_head stream) on none few refl) in
-    absurd (not_calm_end ProtocolError given (e ∙ ap (λ (v : HalfVerdict). refusal v stream) judged) calm)
+    absurd (not_calm_end (reason.Stream WindowUpdate ProtocolError) given (e ∙ ap (λ (v : HalfVerdict). refusal v (credit_head stream)) judged) calm)
 
 -- a head that isn't malformed leaves the history as it is
 pub head_cases : (head : FrameHead) (fields : List Field) (history next : List Event) (given : List InEvent) → HeadGives head fields history given next

@@ -16,6 +16,7 @@ use Rattle.flow.specs.declared.halves.Half.TheVariants.{Opened, Ended}
 use Rattle.flow.specs.declared.halves.HalfVerdict.{HalfVerdict}
 use Rattle.flow.specs.declared.halves.HalfVerdict.TheVariants.{Open, ConnectionError}
 use Rattle.flow.specs.Halves.{Event, Received, Cut, is_headers, verdict}
+use Rattle.reasons.specs.declared.Reason.TheVariants as reason
 use Rattle.session.specs.declared.event.InEvent.{InEvent}
 use Rattle.session.specs.declared.event.InEvent.TheVariants as events
 use Rattle.session.specs.Streams.{after_frame, refusal, data_events, reset_events, window_events, credit_head, without_increment}
@@ -53,9 +54,9 @@ single_new : (kind : FrameKind) (id : ℕ) (old new : Situation) (frame : Frame)
     → nat_eq id frame.head.stream ≡ true → half_at old.history id ≡ None → IsFew old.history → NewEnd id new (Single frame) given
 single_new Headers id old new frame given is gives calm on none few = absurd gives
 single_new Data id old new frame given is gives calm on none few =
-    absurd (not_calm_end ProtocolError given (gives.0 ∙ ap (λ (v : HalfVerdict). data_events v frame) (verdict_unbegun id old.history frame.head on none few (ap is_headers is))) calm)
+    absurd (not_calm_end (reason.Stream frame.head.kind ProtocolError) given (gives.0 ∙ ap (λ (v : HalfVerdict). data_events v frame) (verdict_unbegun id old.history frame.head on none few (ap is_headers is))) calm)
 single_new RstStream id old new frame given is gives calm on none few =
-    absurd (not_calm_end ProtocolError given (gives.0 ∙ ap (λ (v : HalfVerdict). reset_events v frame) (verdict_unbegun id old.history frame.head on none few (ap is_headers is))) calm)
+    absurd (not_calm_end (reason.Stream frame.head.kind ProtocolError) given (gives.0 ∙ ap (λ (v : HalfVerdict). reset_events v frame) (verdict_unbegun id old.history frame.head on none few (ap is_headers is))) calm)
 single_new WindowUpdate id old new frame given is gives calm on none few =
     let judged : verdict old.history frame.head ≡ ConnectionError ProtocolError = verdict_unbegun id old.history frame.head on none few (ap is_headers is) in
     stays_new id old new frame given (window_told (frame.head.stream == 0) id old.history new.history frame given judged gives)
@@ -116,7 +117,7 @@ block_new id old new frames block given (is_begun, whole, gives) calm on none fe
 new_here : (id : ℕ) (old new : Situation) (group : Group) (given : List InEvent) → GroupGives old group given new → IsCalm given → nat_eq id (stream_at group) ≡ true → half_at old.history id ≡ None → IsFew old.history → NewEnd id new group given
 new_here id old new (Single frame) given gives calm on none few = single_new frame.head.kind id old new frame given refl gives.0 calm on none few
 new_here id old new (Credit stream) given gives calm on none few =
-    absurd (not_calm_end ProtocolError given (gives.0 ∙ ap (λ (v : HalfVerdict). refusal (without_increment v) stream) (verdict_unbegun id old.history (credit_head stream) on none few refl)) calm)
+    absurd (not_calm_end (reason.Stream WindowUpdate ProtocolError) given (gives.0 ∙ ap (λ (v : HalfVerdict). refusal (without_increment v) (credit_head stream)) (verdict_unbegun id old.history (credit_head stream) on none few refl)) calm)
 new_here id old new (Block frames block) given gives calm on none few = block_new id old new frames block given gives calm on none few
 
 pub group_new_end : (id : ℕ) (old new : Situation) (group : Group) (given : List InEvent) → GroupGives old group given new → IsCalm given → half_at old.history id ≡ None → IsFew old.history → NewEnd id new group given

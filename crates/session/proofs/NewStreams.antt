@@ -2,7 +2,6 @@
 use Rattle.std.proofs.Common.{◌≡◌, ℕ, Bool, true, false, ◌&&◌, nat_eq, List, [], ◌∷◌, refl, sym, ap, ◌∙◌}
 use Rattle.std.specs.Prelude.{if◌then◌else◌}
 use Rattle.std.specs.List.{list_any}
-use Rattle.h2frame.specs.declared.error_code.ErrorCode.{ErrorCode}
 use Rattle.h2frame.specs.declared.error_code.ErrorCode.TheVariants.{ProtocolError}
 use Rattle.h2frame.specs.declared.frame.Frame.{Frame}
 use Rattle.h2frame.specs.declared.frame.FrameHead.{FrameHead}
@@ -15,6 +14,8 @@ use Rattle.flow.specs.declared.halves.Half.TheVariants.{Opened, Ended, Reset}
 use Rattle.flow.specs.declared.halves.HalfVerdict.{HalfVerdict}
 use Rattle.flow.specs.declared.halves.HalfVerdict.TheVariants.{ConnectionError}
 use Rattle.flow.specs.Halves.{Received, Cut, verdict, half_after, half_of_new, is_last_of_kind}
+use Rattle.reasons.specs.declared.Reason.{Reason}
+use Rattle.reasons.specs.declared.Reason.TheVariants as reason
 use Rattle.session.specs.declared.event.InEvent.{InEvent}
 use Rattle.session.specs.declared.event.InEvent.TheVariants as events
 use Rattle.session.specs.Streams.{window_events}
@@ -22,12 +23,12 @@ use Rattle.session.specs.Frames.{fatal, WindowGives}
 use Rattle.session.specs.Events.{Situation, is_fatal, IsCalm}
 use Rattle.session.specs.StreamData.{is_opening}
 
-pub not_calm_end : (error : ErrorCode) (given : List InEvent) → given ≡ fatal error → IsCalm given → ⊥
+pub not_calm_end : (error : Reason) (given : List InEvent) → given ≡ fatal error → IsCalm given → ⊥
 not_calm_end error given e calm = let wrong : true ≡ false = sym (ap (list_any is_fatal) e) ∙ calm in cc
 
 pub window_unbegun : (b : Bool) (id : ℕ) (old new : Situation) (frame : Frame) (given : List InEvent) → WindowGives b old.history frame given new.history → IsCalm given → verdict old.history frame.head ≡ ConnectionError ProtocolError → new.history ≡ old.history
 window_unbegun true id old new frame given (e, same) calm judged = same
-window_unbegun false id old new frame given (e, same) calm judged = absurd (not_calm_end ProtocolError given (e ∙ ap (λ (v : HalfVerdict). window_events v frame) judged) calm)
+window_unbegun false id old new frame given (e, same) calm judged = absurd (not_calm_end (reason.Stream frame.head.kind ProtocolError) given (e ∙ ap (λ (v : HalfVerdict). window_events v frame) judged) calm)
 
 pub and_none : (b : Bool) → (b && false) ≡ false
 and_none true = refl

@@ -2,8 +2,8 @@
 use Rattle.std.proofs.Common.{◌≡◌, ℕ, ◌+◌, List, [], ◌∷◌, ◌++◌, length, refl, sym, ap, subst, ◌∙◌, append_assoc, arith, inl, lit≤}
 use Rattle.std.specs.Prelude.{flat_map}
 use Rattle.std.proofs.lemmas.List.{append-nil, append_cancel_left, length-append, nil_from_length}
-use Rattle.h2frame.specs.declared.error_code.ErrorCode.TheVariants.{ProtocolError}
 use Rattle.h2frame.specs.FrameList.{Entry, Joined}
+use Rattle.reasons.specs.declared.Reason.TheVariants as reason
 use Rattle.session.specs.declared.event.InEvent.{InEvent}
 use Rattle.session.specs.Prefaces.{preface, Departs}
 use Rattle.session.specs.Frames.{fatal}
@@ -128,7 +128,7 @@ joined_at : (text longer : List ℕ) (entries : List Entry) (rest : List ℕ) �
 joined_at text longer entries rest e j = subst (λ (b : List ℕ). Joined b entries rest) e j
 
 -- the shorter text has a first frame that is no SETTINGS
-behind_unsettled : (bytes more text : List ℕ) (entries : List Entry) (rest : List ℕ) (given longer : List InEvent) → bytes ≡ preface ++ text → Joined text entries rest → IsUnsettled entries → given ≡ fatal ProtocolError
+behind_unsettled : (bytes more text : List ℕ) (entries : List Entry) (rest : List ℕ) (given longer : List InEvent) → bytes ≡ preface ++ text → Joined text entries rest → IsUnsettled entries → given ≡ fatal reason.First
     → Events (bytes ++ more) longer → Longer given longer
 behind_unsettled bytes more text entries rest given longer e j (entry, is, not) g (Greeted due f silent) =
     absurd (none_joined entry [] rest (subst (λ (b : List ℕ). Joined b (entry ∷ []) rest) (whole_preface bytes more text due e f).0 (subst (λ (xs : List Entry). Joined text xs rest) is j)))

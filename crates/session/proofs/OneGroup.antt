@@ -2,7 +2,6 @@
 use Rattle.std.proofs.Common.{◌≡◌, ℕ, Bool, true, false, List, [], ◌∷◌, sym, ap, subst, ◌∙◌, inl, inr}
 use Rattle.std.specs.Prelude.{Option, ◌==◌}
 use Rattle.std.proofs.lemmas.Bool.{true≢false}
-use Rattle.h2frame.specs.declared.error_code.ErrorCode.{ErrorCode}
 use Rattle.h2frame.specs.declared.frame.Frame.{Frame}
 use Rattle.h2frame.specs.declared.frame.FrameHead.{FrameHead}
 use Rattle.h2frame.specs.declared.kind.FrameKind.{FrameKind}
@@ -18,13 +17,16 @@ use Rattle.callhead.proofs.OneHead.{head_one, head_or_fault, head_fault_one}
 use Rattle.flow.specs.declared.halves.HalfVerdict.{HalfVerdict}
 use Rattle.flow.specs.declared.halves.HalfVerdict.TheVariants.{Open, Accept, Discard, StreamError, ConnectionError}
 use Rattle.flow.specs.Halves.{Event, verdict}
+use Rattle.hpack_codec.specs.declared.fault.HpackFault.{HpackFault}
+use Rattle.reasons.specs.declared.Reason.{Reason}
+use Rattle.reasons.specs.declared.Reason.TheVariants as reason
 use Rattle.session.specs.declared.event.Control.TheVariants as controls
 use Rattle.session.specs.declared.event.InEvent.{InEvent}
 use Rattle.session.specs.declared.event.InEvent.TheVariants as events
 use Rattle.h2frame.specs.declared.settings.PeerSetting.{PeerSetting}
 use Rattle.session.specs.Streams.{after_frame, end_of}
 use Rattle.session.specs.Frames.{fatal, SettingsGive, WindowGives, KindGives}
-use Rattle.session.specs.Blocks.{bad_head_events, after_bad_head, block_error, HeadGives, FieldsGive, BlockGives}
+use Rattle.session.specs.Blocks.{bad_head_events, after_bad_head, HeadGives, FieldsGive, BlockGives}
 use Rattle.session.specs.Events.{Situation, Group, Single, Credit, Block, GroupGives, IsCalm}
 use Rattle.session.proofs.OneSettings.{tells_one, refused_one, told_or_refused}
 
@@ -40,7 +42,7 @@ settings_one false content given other (inl (settings, tells, e)) (inl (others, 
 settings_one false content given other (inl (settings, tells, e)) (inr (error, refused, f)) = absurd (told_or_refused content settings error tells refused)
 settings_one false content given other (inr (error, refused, e)) (inl (settings, tells, f)) = absurd (told_or_refused content settings error tells refused)
 settings_one false content given other (inr (error, refused, e)) (inr (code, also, f)) =
-    e ∙ ap (λ (c : ErrorCode). fatal c) (refused_one content error code refused also) ∙ sym f
+    e ∙ ap (λ (why : Reason). fatal why) (refused_one content error code refused also) ∙ sym f
 
 window_one : (connection : Bool) (history next last : List Event) (frame : Frame) (given other : List InEvent)
     → WindowGives connection history frame given next → WindowGives connection history frame other last → (given ≡ other) × (next ≡ last)
@@ -81,7 +83,7 @@ fields_give_one Discard head fields history next last given other g h = both giv
 fields_give_one (StreamError error) head fields history next last given other g h = both given other _ next last _ g h
 fields_give_one (ConnectionError error) head fields history next last given other g h = both given other _ next last _ g h
 
-pub not_calm_end : (given : List InEvent) (error : ErrorCode) → given ≡ fatal error → IsCalm given → ⊥
+pub not_calm_end : (given : List InEvent) (error : Reason) → given ≡ fatal error → IsCalm given → ⊥
 not_calm_end given error e calm = true≢false (subst IsCalm e calm)
 
 block_one : (kept kept_next kept_last : Option Table) (head : FrameHead) (judged : HalfVerdict) (block : List ℕ) (history next last : List Event) (given other : List InEvent)
@@ -96,8 +98,8 @@ block_one kept kept_next kept_last head judged block history next last given oth
 block_one kept kept_next kept_last head judged block history next last given other (inr (fault, first, live, e, f)) (inl (fields, reads, gives)) =
     absurd (live (only_memory fault kept kept_last block fields reads first))
 block_one kept kept_next kept_last head judged block history next last given other (inr (fault, first, live, e, f)) (inr (fault', first', live', e', f')) = (
-  e ∙ ap (λ (c : ErrorCode). fatal c) (ap block_error (fault_one fault fault' kept block first first' live live')) ∙ sym e',
-  λ calm. absurd (not_calm_end given (block_error fault) e calm),
+  e ∙ ap (λ (f : HpackFault). fatal (reason.Hpack f)) (fault_one fault fault' kept block first first' live live') ∙ sym e',
+  λ calm. absurd (not_calm_end given (reason.Hpack fault) e calm),
 )
 
 -- ---- groups

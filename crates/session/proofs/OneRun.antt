@@ -6,14 +6,15 @@ use Rattle.std.proofs.lemmas.List.{append-nil, append_cancel_left}
 use Rattle.h2frame.specs.declared.error_code.ErrorCode.{ErrorCode}
 use Rattle.h2frame.specs.declared.fault.FrameFault.{FrameFault}
 use Rattle.h2frame.specs.declared.kind.FrameKind.{FrameKind}
-use Rattle.h2frame.specs.Faults.{fault_error}
 use Rattle.h2frame.specs.FrameList.{Entry, Joined, IsUnfinished, IsFaulty}
 use Rattle.h2frame.proofs.Lists.{joined_more, faulty_more, faulty_list}
 use Rattle.flow.specs.declared.halves.HalfVerdict.TheVariants.{ConnectionError}
 use Rattle.flow.specs.Halves.{verdict, is_connection_error}
+use Rattle.reasons.specs.declared.Reason.{Reason}
+use Rattle.reasons.specs.declared.Reason.TheVariants as reason
 use Rattle.session.specs.declared.event.InEvent.{InEvent}
 use Rattle.session.specs.Frames.{fatal, KindGives}
-use Rattle.session.specs.HeaderBlocks.{fragment_error}
+use Rattle.session.specs.HeaderBlocks.{fragment_reason}
 use Rattle.session.specs.Events.{Situation, Group, Single, Credit, Block, entries_of, GroupGives, IsCalm, Runs, Close, Unfinished, Faulty, Refused, Broken, Ended, IsPartial, Closes}
 use Rattle.session.proofs.OneGroup.{group_one, not_calm_end}
 use Rattle.session.proofs.OnePiece.{Piece, Of, Refusal, Cut, taken, StandsIn, piece_one, partial_none}
@@ -35,13 +36,13 @@ stop_of (Ended group next error) = At (Of group)
 
 -- the piece comes to these events, which end the connection
 abbrev Comes : Situation → Piece → List InEvent → Type 0
-Comes now (Of group) last = (error : ErrorCode) × (next : Situation) × GroupGives now group last next × (last ≡ fatal error)
-Comes now (Refusal frame) last = (error : ErrorCode) × (verdict now.history frame.head ≡ ConnectionError error) × (last ≡ fatal error)
-Comes now (Cut frames block entry fault) last = last ≡ fatal (fragment_error fault)
+Comes now (Of group) last = (why : Reason) × (next : Situation) × GroupGives now group last next × (last ≡ fatal why)
+Comes now (Refusal frame) last = (error : ErrorCode) × (verdict now.history frame.head ≡ ConnectionError error) × (last ≡ fatal (reason.Stream frame.head.kind error))
+Comes now (Cut frames block entry fault) last = last ≡ fatal (fragment_reason fault)
 
 abbrev pub Halts : Situation → Stop → List Entry → List InEvent → Type 0
 Halts now Waits behind last = IsPartial now.history behind × (last ≡ [])
-Halts now (Fails fault) behind last = IsPartial now.history behind × (last ≡ fatal (fault_error fault))
+Halts now (Fails fault) behind last = IsPartial now.history behind × (last ≡ fatal (reason.Frame fault))
 Halts now (At piece) behind last = StandsIn now.history piece × (behind ≡ taken piece) × Comes now piece last
 
 pub group_stands : (now next : Situation) (group : Group) (given : List InEvent) → GroupGives now group given next → StandsIn now.history (Of group)
@@ -62,7 +63,7 @@ same_code a b e = cc
 
 comes_one : (now : Situation) (piece : Piece) (last other : List InEvent) → Comes now piece last → Comes now piece other → last ≡ other
 comes_one now (Of group) last other (error, next, gives, e) (code, new, gives', f) = (group_one now next new group last other gives gives').0
-comes_one now (Refusal frame) last other (error, judged, e) (code, judged', f) = e ∙ ap (λ (c : ErrorCode). fatal c) (same_code error code (sym judged ∙ judged')) ∙ sym f
+comes_one now (Refusal frame) last other (error, judged, e) (code, judged', f) = e ∙ ap (λ (c : ErrorCode). fatal (reason.Stream frame.head.kind c)) (same_code error code (sym judged ∙ judged')) ∙ sym f
 comes_one now (Cut frames block entry fault) last other e f = e ∙ sym f
 
 -- a group is calm, or it ends the connection
@@ -169,7 +170,7 @@ both_stop : (s t : Stop) (now : Situation) (es fs : List Entry) (last other : Li
 both_stop Waits t now es fs last other a b m = (other, ap (λ (l : List InEvent). l ++ other) (sym a.1))
 both_stop (Fails fault) Waits now es fs last other a b m = absurd m.agree
 both_stop (Fails fault) (Fails code) now es fs last other a b m =
-    ([], b.1 ∙ ap (λ (f : FrameFault). fatal (fault_error f)) (sym m.agree) ∙ sym a.1 ∙ sym (append-nil last))
+    ([], b.1 ∙ ap (λ (f : FrameFault). fatal (reason.Frame f)) (sym m.agree) ∙ sym a.1 ∙ sym (append-nil last))
 both_stop (Fails fault) (At q) now es fs last other a b m =
     let i = m.inside tt in
     absurd (partial_none now.history es i.0 q a.0 b.0 (i.1 ∙ ap (λ (xs : List Entry). xs ++ i.0) b.1))

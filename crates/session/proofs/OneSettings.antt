@@ -4,10 +4,10 @@ use Rattle.std.specs.Prelude.{Some, None, flat_map, filter_map}
 use Rattle.std.specs.List.{AllByRecursion}
 use Rattle.std.specs.Int.{w16, w32, to_be_bytes, from_be_bytes}
 use Rattle.std.proofs.lemmas.Nat.{from_be_bytes-to_be_bytes_2, from_be_bytes-to_be_bytes_4}
-use Rattle.h2frame.specs.declared.error_code.ErrorCode.{ErrorCode}
 use Rattle.h2frame.specs.declared.setting.SettingId.{SettingId}
 use Rattle.h2frame.specs.Setting.{setting_of, setting_code}
 use Rattle.hpack_codec.proofs.Bits.{fronts_one}
+use Rattle.reasons.specs.declared.Reason.{Reason}
 use Rattle.session.specs.declared.settings.Parameter.{Parameter}
 use Rattle.h2frame.specs.declared.settings.PeerSetting.{PeerSetting}
 use Rattle.session.specs.Settings.{parameter_text, IsParameter, AreLawful, parameter_fault, parameter_told, Tells, IsRefused}
@@ -34,7 +34,7 @@ not_none : (p : Parameter) (x : List ℕ) → [] ≡ parameter_text p ++ x → �
 not_none p x e = omega (arith, ap length e)
 
 -- a parameter is lawful, or it isn't
-not_both : (p q : Parameter) (error : ErrorCode) → p ≡ q → parameter_fault p ≡ None → parameter_fault q ≡ Some error → ⊥
+not_both : (p q : Parameter) (error : Reason) → p ≡ q → parameter_fault p ≡ None → parameter_fault q ≡ Some error → ⊥
 not_both p q error e fine fault = let bad : None ≡ Some error = sym fine ∙ ap parameter_fault e ∙ fault in cc bad
 
 parameters_one : (ps qs : List Parameter) → AllByRecursion IsParameter ps → AllByRecursion IsParameter qs → flat_map parameter_text ps ≡ flat_map parameter_text qs → ps ≡ qs
@@ -46,7 +46,7 @@ parameters_one (p ∷ ps) (q ∷ qs) all also e =
     ap (λ (r : Parameter). r ∷ ps) one.0 ∙ ap (λ (rs : List Parameter). q ∷ rs) (parameters_one ps qs all.1 also.1 one.1)
 
 -- behind lawful parameters there is one that is the first to be faulty
-faults_one : (fs gs : List Parameter) (p q : Parameter) (x y : List ℕ) (error other : ErrorCode) → AllByRecursion IsParameter fs → AllByRecursion IsParameter gs → AreLawful fs → AreLawful gs → IsParameter p → IsParameter q
+faults_one : (fs gs : List Parameter) (p q : Parameter) (x y : List ℕ) (error other : Reason) → AllByRecursion IsParameter fs → AllByRecursion IsParameter gs → AreLawful fs → AreLawful gs → IsParameter p → IsParameter q
     → parameter_fault p ≡ Some error → parameter_fault q ≡ Some other → flat_map parameter_text fs ++ (parameter_text p ++ x) ≡ flat_map parameter_text gs ++ (parameter_text q ++ y) → p ≡ q
 faults_one [] [] p q x y error other all also lawful fine is js fault faulty e = (parameter_one p q x y is js e).0
 faults_one [] (g ∷ gs) p q x y error other all also lawful fine is js fault faulty e =
@@ -61,7 +61,7 @@ faults_one (f ∷ fs) (g ∷ gs) p q x y error other all also lawful fine is js 
     faults_one fs gs p q x y error other all.1 also.1 lawful.1 fine.1 is js fault faulty one.1
 
 -- and none where all are lawful
-no_fault : (ps gs : List Parameter) (q : Parameter) (y : List ℕ) (error : ErrorCode) → AllByRecursion IsParameter ps → AllByRecursion IsParameter gs → AreLawful ps → IsParameter q
+no_fault : (ps gs : List Parameter) (q : Parameter) (y : List ℕ) (error : Reason) → AllByRecursion IsParameter ps → AllByRecursion IsParameter gs → AreLawful ps → IsParameter q
     → parameter_fault q ≡ Some error → flat_map parameter_text ps ≡ flat_map parameter_text gs ++ (parameter_text q ++ y) → ⊥
 no_fault [] [] q y error all also lawful js faulty e = not_none q y e
 no_fault [] (g ∷ gs) q y error all also lawful js faulty e =
@@ -77,12 +77,12 @@ pub tells_one : (content : List ℕ) (settings others : List PeerSetting) → Te
 tells_one content settings others (ps, are, lawful, told) (qs, also, fine, tells) =
     told ∙ ap (filter_map parameter_told) (parameters_one ps qs are.each also.each (sym are.text ∙ also.text)) ∙ sym tells
 
-pub refused_one : (content : List ℕ) (error other : ErrorCode) → IsRefused content error → IsRefused content other → error ≡ other
+pub refused_one : (content : List ℕ) (error other : Reason) → IsRefused content error → IsRefused content other → error ≡ other
 refused_one content error other a b =
     let same = faults_one a.front b.front a.faulty b.faulty a.rest b.rest error other a.each b.each a.lawful b.lawful a.is_parameter b.is_parameter a.fault b.fault (sym a.text ∙ b.text) in
     let faults : Some error ≡ Some other = sym a.fault ∙ ap parameter_fault same ∙ b.fault in
     cc faults
 
-pub told_or_refused : (content : List ℕ) (settings : List PeerSetting) (error : ErrorCode) → Tells content settings → IsRefused content error → ⊥
+pub told_or_refused : (content : List ℕ) (settings : List PeerSetting) (error : Reason) → Tells content settings → IsRefused content error → ⊥
 told_or_refused content settings error (ps, are, lawful, told) b =
     no_fault ps b.front b.faulty b.rest error are.each b.each lawful b.is_parameter b.fault (sym are.text ∙ b.text)

@@ -50,7 +50,7 @@ closed_here id old new (Single frame) given now (gives, same) on at closed =
           (data_silent id (verdict old.history frame.head) frame (λ (e : verdict old.history frame.head ≡ Accept). closed_data now frame.head closed is (sym (verdict_begun id old.history frame.head now on at) ∙ e)))
       | inr not ↦ kind_silent id frame.head.kind old.history new.history frame given not gives
     ]
-closed_here id old new (Credit stream) given now (e, next, same) on at closed = silent_same id given _ e (refusal_silent id (credit_verdict old.history stream) stream)
+closed_here id old new (Credit stream) given now (e, next, same) on at closed = silent_same id given _ e (refusal_silent id (credit_verdict old.history stream) (credit_head stream))
 closed_here id old new (Block frames block) given now (begun, whole, gives) on at closed =
     (block_silent id old.kept new.kept block.head (verdict old.history block.head) block.block _ new.history given
     (λ (e : verdict old.history block.head ≡ Open). closed_headers now block.head closed begun.collects.kind (sym (verdict_begun id old.history block.head now on at) ∙ e)) gives).0
@@ -184,7 +184,7 @@ credit_closed id old new stream given (e, next, same) on at =
 
 credit_open : (id : ℕ) (old new : Situation) (stream : ℕ) (given : List InEvent) → GroupGives old (Credit stream) given new → nat_eq id stream ≡ true → half_at old.history id ≡ Some Opened → OpenNext id new (Credit stream) given
 credit_open id old new stream given (e, next, same) on at =
-    let silent : IsSilent id given = silent_same id given _ e (refusal_silent id (credit_verdict old.history stream) stream) in
+    let silent : IsSilent id given = silent_same id given _ e (refusal_silent id (credit_verdict old.history stream) (credit_head stream)) in
     inr (credit_closed id old new stream given (e, next, same) on at, λ more. ap (λ (b : Bool). if b then [] else data_behind id more) on ∙ sym silent.0)
 
 -- HEADERS on an open stream

@@ -194,7 +194,7 @@ credit_end id old new stream given (e, next, same) on at =
     inr (
       Aborted,
       λ behind. refl,
-      ap (ending_told id) (e ∙ ap (λ (v : HalfVerdict). refusal v stream) judged) ∙ ap (λ (b : Bool). first_end (if b then Aborted else Unended) Unended) on,
+      ap (ending_told id) (e ∙ ap (λ (v : HalfVerdict). refusal v (credit_head stream)) judged) ∙ ap (λ (b : Bool). first_end (if b then Aborted else Unended) Unended) on,
       credit_closed id old new stream given (e, next, same) on at,
       λ more. ap (λ (b : Bool). if b then Aborted else ending_behind id more) on,
     )
@@ -215,11 +215,11 @@ last_block b id new frames block given ended collects on closed told = inr (if b
     last true = λ behind. refl
     last false = λ behind. refl
 
-aborted_here : (id stream : ℕ) → nat_eq id stream ≡ true → ending_told id (refusal (StreamError ProtocolError) stream) ≡ Aborted
-aborted_here id stream on = ap (λ (b : Bool). first_end (if b then Aborted else Unended) Unended) on
+aborted_here : (id : ℕ) (head : FrameHead) → nat_eq id head.stream ≡ true → ending_told id (refusal (StreamError ProtocolError) head) ≡ Aborted
+aborted_here id head on = ap (λ (b : Bool). first_end (if b then Aborted else Unended) Unended) on
 
-error_here : (id stream : ℕ) → nat_eq id stream ≡ true → list_any (is_stream_error id) (refusal (StreamError ProtocolError) stream) ≡ true
-error_here id stream on = ap (λ (b : Bool). b || false) on
+error_here : (id : ℕ) (head : FrameHead) → nat_eq id head.stream ≡ true → list_any (is_stream_error id) (refusal (StreamError ProtocolError) head) ≡ true
+error_here id head on = ap (λ (b : Bool). b || false) on
 
 -- the fields of trailers
 trailers_end : (malformed : Bool) (id : ℕ) (old new : Situation) (frames : List Frame) (block : Pending) (given : List InEvent) (fields : List Field) → are_malformed_trailers fields ≡ malformed → has end_stream block.head.flags ≡ true
@@ -230,8 +230,8 @@ trailers_end false id old new frames block given fields is ended collects whole 
 trailers_end true id old new frames block given fields is ended collects whole on accepted reads e closed =
     inr (record {
       refused = (fields, new.kept, collects, whole, on, accepted, reads, is);
-      aborted = ap (ending_told id) e ∙ aborted_here id block.head.stream on;
-      error = ap (list_any (is_stream_error id)) e ∙ error_here id block.head.stream on;
+      aborted = ap (ending_told id) e ∙ aborted_here id block.head on;
+      error = ap (list_any (is_stream_error id)) e ∙ error_here id block.head on;
       closed = closed;
       due = λ more. due_block true id frames block more ended collects on;
     })
@@ -243,7 +243,7 @@ fields_end : (b : Bool) (id : ℕ) (old new : Situation) (frames : List Frame) (
 fields_end true id old new frames block given fields history ended accepted collects whole on reads gives closed =
     trailers_end (are_malformed_trailers fields) id old new frames block given fields refl ended collects whole on accepted reads gives.0 closed
 fields_end false id old new frames block given fields history ended judged collects whole on reads gives closed =
-    inl (last_block false id new frames block given ended collects on closed (ap (ending_told id) gives.0 ∙ aborted_here id block.head.stream on))
+    inl (last_block false id new frames block given ended collects on closed (ap (ending_told id) gives.0 ∙ aborted_here id block.head on))
 
 block_end : (id : ℕ) (old new : Situation) (frames : List Frame) (block : Pending) (given : List InEvent) → GroupGives old (Block frames block) given new → IsCalm given → nat_eq id block.head.stream ≡ true → half_at old.history id ≡ Some Opened
     → OpenEnd id new (Block frames block) given ⊎ OpenRefused id old new (Block frames block) given

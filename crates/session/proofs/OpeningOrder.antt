@@ -51,12 +51,12 @@ none_same given due e none = ap openings e ∙ none
 end_none : (head : FrameHead) → OpensNone (end_of head)
 end_none head = elim (has end_stream head.flags) as (λ (b : Bool). OpensNone (if b then events.End head.stream ∷ [] else [])) [ true ↦ refl | false ↦ refl ]
 
-refusal_none : (judged : HalfVerdict) (id : ℕ) → OpensNone (refusal judged id)
-refusal_none (StreamError error) id = refl
-refusal_none (ConnectionError error) id = refl
-refusal_none Open id = refl
-refusal_none Accept id = refl
-refusal_none Discard id = refl
+refusal_none : (judged : HalfVerdict) (head : FrameHead) → OpensNone (refusal judged head)
+refusal_none (StreamError error) head = refl
+refusal_none (ConnectionError error) head = refl
+refusal_none Open head = refl
+refusal_none Accept head = refl
+refusal_none Discard head = refl
 
 counted_none : (n : ℕ) (event : InEvent) → opening_of event ≡ [] → OpensNone (counted n event)
 counted_none n event none = elim (n == 0) as (λ (b : Bool). OpensNone (if b then [] else event ∷ [])) [ true ↦ refl | false ↦ ap (λ (b : List ℕ). b ++ []) none ]
@@ -236,7 +236,7 @@ group_opens old new (Single frame) given (gives, same) =
     )
 group_opens old new (Credit id) given (e, next, same) =
     inl (
-      none_same given _ e (refusal_none (credit_verdict old.history id) id),
+      none_same given _ e (refusal_none (credit_verdict old.history id) (credit_head id)),
       later_same old.history (after_frame (credit_verdict old.history id) (credit_head id) old.history) new.history next (later_frame (credit_verdict old.history id) (credit_head id) old.history),
     )
 group_opens old new (Block frames block) given (is_begun, whole, gives) = block_opens_by old.kept new.kept block.head block.block old.history new.history given gives

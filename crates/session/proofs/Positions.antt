@@ -3,7 +3,6 @@ use Rattle.std.proofs.Common.{◌≡◌, ◌≢◌, ◌-◌, ℕ, inl, inr, Bool
 use Rattle.std.specs.Prelude.{Option, Some, None, Result, Ok, Err, IfOk, slice_get}
 use Rattle.std.proofs.lemmas.List.{map-append}
 use Rattle.h2frame.specs.declared.error_code.ErrorCode.{ErrorCode}
-use Rattle.h2frame.specs.declared.error_code.ErrorCode.TheVariants.{ProtocolError}
 use Rattle.h2frame.specs.declared.frame.Frame.{Frame}
 use Rattle.h2frame.specs.declared.frame.FrameHead.{FrameHead}
 use Rattle.h2frame.specs.declared.kind.FrameKind.TheVariants.{Headers, Settings}
@@ -14,6 +13,7 @@ use Rattle.flow.specs.declared.halves.HalfVerdict.{HalfVerdict}
 use Rattle.flow.specs.declared.halves.HalfVerdict.TheVariants.{Open, Accept, Discard, StreamError, ConnectionError}
 use Rattle.flow.specs.Halves.{Event, Streams, verdict, is_connection_error}
 use Rattle.flow.specs.Halves.{Stands as Keeps}
+use Rattle.reasons.specs.declared.Reason.TheVariants as reason
 use Rattle.session.specs.declared.event.InEvent.{InEvent}
 use Rattle.session.specs.declared.context.Position.{Position}
 use Rattle.session.specs.declared.context.Position.TheVariants.{First, Between, Inside}
@@ -21,7 +21,7 @@ use Rattle.session.specs.declared.header_block.FragmentFault.{FragmentFault}
 use Rattle.session.specs.declared.header_block.FragmentFault.TheVariants.{Interrupted, TooLong, OutOfMemory}
 use Rattle.session.specs.Streams.{after_frame, refusal, credit_head, credit_verdict}
 use Rattle.session.specs.Frames.{fatal}
-use Rattle.session.specs.HeaderBlocks.{Pending, Collects, Stands, fragment_error}
+use Rattle.session.specs.HeaderBlocks.{Pending, Collects, Stands, fragment_reason}
 use Rattle.session.specs.Blocks.{BlockGives}
 use Rattle.session.specs.Events.{Situation, start, Group, Credit, Block, entries_of, GroupGives, IsCalm, IsSettings, Passes, Close, Unfinished, Refused, Broken, Ended, Breaks, Closes}
 use Rattle.session.specs.CoreStates.{IsSettled, Holds, Leads, Stops, LeadsOn, Begins, Collected, ends_at, position_behind}
@@ -52,11 +52,11 @@ closed entries behind rest before old last new now close passes closes final e =
     )
 
 pub unsettled : (entries : List Entry) (entry : Entry) (rest : List ℕ) (before old new : List InEvent)
-    → entries ≡ [] → before ++ old ≡ [] → (IsSettings entry → ⊥) → new ≡ old ++ fatal ProtocolError → Stops (entries ++ entry ∷ []) rest (before ++ new)
+    → entries ≡ [] → before ++ old ≡ [] → (IsSettings entry → ⊥) → new ≡ old ++ fatal reason.First → Stops (entries ++ entry ∷ []) rest (before ++ new)
 unsettled entries entry rest before old new none silent other e =
     inl (
       (entry, ap (λ (es : List Entry). es ++ entry ∷ []) none, other),
-      ap (λ (es : List InEvent). before ++ es) e ∙ sym (append_assoc before old (fatal ProtocolError)) ∙ ap (λ (es : List InEvent). es ++ fatal ProtocolError) silent,
+      ap (λ (es : List InEvent). before ++ es) e ∙ sym (append_assoc before old (fatal reason.First)) ∙ ap (λ (es : List InEvent). es ++ fatal reason.First) silent,
     )
 
 -- ---- a whole group
@@ -119,24 +119,30 @@ behind_groups entries entry before old given new now next group streams kept at 
 
 -- inside a header block, which it doesn't go on with
 pub breaks : (entries : List Entry) (entry : Entry) (rest : List ℕ) (before old new : List InEvent) (block : Pending) (judged : HalfVerdict) (streams : Streams) (kept : Option Table) (fault : FragmentFault)
-    → Leads entries (before ++ old) (Inside block judged) streams kept → Breaks entry block fault → new ≡ old ++ fatal (fragment_error fault) → Stops (entries ++ entry ∷ []) rest (before ++ new)
+    → Leads entries (before ++ old) (Inside block judged) streams kept → Breaks entry block fault → new ≡ old ++ fatal (fragment_reason fault) → Stops (entries ++ entry ∷ []) rest (before ++ new)
 breaks entries entry rest before old new block judged streams kept fault (still, (history, frames, passed, inside)) broken e =
-    closed (entries ++ entry ∷ []) (map Whole frames ++ entry ∷ []) rest before old (fatal (fragment_error fault)) new (record { history = history; kept = kept }) (Broken frames block entry fault)
+    closed (entries ++ entry ∷ []) (map Whole frames ++ entry ∷ []) rest before old (fatal (fragment_reason fault)) new (record { history = history; kept = kept }) (Broken frames block entry fault)
     (passes_longer entries (map Whole frames) (entry ∷ []) (before ++ old) (record { history = history; kept = kept }) passed.passes (settled_opens (entries ++ entry ∷ []) (settled_longer entries (entry ∷ []) passed.settled)))
     (inside.begun, still, refl, broken, refl) (λ (u : Broken frames block entry fault ≡ Unfinished). cc) e
 
-pub no_credit : (at : Position) (entries : List Entry) (id : ℕ) (rest : List ℕ) (before old new : List InEvent) (streams : Streams) (kept : Option Table)
-    → (at ≡ Between → ⊥) → Leads entries (before ++ old) at streams kept → new ≡ old ++ fatal ProtocolError → Stops (entries ++ NoIncrement id ∷ []) rest (before ++ new)
-no_credit First entries id rest before old new streams kept not leads e = unsettled entries (NoIncrement id) rest before old new leads.0 leads.1 (λ (x : ⊥). x) e
-no_credit Between entries id rest before old new streams kept not leads e = absurd (not refl)
-no_credit (Inside block judged) entries id rest before old new streams kept not leads e = breaks entries (NoIncrement id) rest before old new block judged streams kept Interrupted leads tt e
+-- WINDOW_UPDATE without an increment that came first, or inside a header block
+pub first_credit : (at : Position) (entries : List Entry) (id : ℕ) (rest : List ℕ) (before old new : List InEvent) (streams : Streams) (kept : Option Table)
+    → at ≡ First → Leads entries (before ++ old) at streams kept → new ≡ old ++ fatal reason.First → Stops (entries ++ NoIncrement id ∷ []) rest (before ++ new)
+first_credit First entries id rest before old new streams kept is leads e = unsettled entries (NoIncrement id) rest before old new leads.0 leads.1 (λ (x : ⊥). x) e
+first_credit Between entries id rest before old new streams kept is leads e = absurd cc
+first_credit (Inside block judged) entries id rest before old new streams kept is leads e = absurd cc
+
+pub inner_credit : (at : Position) (block : Pending) (judged : HalfVerdict) (entries : List Entry) (id : ℕ) (rest : List ℕ) (before old new : List InEvent) (streams : Streams) (kept : Option Table)
+    → at ≡ Inside block judged → Leads entries (before ++ old) at streams kept → new ≡ old ++ fatal reason.Interrupted → Stops (entries ++ NoIncrement id ∷ []) rest (before ++ new)
+inner_credit at block judged entries id rest before old new streams kept is leads e =
+    breaks entries (NoIncrement id) rest before old new block judged streams kept Interrupted (subst (λ (p : Position). Leads entries (before ++ old) p streams kept) is leads) tt e
 
 -- HEADERS that are an error of the connection
 pub refuses : (entries : List Entry) (frame : Frame) (error : ErrorCode) (rest : List ℕ) (before old new : List InEvent) (history : List Event) (kept : Option Table)
     → Passes entries [] (before ++ old) (record { history = history; kept = kept }) → IsSettled (entries ++ Whole frame ∷ []) → frame.head.kind ≡ Headers → verdict history frame.head ≡ ConnectionError error
-    → new ≡ old ++ fatal error → Stops (entries ++ Whole frame ∷ []) rest (before ++ new)
+    → new ≡ old ++ fatal (reason.Stream frame.head.kind error) → Stops (entries ++ Whole frame ∷ []) rest (before ++ new)
 refuses entries frame error rest before old new history kept passes settled kind judged e =
-    closed (entries ++ Whole frame ∷ []) (Whole frame ∷ []) rest before old (fatal error) new (record { history = history; kept = kept }) (Refused frame error)
+    closed (entries ++ Whole frame ∷ []) (Whole frame ∷ []) rest before old (fatal (reason.Stream frame.head.kind error)) new (record { history = history; kept = kept }) (Refused frame error)
     (passes_longer entries [] (Whole frame ∷ []) (before ++ old) (record { history = history; kept = kept }) passes (settled_opens (entries ++ Whole frame ∷ []) settled))
     (refl, kind, judged, refl) (λ (u : Refused frame error ≡ Unfinished). cc) e
 
@@ -193,12 +199,12 @@ if_ended (Err e) P Q none p f = tt
 pub credits : (at : Position) (entries : List Entry) (id : ℕ) (before old new : List InEvent) (judged : HalfVerdict) (streams new_streams : Streams) (kept : Option Table) (next : Option Position)
     → at ≡ Between → ((history : List Event) → Keeps history streams → judged ≡ credit_verdict history id)
     → ((history : List Event) → Keeps history streams → Keeps (after_frame judged (credit_head id) history) new_streams)
-    → new ≡ old ++ refusal judged id → next ≡ position_behind new → Leads entries (before ++ old) at streams kept → LeadsOn (entries ++ NoIncrement id ∷ []) (before ++ new) next new_streams kept
+    → new ≡ old ++ refusal judged (credit_head id) → next ≡ position_behind new → Leads entries (before ++ old) at streams kept → LeadsOn (entries ++ NoIncrement id ∷ []) (before ++ new) next new_streams kept
 credits at entries id before old new judged streams new_streams kept next is same follows e place leads =
     let l : Leads entries (before ++ old) Between streams kept = subst (λ (p : Position). Leads entries (before ++ old) p streams kept) is leads in
-    behind_groups entries (NoIncrement id) before old (refusal judged id) new (record { history = l.0; kept = kept }) (record { history = after_frame judged (credit_head id) l.0; kept = kept }) (Credit id) new_streams kept next
+    behind_groups entries (NoIncrement id) before old (refusal judged (credit_head id)) new (record { history = l.0; kept = kept }) (record { history = after_frame judged (credit_head id) l.0; kept = kept }) (Credit id) new_streams kept next
     l.1.passes (settled_longer entries (NoIncrement id ∷ []) l.1.settled) refl
-    (ap (λ (v : HalfVerdict). refusal v id) (same l.0 l.2), ap (λ (v : HalfVerdict). after_frame v (credit_head id) l.0) (same l.0 l.2), refl)
+    (ap (λ (v : HalfVerdict). refusal v (credit_head id)) (same l.0 l.2), ap (λ (v : HalfVerdict). after_frame v (credit_head id) l.0) (same l.0 l.2), refl)
     e (follows l.0 l.2) refl place
 
 -- the first frame, and one behind whole groups
@@ -218,7 +224,7 @@ next_begins at entries frame before old new streams new_streams kept new_kept ne
     begins entries before l.0 l.1.passes l.2 (settled_longer entries (Whole frame ∷ []) l.1.settled)
 
 pub first_stops : (at : Position) (entries : List Entry) (frame : Frame) (rest : List ℕ) (before old new : List InEvent) (streams : Streams) (kept : Option Table)
-    → at ≡ First → Leads entries (before ++ old) at streams kept → (frame.head.kind ≡ Settings → ⊥) → new ≡ old ++ fatal ProtocolError → Stops (entries ++ Whole frame ∷ []) rest (before ++ new)
+    → at ≡ First → Leads entries (before ++ old) at streams kept → (frame.head.kind ≡ Settings → ⊥) → new ≡ old ++ fatal reason.First → Stops (entries ++ Whole frame ∷ []) rest (before ++ new)
 first_stops at entries frame rest before old new streams kept is leads other e =
     let l : Leads entries (before ++ old) First streams kept = subst (λ (p : Position). Leads entries (before ++ old) p streams kept) is leads in
     unsettled entries (Whole frame) rest before old new l.0 l.1 other e

@@ -6,10 +6,10 @@ use Rattle.std.proofs.lemmas.List.{length-append}
 use Rattle.h2frame.specs.declared.fault.FrameFault.{FrameFault}
 use Rattle.h2frame.specs.declared.fault.FrameFault.TheVariants.{TooLong, BadLength, BadPadding, WrongStream, ZeroIncrement, OutOfMemory}
 use Rattle.h2frame.specs.declared.frame.Frame.{Frame}
-use Rattle.h2frame.specs.Faults.{fault_error}
 use Rattle.h2frame.specs.FrameList.{Entry, Whole, NoIncrement, Spells, Joined, IsUnfinished, IsFaulty, HasCause, refused, answered}
 use Rattle.hpack_codec.specs.Table.{Table}
 use Rattle.flow.specs.Halves.{Streams}
+use Rattle.reasons.specs.declared.Reason.TheVariants as reason
 use Rattle.session.specs.declared.event.InEvent.{InEvent}
 use Rattle.session.specs.declared.context.Position.{Position}
 use Rattle.session.specs.declared.context.Position.TheVariants.{First, Between, Inside}
@@ -108,10 +108,10 @@ stood (Inside block judged) entries given streams kept (still, (history, frames,
     }
 
 faulted : (at : Position) (entries : List Entry) (rest : List ℕ) (before old new : List InEvent) (streams : Streams) (kept : Option Table) (fault : FrameFault)
-    → Leads entries (before ++ old) at streams kept → IsFaulty fault rest → new ≡ old ++ fatal (fault_error fault) → Stops entries rest (before ++ new)
+    → Leads entries (before ++ old) at streams kept → IsFaulty fault rest → new ≡ old ++ fatal (reason.Frame fault) → Stops entries rest (before ++ new)
 faulted at entries rest before old new streams kept fault leads faulty e =
     let s = stood at entries (before ++ old) streams kept leads in
-    closed entries s.behind rest before old (fatal (fault_error fault)) new s.now (Faulty fault) s.passes (s.partial, faulty, refl) (λ (u : Faulty fault ≡ Unfinished). cc) e
+    closed entries s.behind rest before old (fatal (reason.Frame fault)) new s.now (Faulty fault) s.passes (s.partial, faulty, refl) (λ (u : Faulty fault ≡ Unfinished). cc) e
 
 -- ---- the step
 

@@ -4,7 +4,7 @@ use Rattle.std.specs.Prelude.{Option, Some, None, flat_map, filter_map, option_t
 use Rattle.std.specs.List.{AllByRecursion}
 use Rattle.std.proofs.lemmas.List.{append-nil, flat_map_more, nil_from_length, take-append-drop}
 use Rattle.std.proofs.lemmas.List.Elements.{filter_map-append}
-use Rattle.h2frame.specs.declared.error_code.ErrorCode.{ErrorCode}
+use Rattle.reasons.specs.declared.Reason.{Reason}
 use Rattle.session.specs.declared.settings.Parameter.{Parameter}
 use Rattle.h2frame.specs.declared.settings.PeerSetting.{PeerSetting}
 use Rattle.session.specs.Settings.{parameter_text, IsParameter, AreLawful, parameter_fault, parameter_told, Tells, IsRefused}
@@ -47,7 +47,7 @@ read_more content settings rest behind p so e is fine whole =
       whole = whole;
     }
 
-pub read_faulty : (content : List ℕ) (settings : List PeerSetting) (rest behind : List ℕ) (p : Parameter) (error : ErrorCode) → ReadTo content settings rest → rest ≡ parameter_text p ++ behind → IsParameter p → parameter_fault p ≡ Some error → IsRefused content error
+pub read_faulty : (content : List ℕ) (settings : List PeerSetting) (rest behind : List ℕ) (p : Parameter) (error : Reason) → ReadTo content settings rest → rest ≡ parameter_text p ++ behind → IsParameter p → parameter_fault p ≡ Some error → IsRefused content error
 read_faulty content settings rest behind p error so e is fault =
     record {
       front = so.front;

@@ -5,11 +5,11 @@ use Rattle.std.specs.Int.{w16, w32, to_be_bytes, from_be_bytes}
 use Rattle.std.proofs.lemmas.Bool.{cases_lt, eqb-true}
 use Rattle.std.proofs.lemmas.List.Elements.{All-head, All-tail}
 use Rattle.std.proofs.lemmas.Nat.{be_bytes_2, be_bytes_4}
-use Rattle.h2frame.specs.declared.error_code.ErrorCode.{ErrorCode}
 use Rattle.h2frame.specs.declared.setting.SettingId.{SettingId}
 use Rattle.h2frame.specs.declared.setting.SettingId.TheVariants.{HeaderTableSize, EnablePush, MaxConcurrentStreams, InitialWindowSize, MaxFrameSize, MaxHeaderListSize, Unknown}
 use Rattle.h2frame.specs.declared.settings.PeerSetting.{PeerSetting}
 use Rattle.h2frame.specs.Setting.{setting_of, setting_code}
+use Rattle.reasons.specs.declared.Reason.{Reason}
 use Rattle.session.specs.declared.settings.Parameter.{Parameter}
 use Rattle.session.specs.Settings.{parameter_text, IsParameter, parameter_fault, parameter_told, Tells, IsRefused}
 use Rattle.session.proofs.SettingSteps.{ReadTo, read_none, read_more, read_faulty, read_all}
@@ -112,9 +112,9 @@ taken (a ∷ b ∷ c ∷ d ∷ e ∷ []) long all = absurd (omega arith)
 -- ---- all of them
 
 abbrev pub TellsOr : List ℕ → Type 0
-TellsOr content = ((settings : List PeerSetting) × Tells content settings) ⊎ ((error : ErrorCode) × IsRefused content error)
+TellsOr content = ((settings : List PeerSetting) × Tells content settings) ⊎ ((error : Reason) × IsRefused content error)
 
-fault_or : (fault : Option ErrorCode) → ((error : ErrorCode) × (fault ≡ Some error)) ⊎ (fault ≡ None)
+fault_or : (fault : Option Reason) → ((error : Reason) × (fault ≡ Some error)) ⊎ (fault ≡ None)
 fault_or (Some error) = inl (error, refl)
 fault_or None = inr refl
 

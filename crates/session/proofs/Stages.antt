@@ -2,11 +2,11 @@
 use Rattle.std.proofs.Common.{◌≡◌, ◌≢◌, ℕ, inl, inr, List, [], ◌++◌, length, refl, sym, ap, subst, ◌∙◌, append_assoc, arith}
 use Rattle.std.specs.Prelude.{Option}
 use Rattle.std.proofs.lemmas.List.{append-nil, append_cancel_left}
-use Rattle.h2frame.specs.declared.error_code.ErrorCode.TheVariants.{ProtocolError}
 use Rattle.h2frame.specs.FrameList.{Entry}
 use Rattle.h2frame.proofs.Lists.{joined_more, faulty_more}
 use Rattle.hpack_codec.specs.Table.{Table}
 use Rattle.flow.specs.Halves.{Streams}
+use Rattle.reasons.specs.declared.Reason.TheVariants as reason
 use Rattle.session.specs.declared.event.InEvent.{InEvent}
 use Rattle.session.specs.declared.context.Position.{Position}
 use Rattle.session.specs.declared.context.Position.TheVariants.{First}
@@ -123,7 +123,7 @@ greets_on due piece still rest before waiting streams kept brings more =
     }
 
 pub departed : (due piece : List ℕ) (before after : List InEvent) (waiting : List ℕ) (streams : Streams) (kept : Option Table)
-    → Departs due piece → after ≡ before ++ fatal ProtocolError → Feeds (core_of (Greeting due) waiting streams kept) piece before (core_of Dead waiting streams kept) after
+    → Departs due piece → after ≡ before ++ fatal reason.Preface → Feeds (core_of (Greeting due) waiting streams kept) piece before (core_of Dead waiting streams kept) after
 departed due piece before after waiting streams kept departs e =
     record {
       sound = tt;
@@ -133,7 +133,7 @@ departed due piece before after waiting streams kept departs e =
             at = inl (
               (λ (more behind : List ℕ) (same : (bytes ++ piece) ++ more ≡ preface ++ behind).
                   departs more behind (append_cancel_left bytes (piece ++ more) (due ++ behind) (sym (append_assoc bytes piece more) ∙ same ∙ ap (λ (b : List ℕ). b ++ behind) greeting.0 ∙ append_assoc bytes due behind))),
-              ap (λ (es : List InEvent). earlier ++ es) e ∙ sym (append_assoc earlier before (fatal ProtocolError)) ∙ ap (λ (es : List InEvent). es ++ fatal ProtocolError) greeting.2,
+              ap (λ (es : List InEvent). earlier ++ es) e ∙ sym (append_assoc earlier before (fatal reason.Preface)) ∙ ap (λ (es : List InEvent). es ++ fatal reason.Preface) greeting.2,
             );
           };
     }

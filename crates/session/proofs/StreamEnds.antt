@@ -17,7 +17,7 @@ use Rattle.flow.specs.declared.halves.HalfVerdict.TheVariants.{Open, Accept, Dis
 use Rattle.flow.specs.Halves.{Event, verdict}
 use Rattle.session.specs.declared.event.InEvent.{InEvent}
 use Rattle.session.specs.declared.event.InEvent.TheVariants as events
-use Rattle.session.specs.Streams.{counted, end_of, refusal, data_events, reset_events, window_events, credit_verdict}
+use Rattle.session.specs.Streams.{counted, end_of, refusal, data_events, reset_events, window_events, credit_head, credit_verdict}
 use Rattle.session.specs.Frames.{SettingsGive, ping_events, WindowGives, KindGives}
 use Rattle.session.specs.Blocks.{bad_head_events, trailer_events, HeadGives, FieldsGive, BlockGives}
 use Rattle.session.specs.Events.{Situation, Group, Single, Credit, Block, GroupGives}
@@ -53,12 +53,12 @@ end_elsewhere : (id : ℕ) (head : FrameHead) → nat_eq id head.stream ≡ fals
 end_elsewhere id head other =
     elim (has end_stream head.flags) as (λ (b : Bool). IsQuiet id (if b then events.End head.stream ∷ [] else [])) [ true ↦ ap (λ (b : Bool). first_end (if b then Finished else Unended) Unended) other | false ↦ refl ]
 
-pub refusal_elsewhere : (id : ℕ) (judged : HalfVerdict) (stream : ℕ) → nat_eq id stream ≡ false → IsQuiet id (refusal judged stream)
-refusal_elsewhere id (StreamError error) stream other = ap (λ (b : Bool). first_end (if b then Aborted else Unended) Unended) other
-refusal_elsewhere id Open stream other = refl
-refusal_elsewhere id Accept stream other = refl
-refusal_elsewhere id Discard stream other = refl
-refusal_elsewhere id (ConnectionError error) stream other = refl
+pub refusal_elsewhere : (id : ℕ) (judged : HalfVerdict) (head : FrameHead) → nat_eq id head.stream ≡ false → IsQuiet id (refusal judged head)
+refusal_elsewhere id (StreamError error) head other = ap (λ (b : Bool). first_end (if b then Aborted else Unended) Unended) other
+refusal_elsewhere id Open head other = refl
+refusal_elsewhere id Accept head other = refl
+refusal_elsewhere id Discard head other = refl
+refusal_elsewhere id (ConnectionError error) head other = refl
 
 pub counted_quiet : (id n : ℕ) (event : InEvent) → end_told id event ≡ Unended → IsQuiet id (counted n event)
 counted_quiet id n event quiet = elim (n == 0) as (λ (b : Bool). IsQuiet id (if b then [] else event ∷ [])) [ true ↦ refl | false ↦ ap (λ (e : Ending). first_end e Unended) quiet ]
@@ -70,20 +70,20 @@ data_elsewhere id (ConnectionError error) frame other = refl
 data_elsewhere id Open frame other = quiet_join id (counted frame.head.length (events.Loose frame.head.length)) [] (counted_quiet id frame.head.length (events.Loose frame.head.length) refl) refl
 data_elsewhere id Discard frame other = quiet_join id (counted frame.head.length (events.Loose frame.head.length)) [] (counted_quiet id frame.head.length (events.Loose frame.head.length) refl) refl
 data_elsewhere id (StreamError error) frame other =
-    quiet_join id (counted frame.head.length (events.Loose frame.head.length)) (events.StreamError frame.head.stream error ∷ []) (counted_quiet id frame.head.length (events.Loose frame.head.length) refl) (refusal_elsewhere id (StreamError error) frame.head.stream other)
+    quiet_join id (counted frame.head.length (events.Loose frame.head.length)) (events.StreamError frame.head.stream error ∷ []) (counted_quiet id frame.head.length (events.Loose frame.head.length) refl) (refusal_elsewhere id (StreamError error) frame.head other)
 
 reset_elsewhere : (id : ℕ) (judged : HalfVerdict) (frame : Frame) → nat_eq id frame.head.stream ≡ false → IsQuiet id (reset_events judged frame)
 reset_elsewhere id Accept frame other = ap (λ (b : Bool). first_end (if b then Aborted else Unended) Unended) other
 reset_elsewhere id Open frame other = refl
 reset_elsewhere id Discard frame other = refl
-reset_elsewhere id (StreamError error) frame other = refusal_elsewhere id (StreamError error) frame.head.stream other
+reset_elsewhere id (StreamError error) frame other = refusal_elsewhere id (StreamError error) frame.head other
 reset_elsewhere id (ConnectionError error) frame other = refl
 
 credit_elsewhere : (id : ℕ) (judged : HalfVerdict) (frame : Frame) → nat_eq id frame.head.stream ≡ false → IsQuiet id (window_events judged frame)
 credit_elsewhere id Accept frame other = refl
 credit_elsewhere id Open frame other = refl
 credit_elsewhere id Discard frame other = refl
-credit_elsewhere id (StreamError error) frame other = refusal_elsewhere id (StreamError error) frame.head.stream other
+credit_elsewhere id (StreamError error) frame other = refusal_elsewhere id (StreamError error) frame.head other
 credit_elsewhere id (ConnectionError error) frame other = refl
 
 pub settings_quiet : (id : ℕ) (acked : Bool) (content : List ℕ) (given : List InEvent) → SettingsGive acked content given → IsQuiet id given
@@ -121,14 +121,14 @@ head_elsewhere id head fields history next given other (inl (call, is, e, same))
 head_elsewhere id head fields history next given other (inr (fault, first, e, same)) = quiet_same id given _ e (bad_head_elsewhere id fault head other)
 
 trailers_elsewhere : (id : ℕ) (malformed : Bool) (head : FrameHead) → nat_eq id head.stream ≡ false → IsQuiet id (trailer_events malformed head)
-trailers_elsewhere id true head other = refusal_elsewhere id (StreamError ProtocolError) head.stream other
+trailers_elsewhere id true head other = refusal_elsewhere id (StreamError ProtocolError) head other
 trailers_elsewhere id false head other = end_elsewhere id head other
 
 fields_elsewhere : (id : ℕ) (judged : HalfVerdict) (head : FrameHead) (fields : List Field) (history next : List Event) (given : List InEvent) → nat_eq id head.stream ≡ false → FieldsGive judged head fields history given next → IsQuiet id given
 fields_elsewhere id Open head fields history next given other gives = head_elsewhere id head fields history next given other gives
 fields_elsewhere id Accept head fields history next given other (e, same) = quiet_same id given _ e (trailers_elsewhere id (are_malformed_trailers fields) head other)
 fields_elsewhere id Discard head fields history next given other (e, same) = quiet_same id given _ e refl
-fields_elsewhere id (StreamError error) head fields history next given other (e, same) = quiet_same id given _ e (refusal_elsewhere id (StreamError error) head.stream other)
+fields_elsewhere id (StreamError error) head fields history next given other (e, same) = quiet_same id given _ e (refusal_elsewhere id (StreamError error) head other)
 fields_elsewhere id (ConnectionError error) head fields history next given other (e, same) = quiet_same id given _ e refl
 
 block_elsewhere : (id : ℕ) (kept kept_next : Option Table) (head : FrameHead) (judged : HalfVerdict) (block : List ℕ) (history next : List Event) (given : List InEvent) → nat_eq id head.stream ≡ false → BlockGives kept head judged block history given next kept_next → IsQuiet id given
@@ -137,6 +137,6 @@ block_elsewhere id kept kept_next head judged block history next given other (in
 
 pub elsewhere_quiet : (id : ℕ) (old new : Situation) (group : Group) (given : List InEvent) → GroupGives old group given new → nat_eq id (stream_at group) ≡ false → IsQuiet id given
 elsewhere_quiet id old new (Single frame) given (gives, same) other = kind_elsewhere id frame.head.kind old.history new.history frame given other gives
-elsewhere_quiet id old new (Credit stream) given (e, next, same) other = quiet_same id given _ e (refusal_elsewhere id (credit_verdict old.history stream) stream other)
+elsewhere_quiet id old new (Credit stream) given (e, next, same) other = quiet_same id given _ e (refusal_elsewhere id (credit_verdict old.history stream) (credit_head stream) other)
 elsewhere_quiet id old new (Block frames block) given (begun, whole, gives) other =
     block_elsewhere id old.kept new.kept block.head (verdict old.history block.head) block.block _ new.history given other gives

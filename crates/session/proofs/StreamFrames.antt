@@ -4,14 +4,13 @@ use Rattle.std.specs.Prelude.{◌⊎◌, flat_map, if◌then◌else◌}
 use Rattle.std.specs.List.{list_any}
 use Rattle.std.proofs.lemmas.List.{append-nil, append_cancel_right}
 use Rattle.std.proofs.lemmas.List.Folds.{list_any-append}
-use Rattle.h2frame.specs.declared.error_code.ErrorCode.{ErrorCode}
-use Rattle.h2frame.specs.declared.error_code.ErrorCode.TheVariants.{ProtocolError}
-use Rattle.h2frame.specs.Faults.{fault_error}
 use Rattle.h2frame.specs.FrameList.{Entry, Joined}
+use Rattle.reasons.specs.declared.Reason.{Reason}
+use Rattle.reasons.specs.declared.Reason.TheVariants as reason
 use Rattle.session.specs.declared.event.InEvent.{InEvent}
 use Rattle.session.specs.declared.event.InEvent.TheVariants as events
 use Rattle.session.specs.Frames.{fatal}
-use Rattle.session.specs.HeaderBlocks.{fragment_error}
+use Rattle.session.specs.HeaderBlocks.{fragment_reason}
 use Rattle.session.specs.Events.{Situation, entries_of, Passes, Close, Unfinished, Faulty, Refused, Broken, Ended, Closes, Events, Greeted, Departed, Unsettled, Read}
 use Rattle.session.specs.Framings.{IsUnread, Framed}
 use Rattle.session.specs.StreamData.{Ending, Unended, Finished, Aborted, data_of, pieces, is_opening, end_told, ending_told, first_end}
@@ -47,19 +46,19 @@ frames_of bytes given (Read text entries rest close e joined follows) = (
 -- ---- the events that end a connection tell nothing of a stream
 
 abbrev pub IsLast : List InEvent → Type 0
-IsLast given = (given ≡ []) ⊎ ((error : ErrorCode) × (given ≡ fatal error))
+IsLast given = (given ≡ []) ⊎ ((why : Reason) × (given ≡ fatal why))
 
 pub close_last : (close : Close) (now : Situation) (behind : List Entry) (rest : List ℕ) (last : List InEvent) → Closes close now behind rest last → IsLast last
 close_last Unfinished now behind rest last (partial, ends, e) = inl e
-close_last (Faulty fault) now behind rest last (partial, faulty, e) = inr (fault_error fault, e)
-close_last (Refused frame error) now behind rest last (is, kind, judged, e) = inr (error, e)
-close_last (Broken frames block entry fault) now behind rest last (begun, partial, is, breaks, e) = inr (fragment_error fault, e)
+close_last (Faulty fault) now behind rest last (partial, faulty, e) = inr (reason.Frame fault, e)
+close_last (Refused frame error) now behind rest last (is, kind, judged, e) = inr (reason.Stream frame.head.kind error, e)
+close_last (Broken frames block entry fault) now behind rest last (begun, partial, is, breaks, e) = inr (fragment_reason fault, e)
 close_last (Ended group next error) now behind rest last (is, gives, e) = inr (error, e)
 
 pub unread_last : (bytes : List ℕ) (given : List InEvent) → IsUnread bytes given → IsLast given
 unread_last bytes given (inl (due, e, silent)) = inl silent
-unread_last bytes given (inr (inl (departs, e))) = inr (ProtocolError, e)
-unread_last bytes given (inr (inr (text, entries, rest, e, joined, unsettled, g))) = inr (ProtocolError, g)
+unread_last bytes given (inr (inl (departs, e))) = inr (reason.Preface, e)
+unread_last bytes given (inr (inr (text, entries, rest, e, joined, unsettled, g))) = inr (reason.First, g)
 
 pub last_silent : (id : ℕ) (given : List InEvent) → IsLast given → IsSilent id given
 last_silent id given (inl e) = silent_same id given [] e (refl, refl)

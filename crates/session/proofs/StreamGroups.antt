@@ -153,7 +153,7 @@ elsewhere_silent id old new (Single frame) given (gives, same) other =
       | inl is ↦ silent_same id given _ (data_gives frame.head.kind old.history new.history frame given is gives).0 (data_elsewhere id (verdict old.history frame.head) frame other)
       | inr not ↦ kind_silent id frame.head.kind old.history new.history frame given not gives
     ]
-elsewhere_silent id old new (Credit stream) given (e, next, same) other = silent_same id given _ e (refusal_silent id (credit_verdict old.history stream) stream)
+elsewhere_silent id old new (Credit stream) given (e, next, same) other = silent_same id given _ e (refusal_silent id (credit_verdict old.history stream) (credit_head stream))
 elsewhere_silent id old new (Block frames block) given (begun, whole, gives) other =
     block_elsewhere id old.kept new.kept block.head (verdict old.history block.head) block.block _ new.history given other gives
 
@@ -186,7 +186,7 @@ group_untold id old new (Single frame) given (gives, same) full =
       | inl is ↦ ap (list_any (is_opening id)) (data_gives frame.head.kind old.history new.history frame given is gives).0 ∙ data_untold id (verdict old.history frame.head) frame
       | inr not ↦ (kind_silent id frame.head.kind old.history new.history frame given not gives).1
     ]
-group_untold id old new (Credit stream) given (e, next, same) full = (silent_same id given _ e (refusal_silent id (credit_verdict old.history stream) stream)).1
+group_untold id old new (Credit stream) given (e, next, same) full = (silent_same id given _ e (refusal_silent id (credit_verdict old.history stream) (credit_head stream))).1
 group_untold id old new (Block frames block) given (begun, whole, gives) full =
     (block_silent id old.kept new.kept block.head (verdict old.history block.head) block.block _ new.history given (full_verdict old.history block.head full) gives).0.1
 

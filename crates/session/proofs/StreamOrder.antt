@@ -17,7 +17,7 @@ use Rattle.flow.specs.Halves.{Event, verdict}
 use Rattle.flow.proofs.HalfLemmas.{kept-None}
 use Rattle.session.specs.declared.event.InEvent.{InEvent}
 use Rattle.session.specs.declared.event.InEvent.TheVariants as events
-use Rattle.session.specs.Streams.{counted, end_of, data_events, credit_verdict}
+use Rattle.session.specs.Streams.{counted, end_of, data_events, credit_head, credit_verdict}
 use Rattle.session.specs.Blocks.{bad_head_events, BlockGives}
 use Rattle.session.specs.Events.{Situation, start, Group, Single, Credit, Block, GroupGives, Runs, Events}
 use Rattle.session.specs.Framings.{Framed}
@@ -136,7 +136,7 @@ single_untold id old new frame given (gives, same) =
     ]
 
 credit_untold : (id : ℕ) (old new : Situation) (stream : ℕ) (given : List InEvent) → GroupGives old (Credit stream) given new → list_any (is_opening id) given ≡ false
-credit_untold id old new stream given (e, next, same) = (silent_same id given _ e (refusal_silent id (credit_verdict old.history stream) stream)).1
+credit_untold id old new stream given (e, next, same) = (silent_same id given _ e (refusal_silent id (credit_verdict old.history stream) (credit_head stream))).1
 
 group_alone : (id : ℕ) (old new : Situation) (group : Group) (given : List InEvent) → GroupGives old group given new → IsFirstAlone id given
 group_alone id old new (Single frame) given gives = none_alone id given (single_untold id old new frame given gives)
@@ -228,7 +228,7 @@ group_parted id old new (Single frame) given (gives, same) =
       | inl is ↦ subst (IsParted id) (sym (data_gives frame.head.kind old.history new.history frame given is gives).0) (data_parted id (verdict old.history frame.head) frame)
       | inr not ↦ without_data id given (kind_silent id frame.head.kind old.history new.history frame given not gives).0
     ]
-group_parted id old new (Credit stream) given (e, next, same) = without_data id given (silent_same id given _ e (refusal_silent id (credit_verdict old.history stream) stream)).0
+group_parted id old new (Credit stream) given (e, next, same) = without_data id given (silent_same id given _ e (refusal_silent id (credit_verdict old.history stream) (credit_head stream))).0
 group_parted id old new (Block frames block) given (begun, whole, gives) =
     without_data id given (block_pieces id old.kept new.kept block.head (verdict old.history block.head) block.block _ new.history given gives)
 

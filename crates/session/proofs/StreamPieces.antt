@@ -46,12 +46,12 @@ end_silent id head = elim (has end_stream head.flags) as (λ (b : Bool). IsSilen
 pub loose_silent : (id n : ℕ) → IsSilent id (counted n (events.Loose n))
 loose_silent id n = elim (n == 0) as (λ (b : Bool). IsSilent id (if b then [] else events.Loose n ∷ [])) [ true ↦ (refl, refl) | false ↦ (refl, refl) ]
 
-pub refusal_silent : (id : ℕ) (judged : HalfVerdict) (stream : ℕ) → IsSilent id (refusal judged stream)
-refusal_silent id Open stream = (refl, refl)
-refusal_silent id Accept stream = (refl, refl)
-refusal_silent id Discard stream = (refl, refl)
-refusal_silent id (StreamError error) stream = (refl, refl)
-refusal_silent id (ConnectionError error) stream = (refl, refl)
+pub refusal_silent : (id : ℕ) (judged : HalfVerdict) (head : FrameHead) → IsSilent id (refusal judged head)
+refusal_silent id Open head = (refl, refl)
+refusal_silent id Accept head = (refl, refl)
+refusal_silent id Discard head = (refl, refl)
+refusal_silent id (StreamError error) head = (refl, refl)
+refusal_silent id (ConnectionError error) head = (refl, refl)
 
 pub data_silent : (id : ℕ) (judged : HalfVerdict) (frame : Frame) → judged ≢ Accept → IsSilent id (data_events judged frame)
 data_silent id Accept frame not = absurd (not refl)
@@ -139,7 +139,7 @@ bad_head_pieces id Malformed head = refl
 bad_head_pieces id _ head = (end_silent id head).0
 
 trailers_silent : (id : ℕ) (malformed : Bool) (head : FrameHead) → IsSilent id (trailer_events malformed head)
-trailers_silent id true head = refusal_silent id (StreamError ProtocolError) head.stream
+trailers_silent id true head = refusal_silent id (StreamError ProtocolError) head
 trailers_silent id false head = end_silent id head
 
 pub trailers_next : (malformed : Bool) (id : ℕ) (history next : List Event) → next ≡ after_trailers malformed id history → IsNextOf id history next
@@ -153,9 +153,9 @@ head_pieces id head fields history next given (inr (fault, first, e, same)) = ap
 fields_pieces : (id : ℕ) (judged : HalfVerdict) (head : FrameHead) (fields : List Field) (history next : List Event) (given : List InEvent) → FieldsGive judged head fields history given next → pieces id given ≡ []
 fields_pieces id Open head fields history next given gives = head_pieces id head fields history next given gives
 fields_pieces id Accept head fields history next given (e, same) = (silent_same id given _ e (trailers_silent id (are_malformed_trailers fields) head)).0
-fields_pieces id Discard head fields history next given (e, same) = (silent_same id given _ e (refusal_silent id Discard head.stream)).0
-fields_pieces id (StreamError error) head fields history next given (e, same) = (silent_same id given _ e (refusal_silent id (StreamError error) head.stream)).0
-fields_pieces id (ConnectionError error) head fields history next given (e, same) = (silent_same id given _ e (refusal_silent id (ConnectionError error) head.stream)).0
+fields_pieces id Discard head fields history next given (e, same) = (silent_same id given _ e (refusal_silent id Discard head)).0
+fields_pieces id (StreamError error) head fields history next given (e, same) = (silent_same id given _ e (refusal_silent id (StreamError error) head)).0
+fields_pieces id (ConnectionError error) head fields history next given (e, same) = (silent_same id given _ e (refusal_silent id (ConnectionError error) head)).0
 
 pub block_pieces : (id : ℕ) (kept kept_next : Option Table) (head : FrameHead) (judged : HalfVerdict) (block : List ℕ) (history next : List Event) (given : List InEvent) → BlockGives kept head judged block history given next kept_next → pieces id given ≡ []
 block_pieces id kept kept_next head judged block history next given (inl (fields, reads, gives)) = fields_pieces id judged head fields history next given gives
@@ -164,9 +164,9 @@ block_pieces id kept kept_next head judged block history next given (inr (fault,
 fields_silent : (id : ℕ) (judged : HalfVerdict) (head : FrameHead) (fields : List Field) (history next : List Event) (given : List InEvent) → judged ≢ Open → FieldsGive judged head fields history given next → IsSilent id given × IsNextOf head.stream history next
 fields_silent id Open head fields history next given not gives = absurd (not refl)
 fields_silent id Accept head fields history next given not (e, same) = (silent_same id given _ e (trailers_silent id (are_malformed_trailers fields) head), trailers_next (are_malformed_trailers fields) head.stream history next same)
-fields_silent id Discard head fields history next given not (e, same) = (silent_same id given _ e (refusal_silent id Discard head.stream), inl same)
-fields_silent id (StreamError error) head fields history next given not (e, same) = (silent_same id given _ e (refusal_silent id (StreamError error) head.stream), inl same)
-fields_silent id (ConnectionError error) head fields history next given not (e, same) = (silent_same id given _ e (refusal_silent id (ConnectionError error) head.stream), inl same)
+fields_silent id Discard head fields history next given not (e, same) = (silent_same id given _ e (refusal_silent id Discard head), inl same)
+fields_silent id (StreamError error) head fields history next given not (e, same) = (silent_same id given _ e (refusal_silent id (StreamError error) head), inl same)
+fields_silent id (ConnectionError error) head fields history next given not (e, same) = (silent_same id given _ e (refusal_silent id (ConnectionError error) head), inl same)
 
 -- a block whose HEADERS don't open their stream
 pub block_silent : (id : ℕ) (kept kept_next : Option Table) (head : FrameHead) (judged : HalfVerdict) (block : List ℕ) (history next : List Event) (given : List InEvent) → judged ≢ Open → BlockGives kept head judged block history given next kept_next → IsSilent id given × IsNextOf head.stream history next

@@ -1,10 +1,9 @@
 -- What a whole header block comes to (RFC 9113, sections 4.3, 8.1 and 8.1.1), given the verdict of its HEADERS.
 use Rattle.std.specs.Prelude.{◌≡◌, ◌≢◌, ◌⊎◌, ℕ, Bool, true, false, List, [], ◌∷◌, Option}
-use Rattle.h2frame.specs.declared.error_code.ErrorCode.{ErrorCode}
-use Rattle.h2frame.specs.declared.error_code.ErrorCode.TheVariants.{ProtocolError, CompressionError, EnhanceYourCalm}
+use Rattle.h2frame.specs.declared.error_code.ErrorCode.TheVariants.{ProtocolError}
 use Rattle.h2frame.specs.declared.frame.FrameHead.{FrameHead}
 use Rattle.hpack_codec.specs.declared.fault.HpackFault.{HpackFault}
-use Rattle.hpack_codec.specs.declared.fault.HpackFault.TheVariants.{TooLarge, OutOfMemory}
+use Rattle.hpack_codec.specs.declared.fault.HpackFault.TheVariants.{OutOfMemory}
 use Rattle.lists.specs.declared.field.Field.{Field}
 use Rattle.hpack_codec.specs.Table.{Table}
 use Rattle.hpack_codec.specs.Codec.{Reads, IsFirstFault}
@@ -16,6 +15,7 @@ use Rattle.callhead.specs.MalformedHeads.{are_malformed_trailers}
 use Rattle.flow.specs.declared.halves.HalfVerdict.{HalfVerdict}
 use Rattle.flow.specs.declared.halves.HalfVerdict.TheVariants.{Open, Accept, StreamError}
 use Rattle.flow.specs.Halves.{Event, Cut}
+use Rattle.reasons.specs.declared.Reason.TheVariants as reason
 use Rattle.session.specs.declared.event.InEvent.{InEvent}
 use Rattle.session.specs.declared.event.InEvent.TheVariants as events
 use Rattle.session.specs.Streams.{refusal, end_of}
@@ -38,7 +38,7 @@ HeadGives head fields history given next =
 
 -- malformed trailers are an error of the stream, which resets it; others end it
 abbrev pub trailer_events : Bool → FrameHead → List InEvent
-trailer_events true head = refusal (StreamError ProtocolError) head.stream
+trailer_events true head = refusal (StreamError ProtocolError) head
 trailer_events false head = end_of head
 
 abbrev pub after_trailers : Bool → ℕ → List Event → List Event
@@ -50,15 +50,10 @@ abbrev pub FieldsGive : HalfVerdict → FrameHead → List Field → List Event 
 FieldsGive Open head fields history given next = HeadGives head fields history given next
 FieldsGive Accept head fields history given next =
     (given ≡ trailer_events (are_malformed_trailers fields) head) × (next ≡ after_trailers (are_malformed_trailers fields) head.stream history)
-FieldsGive judged head fields history given next = (given ≡ refusal judged head.stream) × (next ≡ history)
-
--- the error that a block without fields is to the peer
-abbrev pub block_error : HpackFault → ErrorCode
-block_error TooLarge = EnhanceYourCalm
-block_error _ = CompressionError
+FieldsGive judged head fields history given next = (given ≡ refusal judged head) × (next ≡ history)
 
 -- From what the decoder kept the block is read, whatever its stream; its first fault ends the connection.
 abbrev pub BlockGives : Option Table → FrameHead → HalfVerdict → List ℕ → List Event → List InEvent → List Event → Option Table → Type 0
 BlockGives kept head judged block history given next kept_next =
     ((fields : List Field) × Reads kept block fields kept_next × FieldsGive judged head fields history given next)
-    ⊎ ((fault : HpackFault) × IsFirstFault fault kept block × (fault ≢ OutOfMemory) × (given ≡ fatal (block_error fault)) × (next ≡ history))
+    ⊎ ((fault : HpackFault) × IsFirstFault fault kept block × (fault ≢ OutOfMemory) × (given ≡ fatal (reason.Hpack fault)) × (next ≡ history))

@@ -1,15 +1,14 @@
 -- What a reading core keeps of the bytes that it was fed and of the events that it answered.
 use Rattle.std.specs.Prelude.{◌≡◌, ◌≢◌, ◌⊎◌, ℕ, Bool, true, false, List, [], ◌∷◌, ◌++◌, map, length, slice_get, ◌-◌, if◌then◌else◌, Option, Some, None, IsSome, Result, Ok, Err}
-use Rattle.h2frame.specs.declared.error_code.ErrorCode.TheVariants.{ProtocolError}
 use Rattle.h2frame.specs.declared.fault.FrameFault.{FrameFault}
 use Rattle.h2frame.specs.declared.fault.FrameFault.TheVariants.{OutOfMemory}
 use Rattle.h2frame.specs.declared.frame.Frame.{Frame}
-use Rattle.h2frame.specs.Faults.{fault_error}
 use Rattle.h2frame.specs.FrameList.{Entry, Whole, Joined, IsUnfinished}
 use Rattle.hpack_codec.specs.Table.{Table, empty_table}
 use Rattle.flow.specs.declared.halves.HalfVerdict.{HalfVerdict}
 use Rattle.flow.specs.Halves.{Event, Streams, verdict, half_of}
 use Rattle.flow.specs.Halves.{Stands as Keeps}
+use Rattle.reasons.specs.declared.Reason.TheVariants as reason
 use Rattle.session.specs.declared.event.InEvent.{InEvent}
 use Rattle.session.specs.declared.context.Position.{Position}
 use Rattle.session.specs.declared.context.Position.TheVariants.{First, Between, Inside}
@@ -72,7 +71,7 @@ Leads entries given (Inside block judged) streams kept = (block.whole ≡ false)
 -- the entries and the rest, with these events, are the end of the connection
 abbrev pub Stops : List Entry → List ℕ → List InEvent → Type 0
 Stops entries rest given =
-    (IsUnsettled entries × (given ≡ fatal ProtocolError))
+    (IsUnsettled entries × (given ≡ fatal reason.First))
     ⊎ ((close : Close) × (close ≢ Unfinished) × Follows entries rest close given)
 
 -- the entries so far lead to this position, or to the end
@@ -108,7 +107,7 @@ Advances at streams kept old more next new_streams new_kept new =
 -- a fault of the frame reader ends the connection
 abbrev pub IsEnd : Result Frame FrameFault → List InEvent → List InEvent → Type 0
 IsEnd (Ok frame) old new = ⊥
-IsEnd (Err fault) old new = (fault ≢ OutOfMemory) × (new ≡ old ++ fatal (fault_error fault))
+IsEnd (Err fault) old new = (fault ≢ OutOfMemory) × (new ≡ old ++ fatal (reason.Frame fault))
 
 -- the bytes behind the preface lead to this position
 abbrev pub ReadsTo : List ℕ → List InEvent → Position → List ℕ → Streams → Option Table → Type 0
@@ -136,7 +135,7 @@ AtStage bytes given (Greeting due) waiting streams kept =
 AtStage bytes given (Reading position) waiting streams kept =
     (text : List ℕ) × (bytes ≡ preface ++ text) × ReadsTo text given position waiting streams kept × IsUnfinished waiting
 AtStage bytes given Dead waiting streams kept =
-    (Departs preface bytes × (given ≡ fatal ProtocolError))
+    (Departs preface bytes × (given ≡ fatal reason.Preface))
     ⊎ ((text : List ℕ) × (bytes ≡ preface ++ text) × IsOver text given)
 
 pub record Reached (bytes : List ℕ) (given : List InEvent) (core : Core) : Type 0 where

@@ -1,11 +1,11 @@
 -- Worked examples of a connection's events.
 use Rattle.std.specs.Prelude.{ℕ, List, [], ◌∷◌, ◌++◌, refl}
 use Rattle.std.proofs.Common.{inl, ap, arith, get_or, lit<}
-use Rattle.h2frame.specs.declared.error_code.ErrorCode.TheVariants.{ProtocolError}
 use Rattle.h2frame.specs.declared.frame.Frame.{Frame}
 use Rattle.h2frame.specs.declared.frame.FrameHead.{FrameHead}
 use Rattle.h2frame.specs.declared.kind.FrameKind.TheVariants.{Settings}
 use Rattle.h2frame.specs.FrameList.{Whole, Spells}
+use Rattle.reasons.specs.declared.Reason.TheVariants as reason
 use Rattle.session.specs.declared.event.Control.TheVariants as controls
 use Rattle.session.specs.declared.event.InEvent.TheVariants as events
 use Rattle.session.specs.Prefaces.{preface}
@@ -21,7 +21,7 @@ pub half_a_preface : Events (0x50 ∷ 0x52 ∷ 0x49 ∷ []) []
 half_a_preface = Greeted (0x20 ∷ 0x2a ∷ 0x20 ∷ 0x48 ∷ 0x54 ∷ 0x54 ∷ 0x50 ∷ 0x2f ∷ 0x32 ∷ 0x2e ∷ 0x30 ∷ 0x0d ∷ 0x0a ∷ 0x0d ∷ 0x0a ∷ 0x53 ∷ 0x4d ∷ 0x0d ∷ 0x0a ∷ 0x0d ∷ 0x0a ∷ []) refl refl
 
 -- the first byte of another protocol's text
-pub another_text : Events (0x47 ∷ []) (fatal ProtocolError)
+pub another_text : Events (0x47 ∷ []) (fatal reason.Preface)
 another_text = Departed (λ more behind e. absurd (omega (arith, ap (λ (b : List ℕ). get_or b 0 0) e))) refl
 
 -- SETTINGS without a parameter, and the spelling of it

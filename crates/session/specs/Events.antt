@@ -8,15 +8,15 @@
 use Rattle.std.specs.Prelude.{◌≡◌, ◌⊎◌, ℕ, Bool, true, false, List, [], ◌∷◌, ◌++◌, map, flat_map, Option, Some}
 use Rattle.std.specs.List.{list_any}
 use Rattle.h2frame.specs.declared.error_code.ErrorCode.{ErrorCode}
-use Rattle.h2frame.specs.declared.error_code.ErrorCode.TheVariants.{ProtocolError}
 use Rattle.h2frame.specs.declared.fault.FrameFault.{FrameFault}
 use Rattle.h2frame.specs.declared.frame.Frame.{Frame}
 use Rattle.h2frame.specs.declared.kind.FrameKind.TheVariants.{Headers, Settings}
-use Rattle.h2frame.specs.Faults.{fault_error}
 use Rattle.h2frame.specs.FrameList.{Entry, Whole, NoIncrement, Joined, IsUnfinished, IsFaulty}
 use Rattle.hpack_codec.specs.Table.{Table, empty_table}
 use Rattle.flow.specs.declared.halves.HalfVerdict.TheVariants.{ConnectionError}
 use Rattle.flow.specs.Halves.{Event, verdict, is_connection_error}
+use Rattle.reasons.specs.declared.Reason.{Reason}
+use Rattle.reasons.specs.declared.Reason.TheVariants as reason
 use Rattle.session.specs.declared.event.InEvent.{InEvent}
 use Rattle.session.specs.declared.event.InEvent.TheVariants.{Fatal}
 use Rattle.session.specs.declared.header_block.FragmentFault.{FragmentFault}
@@ -24,7 +24,7 @@ use Rattle.session.specs.declared.header_block.FragmentFault.TheVariants.{Interr
 use Rattle.session.specs.Prefaces.{preface, Departs}
 use Rattle.session.specs.Streams.{after_frame, refusal, credit_head, credit_verdict}
 use Rattle.session.specs.Frames.{fatal, Gives}
-use Rattle.session.specs.HeaderBlocks.{Pending, Collects, Stands, fragment_error}
+use Rattle.session.specs.HeaderBlocks.{Pending, Collects, Stands, fragment_reason}
 use Rattle.session.specs.Blocks.{BlockGives}
 
 -- what frames are judged by: those before them and the resets, and the table of header fields
@@ -57,7 +57,7 @@ pub record IsBegun (history : List Event) (frames : List Frame) (block : Pending
 abbrev pub GroupGives : Situation → Group → List InEvent → Situation → Type 0
 GroupGives old (Single frame) given new = Gives old.history frame given new.history × (new.kept ≡ old.kept)
 GroupGives old (Credit id) given new =
-    (given ≡ refusal (credit_verdict old.history id) id)
+    (given ≡ refusal (credit_verdict old.history id) (credit_head id))
     × (new.history ≡ after_frame (credit_verdict old.history id) (credit_head id) old.history)
     × (new.kept ≡ old.kept)
 GroupGives old (Block frames block) given new =
@@ -67,7 +67,7 @@ GroupGives old (Block frames block) given new =
     × BlockGives old.kept block.head judged block.block (after_frame judged block.head old.history) given new.history new.kept
 
 abbrev pub is_fatal : InEvent → Bool
-is_fatal (Fatal error) = true
+is_fatal (Fatal why) = true
 is_fatal _ = false
 
 -- the connection goes on behind these events
@@ -104,7 +104,7 @@ pub data Close : Type 0 where
   Faulty : FrameFault → Close
   Refused : Frame → ErrorCode → Close
   Broken : List Frame → Pending → Entry → FragmentFault → Close
-  Ended : Group → Situation → ErrorCode → Close
+  Ended : Group → Situation → Reason → Close
 
 -- nothing, or a header block that isn't whole
 abbrev pub IsPartial : List Event → List Entry → Type 0
@@ -122,13 +122,13 @@ Breaks (NoIncrement id) block TooLong = ⊥
 -- it stands behind the groups, in the entries and the rest of the bytes, and has these events
 abbrev pub Closes : Close → Situation → List Entry → List ℕ → List InEvent → Type 0
 Closes Unfinished now behind rest last = IsPartial now.history behind × IsUnfinished rest × (last ≡ [])
-Closes (Faulty fault) now behind rest last = IsPartial now.history behind × IsFaulty fault rest × (last ≡ fatal (fault_error fault))
+Closes (Faulty fault) now behind rest last = IsPartial now.history behind × IsFaulty fault rest × (last ≡ fatal (reason.Frame fault))
 Closes (Refused frame error) now behind rest last =
-    (behind ≡ Whole frame ∷ []) × (frame.head.kind ≡ Headers) × (verdict now.history frame.head ≡ ConnectionError error) × (last ≡ fatal error)
+    (behind ≡ Whole frame ∷ []) × (frame.head.kind ≡ Headers) × (verdict now.history frame.head ≡ ConnectionError error) × (last ≡ fatal (reason.Stream frame.head.kind error))
 Closes (Broken frames block entry fault) now behind rest last =
-    IsBegun now.history frames block × (block.whole ≡ false) × (behind ≡ map Whole frames ++ entry ∷ []) × Breaks entry block fault × (last ≡ fatal (fragment_error fault))
-Closes (Ended group next error) now behind rest last =
-    (behind ≡ entries_of group) × GroupGives now group (fatal error) next × (last ≡ fatal error)
+    IsBegun now.history frames block × (block.whole ≡ false) × (behind ≡ map Whole frames ++ entry ∷ []) × Breaks entry block fault × (last ≡ fatal (fragment_reason fault))
+Closes (Ended group next why) now behind rest last =
+    (behind ≡ entries_of group) × GroupGives now group (fatal why) next × (last ≡ fatal why)
 
 -- The entries of the bytes behind the preface, as far as they count, and the rest of the bytes come to these events.
 pub record Follows (entries : List Entry) (rest : List ℕ) (close : Close) (given : List InEvent) : Type 0 where
@@ -148,8 +148,8 @@ IsUnsettled entries = (entry : Entry) × (entries ≡ entry ∷ []) × (IsSettin
 -- the preface, or where the first frame is no SETTINGS; or those of the groups behind it.
 pub data Events : List ℕ → List InEvent → Type 0 where
   Greeted : {bytes : List ℕ} {given : List InEvent} (due : List ℕ) → preface ≡ bytes ++ due → given ≡ [] → Events bytes given
-  Departed : {bytes : List ℕ} {given : List InEvent} → Departs preface bytes → given ≡ fatal ProtocolError → Events bytes given
+  Departed : {bytes : List ℕ} {given : List InEvent} → Departs preface bytes → given ≡ fatal reason.Preface → Events bytes given
   Unsettled : {bytes : List ℕ} {given : List InEvent} (text : List ℕ) (entries : List Entry) (rest : List ℕ)
-      → bytes ≡ preface ++ text → Joined text entries rest → IsUnsettled entries → given ≡ fatal ProtocolError → Events bytes given
+      → bytes ≡ preface ++ text → Joined text entries rest → IsUnsettled entries → given ≡ fatal reason.First → Events bytes given
   Read : {bytes : List ℕ} {given : List InEvent} (text : List ℕ) (entries : List Entry) (rest : List ℕ) (close : Close)
       → bytes ≡ preface ++ text → Joined text entries rest → Follows entries rest close given → Events bytes given

@@ -1,13 +1,13 @@
 -- What each frame comes to that is no part of a header block (RFC 9113, section 6).
 use Rattle.std.specs.Prelude.{◌≡◌, ◌⊎◌, ℕ, ◌==◌, Bool, true, false, List, [], ◌∷◌}
-use Rattle.h2frame.specs.declared.error_code.ErrorCode.{ErrorCode}
-use Rattle.h2frame.specs.declared.error_code.ErrorCode.TheVariants.{ProtocolError}
 use Rattle.h2frame.specs.declared.frame.Frame.{Frame}
 use Rattle.h2frame.specs.declared.kind.FrameKind.{FrameKind}
 use Rattle.h2frame.specs.declared.kind.FrameKind.TheVariants.{Data, Headers, Priority, RstStream, Settings, PushPromise, Ping, GoAway, WindowUpdate, Continuation, Unknown}
 use Rattle.h2frame.specs.Flags.{has, ack}
 use Rattle.flow.specs.declared.halves.HalfVerdict.{HalfVerdict}
 use Rattle.flow.specs.Halves.{Event, verdict}
+use Rattle.reasons.specs.declared.Reason.{Reason}
+use Rattle.reasons.specs.declared.Reason.TheVariants as reason
 use Rattle.session.specs.declared.event.Control.TheVariants as controls
 use Rattle.session.specs.declared.event.InEvent.{InEvent}
 use Rattle.session.specs.declared.event.InEvent.TheVariants as events
@@ -15,16 +15,16 @@ use Rattle.h2frame.specs.declared.settings.PeerSetting.{PeerSetting}
 use Rattle.session.specs.Settings.{Tells, IsRefused}
 use Rattle.session.specs.Streams.{after_frame, data_events, reset_events, window_event, window_events}
 
--- the connection ends with this error
-abbrev pub fatal : ErrorCode → List InEvent
-fatal error = events.Fatal error ∷ []
+-- the connection ends for this reason
+abbrev pub fatal : Reason → List InEvent
+fatal why = events.Fatal why ∷ []
 
 -- SETTINGS with ACK tell nothing; one faulty parameter refuses all of the frame
 abbrev pub SettingsGive : Bool → List ℕ → List InEvent → Type 0
 SettingsGive true content given = given ≡ []
 SettingsGive false content given =
     ((settings : List PeerSetting) × Tells content settings × (given ≡ events.Control (controls.Settings settings) ∷ []))
-    ⊎ ((error : ErrorCode) × IsRefused content error × (given ≡ fatal error))
+    ⊎ ((why : Reason) × IsRefused content why × (given ≡ fatal why))
 
 -- PING is answered, unless it is an answer
 abbrev pub ping_events : Bool → List ℕ → List InEvent
@@ -53,8 +53,8 @@ KindGives WindowUpdate history frame given next = WindowGives (frame.head.stream
 KindGives Settings history frame given next = SettingsGive (has ack frame.head.flags) frame.content given × (next ≡ history)
 KindGives Ping history frame given next = OnConnection (ping_events (has ack frame.head.flags) frame.content) history given next
 KindGives GoAway history frame given next = OnConnection (events.PeerGoaway ∷ []) history given next
-KindGives PushPromise history frame given next = OnConnection (fatal ProtocolError) history given next
-KindGives Continuation history frame given next = OnConnection (fatal ProtocolError) history given next
+KindGives PushPromise history frame given next = OnConnection (fatal reason.Push) history given next
+KindGives Continuation history frame given next = OnConnection (fatal reason.Lone) history given next
 KindGives Priority history frame given next = OnConnection [] history given next
 KindGives (Unknown code) history frame given next = OnConnection [] history given next
 KindGives Headers history frame given next = ⊥

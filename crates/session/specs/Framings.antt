@@ -1,8 +1,8 @@
 -- The frames of a connection that count for its streams (RFC 9113, sections 3.4, 4.1 and 4.3): those of the whole groups
 -- behind the preface, one list for all streams.
 use Rattle.std.specs.Prelude.{◌≡◌, ◌⊎◌, ℕ, List, [], ◌++◌}
-use Rattle.h2frame.specs.declared.error_code.ErrorCode.TheVariants.{ProtocolError}
 use Rattle.h2frame.specs.FrameList.{Entry, Joined}
+use Rattle.reasons.specs.declared.Reason.TheVariants as reason
 use Rattle.session.specs.declared.event.InEvent.{InEvent}
 use Rattle.session.specs.Prefaces.{preface, Departs}
 use Rattle.session.specs.Frames.{fatal}
@@ -12,8 +12,8 @@ use Rattle.session.specs.Events.{Situation, Passes, Close, Closes, IsUnsettled}
 abbrev pub IsUnread : List ℕ → List InEvent → Type 0
 IsUnread bytes given =
     ((due : List ℕ) × (preface ≡ bytes ++ due) × (given ≡ []))
-    ⊎ (Departs preface bytes × (given ≡ fatal ProtocolError))
-    ⊎ ((text : List ℕ) × (entries : List Entry) × (rest : List ℕ) × (bytes ≡ preface ++ text) × Joined text entries rest × IsUnsettled entries × (given ≡ fatal ProtocolError))
+    ⊎ (Departs preface bytes × (given ≡ fatal reason.Preface))
+    ⊎ ((text : List ℕ) × (entries : List Entry) × (rest : List ℕ) × (bytes ≡ preface ++ text) × Joined text entries rest × IsUnsettled entries × (given ≡ fatal reason.First))
 
 -- Behind the preface the bytes are these entries, whole groups with the events before, and then what closes them: a header
 -- block that isn't whole, a fault, or what is fatal, with the last events.

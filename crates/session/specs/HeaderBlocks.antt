@@ -1,12 +1,12 @@
 -- A header block over its frames (RFC 9113, section 4.3): HEADERS, and CONTINUATION of the same stream behind it.
 use Rattle.std.specs.Prelude.{◌≡◌, ◌≤◌, ◌<◌, ◌+◌, ℕ, Bool, false, List, [], ◌∷◌, length, flat_map}
 use Rattle.std.specs.List.{AllByRecursion}
-use Rattle.h2frame.specs.declared.error_code.ErrorCode.{ErrorCode}
-use Rattle.h2frame.specs.declared.error_code.ErrorCode.TheVariants.{ProtocolError, InternalError, EnhanceYourCalm}
 use Rattle.h2frame.specs.declared.frame.Frame.{Frame}
 use Rattle.h2frame.specs.declared.frame.FrameHead.{FrameHead}
 use Rattle.h2frame.specs.declared.kind.FrameKind.TheVariants.{Headers, Continuation}
 use Rattle.h2frame.specs.Flags.{has, end_headers}
+use Rattle.reasons.specs.declared.Reason.{Reason}
+use Rattle.reasons.specs.declared.Reason.TheVariants as reason
 use Rattle.session.specs.declared.header_block.FragmentFault.{FragmentFault}
 use Rattle.session.specs.declared.header_block.FragmentFault.TheVariants.{Interrupted, TooLong, OutOfMemory}
 
@@ -50,8 +50,8 @@ Stands Interrupted pending frame = IsContinuation pending.head.stream frame → 
 Stands TooLong pending frame = IsContinuation pending.head.stream frame × (max_block < length pending.block + length frame.content)
 Stands OutOfMemory pending frame = IsContinuation pending.head.stream frame × (length pending.block + length frame.content ≤ max_block)
 
--- the error that a fault is to the peer
-abbrev pub fragment_error : FragmentFault → ErrorCode
-fragment_error Interrupted = ProtocolError
-fragment_error TooLong = EnhanceYourCalm
-fragment_error OutOfMemory = InternalError
+-- why the connection ends by a fault
+abbrev pub fragment_reason : FragmentFault → Reason
+fragment_reason Interrupted = reason.Interrupted
+fragment_reason TooLong = reason.BlockTooLong
+fragment_reason OutOfMemory = reason.Memory

@@ -2,13 +2,13 @@
 use Rattle.std.specs.Prelude.{◌≡◌, ℕ, ◌^◌, ◌<◌, ◌||◌, nat_lt, if◌then◌else◌, List, ◌++◌, flat_map, filter_map, Option, Some, None}
 use Rattle.std.specs.List.{AllByRecursion}
 use Rattle.std.specs.Int.{w16, w32, to_be_bytes}
-use Rattle.h2frame.specs.declared.error_code.ErrorCode.{ErrorCode}
-use Rattle.h2frame.specs.declared.error_code.ErrorCode.TheVariants.{ProtocolError, FlowControlError}
 use Rattle.h2frame.specs.declared.setting.SettingId.{SettingId}
 use Rattle.h2frame.specs.declared.setting.SettingId.TheVariants.{EnablePush, InitialWindowSize, MaxFrameSize}
 use Rattle.h2frame.specs.declared.settings.PeerSetting.{PeerSetting}
 use Rattle.h2frame.specs.Setting.{setting_of, setting_code}
 use Rattle.h2frame.specs.Settings.{told}
+use Rattle.reasons.specs.declared.Reason.{Reason}
+use Rattle.reasons.specs.declared.Reason.TheVariants.{Setting}
 use Rattle.session.specs.declared.settings.Parameter.{Parameter}
 use Rattle.session.specs.declared.settings.SettingsFault.{SettingsFault}
 use Rattle.session.specs.declared.settings.SettingsFault.TheVariants.{Refused, OutOfMemory}
@@ -28,16 +28,16 @@ pub record AreParameters (content : List ℕ) (parameters : List Parameter) : Ty
   pub text : content ≡ flat_map parameter_text parameters
 
 -- what is wrong with a parameter: server push is on or off, a window has 31 bits, a frame is of 2^14 to 2^24 - 1 bytes
-abbrev pub unless_within : ℕ → ℕ → ℕ → ErrorCode → Option ErrorCode
-unless_within low high value error = if nat_lt value low || nat_lt high value then Some error else None
+abbrev pub unless_within : ℕ → ℕ → ℕ → SettingId → Option Reason
+unless_within low high value id = if nat_lt value low || nat_lt high value then Some (Setting id) else None
 
-abbrev pub value_fault : SettingId → ℕ → Option ErrorCode
-value_fault EnablePush value = unless_within 0 1 value ProtocolError
-value_fault InitialWindowSize value = unless_within 0 0x7fff_ffff value FlowControlError
-value_fault MaxFrameSize value = unless_within 16384 16777215 value ProtocolError
+abbrev pub value_fault : SettingId → ℕ → Option Reason
+value_fault EnablePush value = unless_within 0 1 value EnablePush
+value_fault InitialWindowSize value = unless_within 0 0x7fff_ffff value InitialWindowSize
+value_fault MaxFrameSize value = unless_within 16384 16777215 value MaxFrameSize
 value_fault _ value = None
 
-abbrev pub parameter_fault : Parameter → Option ErrorCode
+abbrev pub parameter_fault : Parameter → Option Reason
 parameter_fault parameter = value_fault parameter.id parameter.value
 
 -- no parameter is faulty
@@ -53,7 +53,7 @@ abbrev pub Tells : List ℕ → List PeerSetting → Type 0
 Tells content settings = (parameters : List Parameter) × AreParameters content parameters × AreLawful parameters × (settings ≡ filter_map parameter_told parameters)
 
 -- Behind lawful parameters the first faulty one has this fault, and whatever follows it.
-pub record IsRefused (content : List ℕ) (error : ErrorCode) : Type 0 where
+pub record IsRefused (content : List ℕ) (why : Reason) : Type 0 where
   pub front : List Parameter
   pub faulty : Parameter
   pub rest : List ℕ
@@ -61,8 +61,8 @@ pub record IsRefused (content : List ℕ) (error : ErrorCode) : Type 0 where
   pub each : AllByRecursion IsParameter front
   pub is_parameter : IsParameter faulty
   pub lawful : AreLawful front
-  pub fault : parameter_fault faulty ≡ Some error
+  pub fault : parameter_fault faulty ≡ Some why
 
 abbrev pub IsSettingsFault : List ℕ → SettingsFault → Type 0
-IsSettingsFault content (Refused error) = IsRefused content error
+IsSettingsFault content (Refused why) = IsRefused content why
 IsSettingsFault content OutOfMemory = Unit {0}

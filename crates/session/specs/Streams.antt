@@ -12,6 +12,7 @@ use Rattle.h2frame.specs.Flags.{has, end_stream}
 use Rattle.flow.specs.declared.halves.HalfVerdict.{HalfVerdict}
 use Rattle.flow.specs.declared.halves.HalfVerdict.TheVariants.{Open, Accept, StreamError, ConnectionError}
 use Rattle.flow.specs.Halves.{Event, Received, Cut, verdict}
+use Rattle.reasons.specs.declared.Reason.TheVariants as reason
 use Rattle.session.specs.declared.event.Control.TheVariants.{Window}
 use Rattle.session.specs.declared.event.InEvent.{InEvent}
 use Rattle.session.specs.declared.event.InEvent.TheVariants as events
@@ -31,10 +32,10 @@ is_accepted Accept = true
 is_accepted _ = false
 
 -- what every verdict but Accept comes to
-abbrev pub refusal : HalfVerdict → ℕ → List InEvent
-refusal (StreamError error) id = events.StreamError id error ∷ []
-refusal (ConnectionError error) id = events.Fatal error ∷ []
-refusal _ id = []
+abbrev pub refusal : HalfVerdict → FrameHead → List InEvent
+refusal (StreamError error) head = events.StreamError head.stream error ∷ []
+refusal (ConnectionError error) head = events.Fatal (reason.Stream head.kind error) ∷ []
+refusal _ head = []
 
 -- DATA that count no byte come to nothing by themselves; padding counts
 abbrev pub counted : ℕ → InEvent → List InEvent
@@ -46,20 +47,20 @@ end_of head = if has end_stream head.flags then events.End head.stream ∷ [] el
 -- DATA on a stream that takes no more still count on the connection
 abbrev pub data_events : HalfVerdict → Frame → List InEvent
 data_events Accept frame = counted frame.head.length (events.Data frame.head.stream frame.content frame.head.length) ++ end_of frame.head
-data_events (ConnectionError error) frame = refusal (ConnectionError error) frame.head.stream
-data_events judged frame = counted frame.head.length (events.Loose frame.head.length) ++ refusal judged frame.head.stream
+data_events (ConnectionError error) frame = refusal (ConnectionError error) frame.head
+data_events judged frame = counted frame.head.length (events.Loose frame.head.length) ++ refusal judged frame.head
 
 -- RST_STREAM has the error in four bytes
 abbrev pub reset_events : HalfVerdict → Frame → List InEvent
 reset_events Accept frame = events.Reset frame.head.stream (error_of (from_be_bytes w32 frame.content)) ∷ []
-reset_events judged frame = refusal judged frame.head.stream
+reset_events judged frame = refusal judged frame.head
 
 abbrev pub window_event : Frame → InEvent
 window_event frame = events.Control (Window frame.head.stream (increment_of frame.content))
 
 abbrev pub window_events : HalfVerdict → Frame → List InEvent
 window_events Accept frame = window_event frame ∷ []
-window_events judged frame = refusal judged frame.head.stream
+window_events judged frame = refusal judged frame.head
 
 -- WINDOW_UPDATE without an increment is judged as one with it, and where that is lawful it is an error of the stream
 abbrev pub credit_head : ℕ → FrameHead

@@ -5,7 +5,7 @@ ghost use Rattle.callhead.specs.MalformedHeads.{are_malformed_trailers};
 ghost use Rattle.flow.specs.Halves.{Event, Stands, half_of};
 ghost use Rattle.session.specs.declared.event.InEvent.{InEvent};
 ghost use Rattle.session.specs.Streams.{end_of, is_accepted};
-ghost use Rattle.session.specs.Blocks.{HeadGives, BlockGives, bad_head_events, after_bad_head, trailer_events, after_trailers, block_error};
+ghost use Rattle.session.specs.Blocks.{HeadGives, BlockGives, bad_head_events, after_bad_head, trailer_events, after_trailers};
 
 use crate::event::InEvent;
 use crate::judge::refuse;
@@ -14,6 +14,7 @@ use flow::{HalfVerdict, Halves};
 use h2frame::{ErrorCode, Flags, FrameHead};
 use hpack_codec::{Decoder, HpackFault};
 use lists::Field;
+use reasons::Reason;
 use std::alloc::{AllocError, Global};
 
 /// The events of a whole header block, behind those before it. Its HEADERS, with this head, had this verdict.
@@ -36,24 +37,14 @@ pub fn block_events(
         Ok(fields) => fields,
         Err(HpackFault::OutOfMemory) => return Err(AllocError),
         Err(fault) => {
-            events.push(InEvent::Fatal(block_error(fault)))?;
+            events.push(InEvent::Fatal(Reason::Hpack(fault)))?;
             return Ok(());
         }
     };
     match verdict {
         HalfVerdict::Open => head_events(alloc, halves, head, fields.as_slice(), events),
         HalfVerdict::Accept => trailer_events(halves, head, fields.as_slice(), events),
-        _ => refuse(verdict, head.stream, events),
-    }
-}
-
-/// The error of the connection where a block has no fields.
-fn block_error(fault: HpackFault) -> ErrorCode
-    ensures { result ≡ block_error fault }
-{
-    match fault {
-        HpackFault::TooLarge => ErrorCode::EnhanceYourCalm,
-        _ => ErrorCode::CompressionError,
+        _ => refuse(verdict, head, events),
     }
 }
 
@@ -116,7 +107,7 @@ fn trailer_events(
     if are_malformed_trailers(fields) {
         halves.cut(head.stream);
         let error = HalfVerdict::StreamError(ErrorCode::ProtocolError);
-        return refuse(error, head.stream, events);
+        return refuse(error, head, events);
     }
     end_event(head, events)
 }

@@ -2,9 +2,9 @@
 
 ghost use Rattle.std.specs.Prelude.{◌≡◌, ◌≢◌, ◌<◌, true, [], ◌∷◌, ◌++◌, None, Some, IfOk, IsSome};
 ghost use Rattle.h2frame.specs.FrameList.{Whole, NoIncrement, IsLawful, answered, refused};
-ghost use Rattle.h2frame.specs.Faults.{fault_error};
 ghost use Rattle.h2frame.specs.declared.fault.FrameFault.TheVariants.{OutOfMemory};
 ghost use Rattle.hpack_codec.specs.Table.{empty_table};
+ghost use Rattle.reasons.specs.declared.Reason.TheVariants as reason;
 ghost use Rattle.flow.specs.Halves.{Stands, half_of};
 ghost use Rattle.session.specs.declared.context.Position.TheVariants.{Inside};
 ghost use Rattle.session.specs.Streams.{is_accepted};
@@ -14,10 +14,11 @@ ghost use Rattle.session.specs.CoreStates.{IsSound, IsSoundNext, Advances, Begin
 use crate::block::block_events;
 use crate::event::InEvent;
 use crate::header_block::{FragmentFault, HeaderBlock};
-use crate::judge::{frame_events, judge, judge_credit, refuse};
+use crate::judge::{credit_head, frame_events, judge, judge_credit, refuse};
 use flow::{HalfVerdict, Halves};
-use h2frame::{ErrorCode, Flags, Frame, FrameFault, FrameHead, FrameKind, StreamId};
+use h2frame::{Flags, Frame, FrameFault, FrameHead, FrameKind, StreamId};
 use hpack_codec::Decoder;
+use reasons::Reason;
 use std::alloc::{AllocError, Global};
 
 /// How far the frames of a connection have come, behind its preface.
@@ -99,7 +100,7 @@ impl Context {
                 if frame.head.kind == FrameKind::Settings {
                     self.begin(frame, events)
                 } else {
-                    end(ErrorCode::ProtocolError, events)
+                    end(Reason::First, events)
                 }
             }
             Position::Between => self.begin(frame, events),
@@ -123,14 +124,14 @@ impl Context {
             next self.new.halves self.new.decoder events.new.items) }
         ensures none { IfOk result (λ next. refused fault ≡ [] → next ≡ None) }
         ensures fatal { IfOk result
-            (λ _. refused fault ≡ [] → events.new.items ≡ events.old.items
-            ++ fatal (fault_error fault)) }
+            (λ _. refused fault ≡ [] → events.new.items
+            ≡ events.old.items ++ fatal (reason.Frame fault)) }
         ensures memory { IfOk result (λ _. fault ≢ OutOfMemory) }
     {
         match fault {
             FrameFault::ZeroIncrement(id) if id != 0 => self.credit(at, id, events),
             FrameFault::OutOfMemory => Err(AllocError),
-            _ => end(fault.error_code(), events),
+            _ => end(Reason::Frame(fault), events),
         }
     }
 
@@ -148,11 +149,13 @@ impl Context {
             (NoIncrement id ∷ [])
             next self.new.halves self.new.decoder events.new.items) }
     {
-        let Position::Between = at else {
-            return end(ErrorCode::ProtocolError, events);
-        };
+        match at {
+            Position::First => return end(Reason::First, events),
+            Position::Inside(_, _) => return end(Reason::Interrupted, events),
+            Position::Between => {}
+        }
         let verdict = judge_credit(&mut self.halves, id)?;
-        refuse(verdict, id, events)?;
+        refuse(verdict, &credit_head(id), events)?;
         Ok(between(events))
     }
 
@@ -174,7 +177,7 @@ impl Context {
         }
         let verdict = judge(&mut self.halves, &frame.head)?;
         if let HalfVerdict::ConnectionError(error) = verdict {
-            return end(error, events);
+            return end(Reason::Stream(frame.head.kind, error), events);
         }
         if frame.head.flags.contains(Flags::END_HEADERS) {
             return self.whole(&frame.head, verdict, frame.content.as_slice(), events);
@@ -203,7 +206,7 @@ impl Context {
             Ok(()) => self.collect(block, verdict, events),
             Err(fault) => match fault {
                 FragmentFault::OutOfMemory => Err(AllocError),
-                _ => end(fault.error_code(), events),
+                _ => end(fault.reason(), events),
             },
         }
     }
@@ -255,12 +258,12 @@ impl Context {
     }
 }
 
-/// The connection ends with this error.
-fn end(error: ErrorCode, events: &mut Vec<InEvent>) -> Result<Option<Position>, AllocError>
+/// The connection ends for this reason.
+fn end(reason: Reason, events: &mut Vec<InEvent>) -> Result<Option<Position>, AllocError>
     ensures none { IfOk result (λ next. next ≡ None) }
-    ensures events { IfOk result (λ _. events.new.items ≡ events.old.items ++ fatal error) }
+    ensures events { IfOk result (λ _. events.new.items ≡ events.old.items ++ fatal reason) }
 {
-    events.push(InEvent::Fatal(error))?;
+    events.push(InEvent::Fatal(reason))?;
     Ok(None)
 }
 

@@ -5,6 +5,7 @@
 use bytes::Bytes;
 use callhead::{CallHead, HeadFault};
 use h2frame::{ErrorCode, PeerSettings, StreamId};
+use reasons::Reason;
 
 /// What the peer tells or asks of the side that writes.
 #[derive(Debug, Drop)]
@@ -37,6 +38,6 @@ pub enum InEvent {
     Control(Control),
     /// The peer opens no more streams.
     PeerGoaway,
-    /// The connection is to be ended with this error. It is the last event.
-    Fatal(ErrorCode),
+    /// The connection is to be ended, for this reason. It is the last event.
+    Fatal(Reason),
 }

@@ -4,9 +4,10 @@ ghost use Rattle.std.specs.Prelude.{◌≡◌, ◌≤◌, ◌↔◌, ◌++◌, �
 ghost use Rattle.h2frame.specs.declared.frame.Frame.{Frame as FrameOf};
 ghost use Rattle.h2frame.specs.declared.kind.FrameKind.TheVariants.{Headers};
 ghost use Rattle.session.specs.declared.header_block.FragmentFault.TheVariants.{OutOfMemory};
-ghost use Rattle.session.specs.HeaderBlocks.{Collects, IsContinuation, Stands, fragment_error};
+ghost use Rattle.session.specs.HeaderBlocks.{Collects, IsContinuation, Stands, fragment_reason};
 
-use h2frame::{ErrorCode, Flags, Frame, FrameHead, FrameKind, StreamId};
+use h2frame::{Flags, Frame, FrameHead, FrameKind, StreamId};
+use reasons::Reason;
 use std::alloc::{AllocError, Global};
 use std::marker::Model;
 use thiserror::Error;
@@ -28,14 +29,14 @@ pub enum FragmentFault {
 }
 
 impl FragmentFault {
-    /// The error with which the connection ends.
-    pub fn error_code(self) -> ErrorCode
-        ensures { result ≡ fragment_error self }
+    /// Why the connection ends.
+    pub fn reason(self) -> Reason
+        ensures { result ≡ fragment_reason self }
     {
         match self {
-            FragmentFault::Interrupted => ErrorCode::ProtocolError,
-            FragmentFault::TooLong => ErrorCode::EnhanceYourCalm,
-            FragmentFault::OutOfMemory => ErrorCode::InternalError,
+            FragmentFault::Interrupted => Reason::Interrupted,
+            FragmentFault::TooLong => Reason::BlockTooLong,
+            FragmentFault::OutOfMemory => Reason::Memory,
         }
     }
 }

@@ -11,7 +11,8 @@ ghost use Rattle.session.specs.CoreStates.{Reached, IsSound, IsSoundStage, Feeds
 use crate::context::{Context, Position};
 use crate::event::InEvent;
 use crate::preface::Preface;
-use h2frame::{ErrorCode, FrameReader};
+use h2frame::FrameReader;
+use reasons::Reason;
 use std::alloc::{AllocError, Global};
 use std::marker::Model;
 use std::mem;
@@ -123,7 +124,7 @@ fn greet(
 {
     let mut preface = preface;
     let Ok(rest) = preface.take(piece) else {
-        events.push(InEvent::Fatal(ErrorCode::ProtocolError))?;
+        events.push(InEvent::Fatal(Reason::Preface))?;
         return Ok(Stage::Dead);
     };
     if !preface.is_whole() {

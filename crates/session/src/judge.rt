@@ -15,6 +15,7 @@ use crate::event::{Control, InEvent};
 use crate::settings::{SettingsFault, read_settings};
 use flow::{HalfVerdict, Halves};
 use h2frame::{ErrorCode, Flags, Frame, FrameHead, FrameKind, StreamId, increment, ping_bytes};
+use reasons::Reason;
 use std::alloc::{AllocError, Global};
 
 /// Judges a frame of a stream. An error of the stream resets it.
@@ -46,17 +47,24 @@ pub fn judge_credit(halves: &mut Halves, id: StreamId) -> Result<HalfVerdict, Al
     ensures follows { IfOk result (λ answer. (history : List Event) → Stands history halves.old
         → Stands (after_frame answer (credit_head id) history) halves.new) }
 {
-    let head = FrameHead {
-        kind: FrameKind::WindowUpdate,
-        flags: Flags::NONE,
-        stream: id,
-        length: 4,
-    };
+    let head = credit_head(id);
     let verdict = without_increment(halves.on(&head)?);
     if let HalfVerdict::StreamError(_) = verdict {
         halves.cut(id);
     }
     Ok(verdict)
+}
+
+/// The head of a WINDOW_UPDATE on this stream.
+pub(crate) fn credit_head(id: StreamId) -> FrameHead
+    ensures { result ≡ credit_head id }
+{
+    FrameHead {
+        kind: FrameKind::WindowUpdate,
+        flags: Flags::NONE,
+        stream: id,
+        length: 4,
+    }
 }
 
 /// What becomes of a WINDOW_UPDATE without an increment, where one with it would be judged so.
@@ -89,9 +97,8 @@ pub fn frame_events(
         FrameKind::Settings => return settings_events(alloc, frame, events),
         FrameKind::Ping => return ping_events(frame, events),
         FrameKind::GoAway => InEvent::PeerGoaway,
-        FrameKind::PushPromise | FrameKind::Continuation | FrameKind::Headers => {
-            InEvent::Fatal(ErrorCode::ProtocolError)
-        }
+        FrameKind::PushPromise => InEvent::Fatal(Reason::Push),
+        FrameKind::Continuation | FrameKind::Headers => InEvent::Fatal(Reason::Lone),
         FrameKind::Priority | FrameKind::Unknown(_) => return Ok(()),
     };
     events.push(event)?;
@@ -101,14 +108,16 @@ pub fn frame_events(
 /// What the verdict of a frame comes to where the frame is not accepted.
 pub(crate) fn refuse(
     verdict: HalfVerdict,
-    id: StreamId,
+    head: &FrameHead,
     events: &mut Vec<InEvent>,
 ) -> Result<(), AllocError>
-    ensures { OnOk result (events.new.items ≡ events.old.items ++ refusal verdict id) }
+    ensures { OnOk result (events.new.items ≡ events.old.items ++ refusal verdict head.now) }
 {
     match verdict {
-        HalfVerdict::StreamError(error) => events.push(InEvent::StreamError(id, error))?,
-        HalfVerdict::ConnectionError(error) => events.push(InEvent::Fatal(error))?,
+        HalfVerdict::StreamError(error) => events.push(InEvent::StreamError(head.stream, error))?,
+        HalfVerdict::ConnectionError(error) => {
+            events.push(InEvent::Fatal(Reason::Stream(head.kind, error)))?
+        }
         _ => {}
     }
     Ok(())
@@ -147,14 +156,14 @@ fn data_of(verdict: HalfVerdict, frame: Frame, events: &mut Vec<InEvent>) -> Res
             Ok(())
         }
         HalfVerdict::ConnectionError(error) => {
-            events.push(InEvent::Fatal(error))?;
+            events.push(InEvent::Fatal(Reason::Stream(head.kind, error)))?;
             Ok(())
         }
         _ => {
             if head.length != 0 {
                 events.push(InEvent::Loose(head.length))?;
             }
-            refuse(verdict, id, events)
+            refuse(verdict, &head, events)
         }
     }
 }
@@ -186,7 +195,7 @@ fn reset_of(
 {
     let id = frame.head.stream;
     if verdict != HalfVerdict::Accept {
-        return refuse(verdict, id, events);
+        return refuse(verdict, &frame.head, events);
     }
     let error = error_code(frame.content.as_slice());
     events.push(InEvent::Reset(id, error))?;
@@ -232,7 +241,7 @@ fn window_of(
 {
     let id = frame.head.stream;
     if verdict != HalfVerdict::Accept {
-        return refuse(verdict, id, events);
+        return refuse(verdict, &frame.head, events);
     }
     let credit = Control::Window(id, increment(frame.content.as_slice()));
     events.push(InEvent::Control(credit))?;
@@ -252,7 +261,7 @@ fn settings_events(alloc: Global, frame: Frame, events: &mut Vec<InEvent>) -> Re
     }
     let event = match read_settings(alloc, frame.content.as_slice()) {
         Ok(settings) => InEvent::Control(Control::Settings(settings)),
-        Err(SettingsFault::Refused(error)) => InEvent::Fatal(error),
+        Err(SettingsFault::Refused(reason)) => InEvent::Fatal(reason),
         Err(SettingsFault::OutOfMemory) => return Err(AllocError),
     };
     events.push(event)?;

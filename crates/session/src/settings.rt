@@ -4,7 +4,8 @@ ghost use Rattle.std.specs.Prelude.{◌≡◌, ◌%◌, length, IfOk, IfErr};
 ghost use Rattle.session.specs.declared.settings.SettingsFault.TheVariants.{OutOfMemory};
 ghost use Rattle.session.specs.Settings.{IsParameter, parameter_text, parameter_fault, parameter_told, IsSettingsFault, Tells};
 
-use h2frame::{ErrorCode, PeerSetting, PeerSettings, SettingId};
+use h2frame::{PeerSetting, PeerSettings, SettingId};
+use reasons::Reason;
 use std::alloc::{AllocError, AllocFailed, Global};
 use thiserror::Error;
 
@@ -29,9 +30,9 @@ pub struct Parameter {
 /// Why the content of a SETTINGS frame is not taken.
 #[derive(Clone, Copy, Debug, PartialEq, Eq, Error)]
 pub enum SettingsFault {
-    /// A parameter has a value that it may not have: the connection ends with this error.
+    /// A parameter has a value that it may not have: the connection ends for this reason.
     #[error("a setting has a value that it may not have")]
-    Refused(ErrorCode),
+    Refused(Reason),
     #[error("out of memory")]
     OutOfMemory,
 }
@@ -66,18 +67,18 @@ impl Parameter {
         }
     }
 
-    /// What is wrong with its value, as the error that ends the connection.
-    pub fn fault(&self) -> Option<ErrorCode>
+    /// What is wrong with its value, as the reason for which the connection ends.
+    pub fn fault(&self) -> Option<Reason>
         ensures { result ≡ parameter_fault self.now }
     {
-        let (least, most, error) = match self.id {
-            SettingId::EnablePush => (0, 1, ErrorCode::ProtocolError),
-            SettingId::InitialWindowSize => (0, MAX_WINDOW, ErrorCode::FlowControlError),
-            SettingId::MaxFrameSize => (LEAST_PAYLOAD, MOST_PAYLOAD, ErrorCode::ProtocolError),
+        let (least, most) = match self.id {
+            SettingId::EnablePush => (0, 1),
+            SettingId::InitialWindowSize => (0, MAX_WINDOW),
+            SettingId::MaxFrameSize => (LEAST_PAYLOAD, MOST_PAYLOAD),
             _ => return None,
         };
         if self.value < least || self.value > most {
-            Some(error)
+            Some(Reason::Setting(self.id))
         } else {
             None
         }
@@ -102,8 +103,8 @@ pub fn read_settings(alloc: Global, content: &[u8]) -> Result<PeerSettings, Sett
     while rest.len() >= PARAMETER_LEN {
         let (text, behind) = rest.split_at(PARAMETER_LEN);
         let parameter = Parameter::read(text);
-        if let Some(error) = parameter.fault() {
-            return Err(SettingsFault::Refused(error));
+        if let Some(reason) = parameter.fault() {
+            return Err(SettingsFault::Refused(reason));
         }
         if let Some(setting) = parameter.told() {
             settings.push(setting)?;

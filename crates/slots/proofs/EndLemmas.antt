@@ -76,7 +76,7 @@ event-quiet id (events.Data other piece counted) fate e = refl
 event-quiet id (events.Loose counted) fate e = refl
 event-quiet id (events.Control control) fate e = refl
 event-quiet id events.PeerGoaway fate e = refl
-event-quiet id (events.Fatal code) fate e = refl
+event-quiet id (events.Fatal cause) fate e = refl
 
 pub quiet-open : (id : ℕ) (told : List Step) → shut_by id told ≡ None → ending_told id (events_of told) ≡ Unended
 quiet-open id [] unshut = refl
@@ -134,7 +134,7 @@ ends-by id (Told (events.BadHead other fault) fate) e = absurd cc
 ends-by id (Told (events.Loose counted) fate) e = absurd cc
 ends-by id (Told (events.Control control) fate) e = absurd cc
 ends-by id (Told events.PeerGoaway fate) e = absurd cc
-ends-by id (Told (events.Fatal code) fate) e = absurd cc
+ends-by id (Told (events.Fatal cause) fate) e = absurd cc
 ends-by id Drains e = absurd cc
 ends-by id Lacks e = absurd cc
 ends-by id (CutOff other why) e = absurd (not-reset (nat_eq id other) _ e)

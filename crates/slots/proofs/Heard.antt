@@ -1,5 +1,6 @@
 -- What was heard, one after another.
 use Rattle.std.proofs.Common.{◌≡◌, ◌≢◌, ℕ, Option, None, Some, List, eq-eqb, refl, subst}
+use Rattle.reasons.specs.declared.Reason.{Reason}
 use Rattle.slots.specs.Steps.{Fate, Plain, Admitted, Unserved, Unknown, TurnedAway, Received, Missed, Lacking, Told, Lacks, admitted_by, reported_by, shut_at}
 use Rattle.account.specs.declared.call.Shut.TheVariants as shut
 use Rattle.h2frame.specs.ErrorCode.{error_number}
@@ -39,8 +40,8 @@ idle-control control = record { admits = refl; reports = refl; shuts = λ other.
 pub idle-goaway : IsIdle (Told events.PeerGoaway Plain)
 idle-goaway = record { admits = refl; reports = refl; shuts = λ other. refl; feeds = λ other. refl }
 
-pub idle-fatal : (code : ErrorCode) → IsIdle (Told (events.Fatal code) Plain)
-idle-fatal code = record { admits = refl; reports = refl; shuts = λ other. refl; feeds = λ other. refl }
+pub idle-fatal : (cause : Reason) → IsIdle (Told (events.Fatal cause) Plain)
+idle-fatal cause = record { admits = refl; reports = refl; shuts = λ other. refl; feeds = λ other. refl }
 
 pub idle-lacks : IsIdle Lacks
 idle-lacks = record { admits = refl; reports = refl; shuts = λ other. refl; feeds = λ other. refl }

@@ -43,7 +43,7 @@ plain-step slots (Probe bytes) none = refl
 plain-step slots (Window id n) none = refl
 plain-step slots (Refuse id fields) none = refl
 plain-step slots (Reset id code written) none = refl
-plain-step slots (Goaway last code) none = refl
+plain-step slots (Goaway last cause) none = refl
 plain-step slots InputEnded none = refl
 plain-step slots Close none = refl
 

@@ -12,6 +12,7 @@ use Rattle.connbook.specs.declared.answers.Receipt.TheVariants.{Feed, Discard, C
 use Rattle.h2frame.specs.declared.error_code.ErrorCode.{ErrorCode}
 use Rattle.outwriter.specs.declared.control.Control.{Control}
 use Rattle.outwriter.specs.Steps.{Order, order_of}
+use Rattle.reasons.specs.declared.Reason.{Reason}
 use Rattle.session.specs.declared.event.InEvent.{InEvent}
 use Rattle.session.specs.declared.event.InEvent.TheVariants as events
 use Rattle.h2frame.specs.declared.error_code.ErrorCode.TheVariants.{EnhanceYourCalm}
@@ -104,7 +105,7 @@ named-none (Told (events.Reset id code) fate) told none goes = refl
 named-none (Told (events.StreamError id code) fate) told none goes = refl
 named-none (Told (events.Control control) fate) told none goes = refl
 named-none (Told events.PeerGoaway fate) told none goes = refl
-named-none (Told (events.Fatal code) fate) told none goes = refl
+named-none (Told (events.Fatal cause) fate) told none goes = refl
 named-none (CutOff id why) told none goes = refl
 named-none Drains told none goes = absurd (true≢false goes)
 named-none Lacks told none goes = refl
@@ -122,7 +123,7 @@ named-one (Told (events.Reset other code) fate) told id is = absurd cc
 named-one (Told (events.StreamError other code) fate) told id is = absurd cc
 named-one (Told (events.Control control) fate) told id is = absurd cc
 named-one (Told events.PeerGoaway fate) told id is = absurd cc
-named-one (Told (events.Fatal code) fate) told id is = absurd cc
+named-one (Told (events.Fatal cause) fate) told id is = absurd cc
 named-one (CutOff other why) told id is = absurd cc
 named-one Drains told id is = absurd cc
 named-one Lacks told id is = absurd cc
@@ -401,9 +402,9 @@ module _ {H : Type 0} {hand : Ghosts H} {names : List ℕ → ℕ → Type 0} wh
   }
 
 -- the order that ends the connection names this stream
-pub goaway-order : (order : Control Opened) (last id : ℕ) (code : ErrorCode) → order ≡ Goaway last code → last ≡ id → order_in (Some order) ≡ Goaway id code ∷ []
-goaway-order order last id code is same =
-    ap (λ (one : Control Opened). order_in (Some one)) is ∙ ap (λ (n : ℕ). order_in (Some (Goaway n code))) same
+pub goaway-order : (order : Control Opened) (last id : ℕ) (cause : Reason) → order ≡ Goaway last cause → last ≡ id → order_in (Some order) ≡ Goaway id cause ∷ []
+goaway-order order last id cause is same =
+    ap (λ (one : Control Opened). order_in (Some one)) is ∙ ap (λ (n : ℕ). order_in (Some (Goaway n cause))) same
 
 -- one order, or none
 pub one-order : (decided : Decided) (order : Control Opened) → decided.first ≡ None → decided.second ≡ Some order → orders_in decided ≡ order_of order ∷ []

@@ -72,7 +72,7 @@ at-resets id (Told (events.BadHead other fault) fate) before fed lets calm = abs
 at-resets id (Told (events.Loose counted) fate) before fed lets calm = absurd cc
 at-resets id (Told (events.Control control) fate) before fed lets calm = absurd cc
 at-resets id (Told events.PeerGoaway fate) before fed lets calm = absurd cc
-at-resets id (Told (events.Fatal code) fate) before fed lets calm = absurd cc
+at-resets id (Told (events.Fatal cause) fate) before fed lets calm = absurd cc
 
 -- ---- of all steps
 
@@ -103,7 +103,7 @@ event-orders id (events.BadHead other fault) fate before error = absurd cc
 event-orders id (events.Loose counted) fate before error = absurd cc
 event-orders id (events.Control control) fate before error = absurd cc
 event-orders id events.PeerGoaway fate before error = absurd cc
-event-orders id (events.Fatal code) fate before error = absurd cc
+event-orders id (events.Fatal cause) fate before error = absurd cc
 
 step-orders : (id : ℕ) (step : Step) (heard before : List Step) → list_any (is_stream_error id) (events_of (step ∷ heard)) ≡ true → (list_any (is_stream_error id) (events_of heard) ≡ true) ⊎ IsReset id (orders_at before step)
 step-orders id (CutOff other why) heard before error = inl error
@@ -166,7 +166,7 @@ by-harsh (Unserved NoWorker) = refl
 by-harsh (Unserved Stopped) = tt
 
 pub ends-harsh : (step : Step) → IfSome (ends_at step) (λ end. is_heard_out end ≡ false)
-ends-harsh (Told (events.Fatal code) fate) = refl
+ends-harsh (Told (events.Fatal cause) fate) = refl
 ends-harsh (Told (events.Open id head) fate) = by-harsh fate
 ends-harsh (Told (events.BadHead id fault) fate) = by-harsh fate
 ends-harsh (Told (events.Data id piece counted) fate) = by-harsh fate

@@ -15,6 +15,8 @@ use Rattle.h2frame.specs.declared.error_code.ErrorCode.TheVariants.{NoError, Pro
 use Rattle.lists.specs.declared.field.Field.{Field}
 use Rattle.outwriter.specs.declared.control.Control.TheVariants.{Settings, Ping, Window, Open, Refuse, Reset, Goaway}
 use Rattle.outwriter.specs.Steps.{Order}
+use Rattle.reasons.specs.declared.Reason.TheVariants as reason
+use Rattle.reasons.specs.Codes.{code_of}
 use Rattle.session.specs.declared.event.Control.{Control}
 use Rattle.session.specs.declared.event.Control.TheVariants as controls
 use Rattle.session.specs.declared.event.InEvent.TheVariants as events
@@ -57,7 +59,7 @@ most_streams = 4096
 
 abbrev pub last_stream : ℕ → Bool → List ℕ → List Order
 last_stream id true before = []
-last_stream id false before = if length before == 4095 then Goaway id NoError ∷ [] else []
+last_stream id false before = if length before == 4095 then Goaway id (reason.Code NoError) ∷ [] else []
 
 -- ---- the order of a step
 
@@ -80,16 +82,16 @@ news_of (controls.Window id increment) = Window id increment
 abbrev pub turned_away : ℕ → ℕ → AdmitFault → Order
 turned_away last id refused.TooMany = Reset id RefusedStream true
 turned_away last id refused.Draining = Reset id RefusedStream true
-turned_away last id refused.NotNew = Goaway last InternalError
-turned_away last id refused.OutOfMemory = Goaway last InternalError
+turned_away last id refused.NotNew = Goaway last reason.Memory
+turned_away last id refused.OutOfMemory = Goaway last reason.Memory
 
 -- how a stream that begins is answered: `last` is what a GOAWAY names
 abbrev pub opened : ℕ → ℕ → Fate → List Order
 opened last id Admitted = Open id tt ∷ []
 opened last id Unknown = Refuse id unknown_method ∷ []
 opened last id (TurnedAway fault) = turned_away last id fault ∷ []
-opened last id Lacking = Goaway last InternalError ∷ []
-opened last id (Unserved NoWorker) = Goaway last InternalError ∷ []
+opened last id Lacking = Goaway last reason.Memory ∷ []
+opened last id (Unserved NoWorker) = Goaway last reason.Memory ∷ []
 opened last id (Unserved Stopped) = []
 opened last id _ = []
 
@@ -99,7 +101,7 @@ without_head id None = Reset id ProtocolError true
 without_head id (Some fields) = Refuse id fields
 
 abbrev pub refused_head : ℕ → ℕ → HeadFault → Fate → List Order
-refused_head last id fault Lacking = Goaway last InternalError ∷ []
+refused_head last id fault Lacking = Goaway last reason.Memory ∷ []
 refused_head last id fault _ = without_head id (refusal_of fault) ∷ []
 
 -- bytes that nobody takes, but padding
@@ -110,13 +112,13 @@ untaken id (byte ∷ bytes) feeding = if feeding then Reset id EnhanceYourCalm t
 -- bytes that came on a stream
 abbrev pub came : ℕ → ℕ → List ℕ → Bool → Fate → List Order
 came last id piece feeding (Received CallWindow) = Reset id FlowControlError true ∷ []
-came last id piece feeding (Received Overrun) = Goaway last FlowControlError ∷ []
+came last id piece feeding (Received Overrun) = Goaway last reason.Overrun ∷ []
 came last id piece feeding (Received Discard) = untaken id piece feeding
 came last id piece feeding Missed = Reset id EnhanceYourCalm true ∷ []
 came last id piece feeding _ = []
 
 abbrev pub came_loose : ℕ → Fate → List Order
-came_loose last (Received Overrun) = Goaway last FlowControlError ∷ []
+came_loose last (Received Overrun) = Goaway last reason.Overrun ∷ []
 came_loose last _ = []
 
 -- with which code the stream of a call is reset that hears no more: it is cancelled where the input ended; a call that is live no
@@ -137,10 +139,10 @@ orders_at before (Told (events.Loose counted) fate) = came_loose (named before) 
 orders_at before (Told (events.Reset id code) fate) = Reset id code false ∷ []
 orders_at before (Told (events.StreamError id code) fate) = Reset id code true ∷ []
 orders_at before (Told (events.Control control) fate) = news_of control ∷ []
-orders_at before (Told (events.Fatal code) fate) = Goaway (named before) code ∷ []
+orders_at before (Told (events.Fatal cause) fate) = Goaway (named before) cause ∷ []
 orders_at before (CutOff id why) = if is_fed id before then Reset id (cut_code why) true ∷ [] else []
-orders_at before Drains = Goaway (greatest (reported before)) NoError ∷ []
-orders_at before Lacks = Goaway (named before) InternalError ∷ []
+orders_at before Drains = Goaway (greatest (reported before)) (reason.Code NoError) ∷ []
+orders_at before Lacks = Goaway (named before) reason.Memory ∷ []
 orders_at before _ = []
 
 -- The orders that steps lead to.
@@ -165,7 +167,7 @@ ends_by (Unserved NoWorker) = Some RanOut
 ends_by _ = None
 
 abbrev pub ends_at : Step → Option Ending
-ends_at (Told (events.Fatal code) fate) = Some (Failed code)
+ends_at (Told (events.Fatal cause) fate) = Some (Failed (code_of cause))
 ends_at (Told event fate) = ends_by fate
 ends_at (CutOff id why) = None
 ends_at Drains = None

@@ -6,9 +6,10 @@ use Rattle.callhead.specs.declared.head.CallHead.{CallHead}
 use Rattle.callslot.specs.declared.report.Ending.TheVariants.{OutOfMemory}
 use Rattle.connbook.specs.declared.answers.AdmitFault.TheVariants as refused
 use Rattle.connbook.specs.declared.answers.Receipt.TheVariants.{Feed, Discard, Overrun}
-use Rattle.h2frame.specs.declared.error_code.ErrorCode.TheVariants.{NoError, FlowControlError, InternalError, RefusedStream, Cancel, EnhanceYourCalm}
+use Rattle.h2frame.specs.declared.error_code.ErrorCode.TheVariants.{NoError, InternalError, RefusedStream, Cancel, EnhanceYourCalm}
 use Rattle.callhead.specs.StatusFields.{unknown_method}
 use Rattle.outwriter.specs.declared.control.Control.TheVariants.{Open, Refuse, Reset, Goaway}
+use Rattle.reasons.specs.declared.Reason.TheVariants as reason
 use Rattle.session.specs.declared.event.InEvent.TheVariants as events
 use Rattle.slots.specs.Orders.{ends_at, orders_at, orders_by}
 use Rattle.slots.specs.Steps.{AdmitsNoMore, NoWorker, Stopped, Plain, Admitted, Unserved, Unknown, TurnedAway, Received, Missed, Step, Told, CutOff, Drains, Lacks, AtEnd, admitted, reported, head_of, last_of, IsRising, since, shut_by, fed_by, lets_go, WasLetGo}
@@ -78,7 +79,7 @@ pub three_have_rows : (head : CallHead) → reported (Told (events.Open 9 head) 
 three_have_rows head = refl
 
 -- for want of a worker the connection ends; where the writing side has stopped nothing is ordered
-pub unstarted_ends : (head : CallHead) → orders_at (two_calls head) (Told (events.Open 9 head) (Unserved NoWorker)) ≡ Goaway 9 InternalError ∷ []
+pub unstarted_ends : (head : CallHead) → orders_at (two_calls head) (Told (events.Open 9 head) (Unserved NoWorker)) ≡ Goaway 9 reason.Memory ∷ []
 unstarted_ends head = refl
 
 pub stopped_orders_none : (head : CallHead) → orders_at (two_calls head) (Told (events.Open 9 head) (Unserved Stopped)) ≡ []
@@ -100,7 +101,7 @@ pub too_many : (head : CallHead) → orders_at (two_calls head) (Told (events.Op
 too_many head = refl
 
 -- GOAWAY names the greatest stream that was begun, admitted or not
-pub overrun_ends : (head : CallHead) → orders_at (two_calls head) (Told (events.Data 1 (10 ∷ []) 1) (Received Overrun)) ≡ Goaway 7 FlowControlError ∷ []
+pub overrun_ends : (head : CallHead) → orders_at (two_calls head) (Told (events.Data 1 (10 ∷ []) 1) (Received Overrun)) ≡ Goaway 7 reason.Overrun ∷ []
 overrun_ends head = refl
 
 pub missed_is_answered : (head : CallHead) → orders_at (two_calls head) (Told (events.Data 1 (10 ∷ []) 1) Missed) ≡ Reset 1 EnhanceYourCalm true ∷ []
@@ -118,20 +119,20 @@ ended_is_not head = refl
 
 -- The server drains behind the two calls: GOAWAY names the later of them, though stream 7 was begun. What begins behind that is refused, and an
 -- error's GOAWAY names no greater stream.
-pub drain_names_last : (head : CallHead) → orders_at (two_calls head) Drains ≡ Goaway 5 NoError ∷ []
+pub drain_names_last : (head : CallHead) → orders_at (two_calls head) Drains ≡ Goaway 5 (reason.Code NoError) ∷ []
 drain_names_last head = refl
 
 pub drained_refuses : (head : CallHead) → orders_at (Drains ∷ two_calls head) (Told (events.Open 9 head) (TurnedAway refused.Draining)) ≡ Reset 9 RefusedStream true ∷ []
 drained_refuses head = refl
 
-pub drained_fails : (head : CallHead) → orders_at (Told (events.Open 9 head) (TurnedAway refused.Draining) ∷ Drains ∷ two_calls head) (Told (events.Fatal InternalError) Plain) ≡ Goaway 5 InternalError ∷ []
+pub drained_fails : (head : CallHead) → orders_at (Told (events.Open 9 head) (TurnedAway refused.Draining) ∷ Drains ∷ two_calls head) (Told (events.Fatal reason.Memory) Plain) ≡ Goaway 5 reason.Memory ∷ []
 drained_fails head = refl
 
-pub drain_of_none : orders_at [] Drains ≡ Goaway 0 NoError ∷ []
+pub drain_of_none : orders_at [] Drains ≡ Goaway 0 (reason.Code NoError) ∷ []
 drain_of_none = refl
 
 -- where memory runs out behind a drain, GOAWAY names no greater stream either, and the connection ends
-pub drained_lacks : (head : CallHead) → orders_at (Told (events.Open 9 head) (TurnedAway refused.Draining) ∷ Drains ∷ two_calls head) Lacks ≡ Goaway 5 InternalError ∷ []
+pub drained_lacks : (head : CallHead) → orders_at (Told (events.Open 9 head) (TurnedAway refused.Draining) ∷ Drains ∷ two_calls head) Lacks ≡ Goaway 5 reason.Memory ∷ []
 drained_lacks head = refl
 
 pub lacks_ends : ends_at Lacks ≡ Some OutOfMemory

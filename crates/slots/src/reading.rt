@@ -11,12 +11,13 @@ ghost use Rattle.std.specs.Prelude.{◌≡◌, ◌⊎◌, ◌<◌, ◌≤◌, �
 ghost use Rattle.callhead.specs.declared.head.CallHead.{CallHead as Head};
 ghost use Rattle.callhead.specs.StatusFields.{refusal_of, unknown_method as unknown_fields};
 ghost use Rattle.callslot.specs.declared.report.Ending.TheVariants as ending;
-ghost use Rattle.h2frame.specs.declared.error_code.ErrorCode.TheVariants.{InternalError};
 ghost use Rattle.h2frame.specs.ErrorCode.{error_number};
 ghost use Rattle.account.specs.declared.call.Shut.TheVariants as shut;
 ghost use Rattle.connbook.specs.declared.answers.Receipt.TheVariants.{Feed, Discard};
 ghost use Rattle.outwriter.specs.Steps.{order_of};
 ghost use Rattle.outwriter.specs.declared.control.Control.TheVariants as orders;
+ghost use Rattle.reasons.specs.declared.Reason.TheVariants as reason;
+ghost use Rattle.reasons.specs.Codes.{code_of};
 ghost use Rattle.session.specs.declared.event.InEvent.TheVariants as events;
 ghost use Rattle.slots.specs.Orders.{begun, ends_at, cut_code, last_stream, named, named_with, news_of, orders_at, without_head};
 ghost use Rattle.slots.specs.Readings.{Awaits, Begins, Counts, Decides, DecidesOn, IsNoted, MayMiss, Reads, ReadsOn, Stays, fate_of, heeded, order_in, refused_by, unless_ended};
@@ -37,6 +38,7 @@ use connbook::{AdmitFault, Receipt};
 use h2frame::{ErrorCode, StreamId};
 use lists::Sequence;
 use outwriter::Control;
+use reasons::Reason;
 use session::Control as PeerControl;
 use std::alloc::{AllocError, Global};
 
@@ -341,14 +343,14 @@ impl<H: Worker> Reading<H> {
         ensures ends { (told : List Step) (step : Step) → Begins H.names told step id self.old
             → ends_at step ≡ Some ending.OutOfMemory
             → orders_at told step ≡ last_stream id (is_draining told) (begun told)
-            ++ orders.Goaway (named_with id (is_draining told) (named told)) InternalError ∷ []
+            ++ orders.Goaway (named_with id (is_draining told) (named told)) reason.Memory ∷ []
             → Decides H.names told step result self.new }
         ensures aligns { Aligns result self.old self.new }
     {
         let first = self.count(id);
         Decided {
             first,
-            second: Some(self.goaway(ErrorCode::InternalError)),
+            second: Some(self.goaway(Reason::Memory)),
             cut: None,
             ends: Some(Ending::OutOfMemory),
         }
@@ -373,8 +375,8 @@ impl<H: Worker> Reading<H> {
         if self.begun < STREAMS || self.slots.is_draining {
             return None;
         }
-        let code = ErrorCode::NoError;
-        Some(Control::Goaway { last: id, code })
+        let reason = Reason::Code(ErrorCode::NoError);
+        Some(Control::Goaway { last: id, reason })
     }
 
     // ---- what comes on a stream
@@ -396,11 +398,10 @@ impl<H: Worker> Reading<H> {
                 Decided::reset(id, code, true, code)
             }
             Receipt::Overrun => {
-                let code = ErrorCode::FlowControlError;
-                let kind = Shut::Reset(code.code());
+                let kind = Shut::Reset(ErrorCode::FlowControlError.code());
                 Decided {
                     cut: Some(Cut { id, kind }),
-                    ..self.fatal(code)
+                    ..self.fatal(Reason::Overrun)
                 }
             }
         }
@@ -447,7 +448,7 @@ impl<H: Worker> Reading<H> {
         ensures aligns { Aligns result self.now self.now }
     {
         match receipt {
-            Receipt::Overrun => self.fatal(ErrorCode::FlowControlError),
+            Receipt::Overrun => self.fatal(Reason::Overrun),
             _ => Decided::nothing(),
         }
     }
@@ -509,17 +510,18 @@ impl<H: Worker> Reading<H> {
     }
 
     /// The client has made an error that ends the connection (RFC 9113, section 5.4.1).
-    pub fn fatal(&self, code: ErrorCode) -> Decided
+    pub fn fatal(&self, reason: Reason) -> Decided
         ensures orders { (result.first ≡ None)
-            × (result.second ≡ Some (orders.Goaway self.now.last code)) }
-        ensures ends { (result.cut ≡ None) × (result.ends ≡ Some (ending.ProtocolError code)) }
+            × (result.second ≡ Some (orders.Goaway self.now.last reason)) }
+        ensures ends { (result.cut ≡ None)
+            × (result.ends ≡ Some (ending.ProtocolError (code_of reason))) }
         ensures decides { DecidesOn H.names
-            (Told (events.Fatal code) Plain) result self.now self.now }
+            (Told (events.Fatal reason) Plain) result self.now self.now }
         ensures aligns { Aligns result self.now self.now }
     {
         Decided {
-            ends: Some(Ending::ProtocolError(code)),
-            ..Decided::order(self.goaway(code))
+            ends: Some(Ending::ProtocolError(reason.code())),
+            ..Decided::order(self.goaway(reason))
         }
     }
 
@@ -531,17 +533,17 @@ impl<H: Worker> Reading<H> {
     {
         Decided {
             ends: Some(Ending::OutOfMemory),
-            ..Decided::order(self.goaway(ErrorCode::InternalError))
+            ..Decided::order(self.goaway(Reason::Memory))
         }
     }
 
-    /// The order that ends the connection with this error, or by which the peer learns that the server drains.
-    fn goaway(&self, code: ErrorCode) -> Order
-        ensures order { result ≡ orders.Goaway self.now.last code }
+    /// The order that ends the connection for this reason, or by which the peer learns that the server drains.
+    fn goaway(&self, reason: Reason) -> Order
+        ensures order { result ≡ orders.Goaway self.now.last reason }
     {
         Control::Goaway {
             last: self.last,
-            code,
+            reason,
         }
     }
 
@@ -556,7 +558,7 @@ impl<H: Worker> Reading<H> {
         ensures draining { self.new.slots.is_draining ≡ true }
     {
         self.last = self.slots.drain();
-        Decided::order(self.goaway(ErrorCode::NoError))
+        Decided::order(self.goaway(Reason::Code(ErrorCode::NoError)))
     }
 
     /// Whether the server drains.

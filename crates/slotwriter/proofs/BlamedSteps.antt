@@ -49,7 +49,7 @@ module _ {S : Type 0} where
   overflow-now (control.Open stream sender) id run concerns blames = absurd concerns
   overflow-now (control.Refuse stream fields) id run concerns blames = absurd concerns
   overflow-now (control.Reset stream code written) id run concerns blames = absurd concerns
-  overflow-now (control.Goaway stream code) id run concerns blames = absurd concerns
+  overflow-now (control.Goaway stream cause) id run concerns blames = absurd concerns
   overflow-now control.InputEnded id run concerns blames = absurd concerns
   overflow-now control.Close id run concerns blames = absurd concerns
 

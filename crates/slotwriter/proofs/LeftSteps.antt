@@ -13,6 +13,7 @@ use Rattle.outwriter.specs.Steps.{Order, Step, Taken, Written}
 use Rattle.connwriter.specs.declared.taking.Taking.{Taking}
 use Rattle.connwriter.specs.declared.taking.Taking.TheVariants.{Done, Ended, Unanswered, HandedBack}
 use Rattle.connwriter.specs.Orders.{own_order, steps_of}
+use Rattle.reasons.specs.declared.Reason.TheVariants as reason
 use Rattle.slotwriter.specs.declared.slot_writer.SlotWriter.{SlotWriter}
 use Rattle.slotwriter.specs.Left.{AreAmong, AreNoted, left_by, left_in}
 use Rattle.slotwriter.specs.Sent.{SlotSender}
@@ -34,7 +35,7 @@ noted-plain ids order run plain noted id there = noted id (subst (λ (more : Lis
 own-none : (last id : ℕ) → left_by (own_order last id) ≡ []
 own-none last id = by (id == 0)
   where
-    by : (b : Bool) → left_by (if b then Goaway last FlowControlError else Reset id FlowControlError true) ≡ []
+    by : (b : Bool) → left_by (if b then Goaway last reason.Window else Reset id FlowControlError true) ≡ []
     by true = refl
     by false = refl
 

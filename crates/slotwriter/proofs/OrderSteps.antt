@@ -15,6 +15,7 @@ use Rattle.connwriter.specs.declared.taking.Taking.{Taking}
 use Rattle.connwriter.specs.declared.taking.Taking.TheVariants.{Done, Ended, Unanswered, HandedBack}
 use Rattle.connwriter.specs.Orders.{Blamed, own_order, parting, steps_of}
 use Rattle.callslot.specs.declared.order.Opened.{Opened}
+use Rattle.reasons.specs.declared.Reason.TheVariants as reason
 use Rattle.slotwriter.specs.declared.inbox.Inbox.{Inbox}
 use Rattle.slotwriter.specs.Orders.{AreAnswered, AreLast, HasGiven, HasTaken, IsAmong, IsAnswer, Obeys, Warns, ends_input, loses_by, order_in, orders_of}
 
@@ -125,7 +126,7 @@ taken-next : (orders : List Order) (order : Order) (run : List Step) → HasTake
 taken-next orders order run took = inl (orders, refl, took)
 
 -- what ends a stream takes no window
-ends-fit : (first : Bool) (last id : ℕ) (run : List Step) → HasRoom {S = Unit {0}} (if first then control.Goaway last FlowControlError else control.Reset id FlowControlError true) run
+ends-fit : (first : Bool) (last id : ℕ) (run : List Step) → HasRoom {S = Unit {0}} (if first then control.Goaway last reason.Window else control.Reset id FlowControlError true) run
 ends-fit true last id run = tt
 ends-fit false last id run = tt
 
@@ -139,7 +140,7 @@ module _ {S : Type 0} where
   answer-of (control.Open stream sender) last id run concerns blames = absurd concerns
   answer-of (control.Refuse stream fields) last id run concerns blames = absurd concerns
   answer-of (control.Reset stream code written) last id run concerns blames = absurd concerns
-  answer-of (control.Goaway stream code) last id run concerns blames = absurd concerns
+  answer-of (control.Goaway stream cause) last id run concerns blames = absurd concerns
   answer-of control.InputEnded last id run concerns blames = absurd concerns
   answer-of control.Close last id run concerns blames = absurd concerns
 
@@ -151,7 +152,7 @@ module _ {S : Type 0} where
   room-of (control.Open stream sender) run room = tt
   room-of (control.Refuse stream fields) run room = tt
   room-of (control.Reset stream code written) run room = tt
-  room-of (control.Goaway stream code) run room = tt
+  room-of (control.Goaway stream cause) run room = tt
   room-of control.InputEnded run room = tt
   room-of control.Close run room = tt
 
@@ -200,9 +201,9 @@ module _ {S : Type 0} where
   obeys-warning one last (HandedBack back) orders run blamed spares room warns obeys = obeys
 
   -- a GOAWAY of the writer's own
-  pub obeys-parting : (last : ℕ) (taking : Taking S) (orders : List Order) (run : List Step) → Blamed taking (control.Goaway last InternalError) run → Obeys true orders run
-      → Obeys true orders (steps_of (control.Goaway last InternalError) last taking ++ run)
-  obeys-parting last Done orders run blamed obeys = ends-by orders run (Taken (control.Goaway last InternalError)) (λ rest ends before. (inl (last, refl), before)) obeys
+  pub obeys-parting : (last : ℕ) (taking : Taking S) (orders : List Order) (run : List Step) → Blamed taking (control.Goaway last reason.Memory) run → Obeys true orders run
+      → Obeys true orders (steps_of (control.Goaway last reason.Memory) last taking ++ run)
+  obeys-parting last Done orders run blamed obeys = ends-by orders run (Taken (control.Goaway last reason.Memory)) (λ rest ends before. (inl (last, refl), before)) obeys
   obeys-parting last (Ended id) orders run blamed obeys = absurd blamed.0
   obeys-parting last (Unanswered id) orders run blamed obeys = absurd blamed.0
   obeys-parting last (HandedBack back) orders run blamed obeys = obeys

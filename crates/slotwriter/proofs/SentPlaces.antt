@@ -28,6 +28,7 @@ use Rattle.connwriter.specs.Wrote.{BringsBy}
 use Rattle.connwriter.proofs.SentSteps.{On, home-away, home-one, on-taken, sent-again, sent-again-back, sent-away, sent-back, sent-frames, sent-new, sent-new-back, sent-rest, sent-still, sent-told}
 use Rattle.callslot.specs.declared.order.Opened.{Opened}
 use Rattle.callslot.specs.declared.order.Opened.TheVariants.{New, Again}
+use Rattle.reasons.specs.declared.Reason.TheVariants as reason
 use Rattle.slotwriter.specs.declared.senders.Place.{Place}
 use Rattle.slotwriter.specs.Sent.{AreFresh, HandsHome, Tells, OpensRise, lines_from, lines_of, GetsRest, KeepsOn, NoneWaits, TakesHome, Waits, SlotSender, Lines, line_step, IsFresh, ids_of, held_of, HasStream, AreKept, SamePlaces, Begins, MakesOf, IsPlain}
 
@@ -82,8 +83,8 @@ kept-made run lines old new core cores (Refuse id fields) control new_id made br
     kept-plain run lines old new core cores (Refuse id fields) (λ k. refl) (subst (λ (c : Control SlotSender). BringsBy Done c core cores) made.0 brings) made.1 kept
 kept-made run lines old new core cores (Reset id code written) control new_id made brings kept =
     kept-plain run lines old new core cores (Reset id code written) (λ k. refl) (subst (λ (c : Control SlotSender). BringsBy Done c core cores) made.0 brings) made.1 kept
-kept-made run lines old new core cores (Goaway last code) control new_id made brings kept =
-    kept-plain run lines old new core cores (Goaway last code) (λ k. refl) (subst (λ (c : Control SlotSender). BringsBy Done c core cores) made.0 brings) made.1 kept
+kept-made run lines old new core cores (Goaway last cause) control new_id made brings kept =
+    kept-plain run lines old new core cores (Goaway last cause) (λ k. refl) (subst (λ (c : Control SlotSender). BringsBy Done c core cores) made.0 brings) made.1 kept
 kept-made run lines old new core cores InputEnded control new_id made brings kept =
     kept-plain run lines old new core cores InputEnded (λ k. refl) (subst (λ (c : Control SlotSender). BringsBy Done c core cores) made.0 brings) made.1 kept
 kept-made run lines old new core cores Close control new_id made brings kept =
@@ -98,7 +99,7 @@ plain-makes (Probe bytes) control places plain = (plain, record { held = refl; i
 plain-makes (Window id n) control places plain = (plain, record { held = refl; ids = refl })
 plain-makes (Refuse id fields) control places plain = (plain, record { held = refl; ids = refl })
 plain-makes (Reset id code written) control places plain = (plain, record { held = refl; ids = refl })
-plain-makes (Goaway last code) control places plain = (plain, record { held = refl; ids = refl })
+plain-makes (Goaway last cause) control places plain = (plain, record { held = refl; ids = refl })
 plain-makes InputEnded control places plain = (plain, record { held = refl; ids = refl })
 plain-makes Close control places plain = (plain, record { held = refl; ids = refl })
 
@@ -123,7 +124,7 @@ makes-then (Probe bytes) control old mid new made same = (made.0, same-then made
 makes-then (Window id n) control old mid new made same = (made.0, same-then made.1 same)
 makes-then (Refuse id fields) control old mid new made same = (made.0, same-then made.1 same)
 makes-then (Reset id code written) control old mid new made same = (made.0, same-then made.1 same)
-makes-then (Goaway last code) control old mid new made same = (made.0, same-then made.1 same)
+makes-then (Goaway last cause) control old mid new made same = (made.0, same-then made.1 same)
 makes-then InputEnded control old mid new made same = (made.0, same-then made.1 same)
 makes-then Close control old mid new made same = (made.0, same-then made.1 same)
 
@@ -356,7 +357,7 @@ fresh-rising last lines (Probe bytes ∷ orders) most rise = (tt, fresh-rising l
 fresh-rising last lines (Window id n ∷ orders) most rise = (tt, fresh-rising last lines orders most rise)
 fresh-rising last lines (Refuse id fields ∷ orders) most rise = (tt, fresh-rising last lines orders most rise)
 fresh-rising last lines (Reset id code written ∷ orders) most rise = (tt, fresh-rising last lines orders most rise)
-fresh-rising last lines (Goaway one code ∷ orders) most rise = (tt, fresh-rising last lines orders most rise)
+fresh-rising last lines (Goaway one cause ∷ orders) most rise = (tt, fresh-rising last lines orders most rise)
 fresh-rising last lines (InputEnded ∷ orders) most rise = (tt, fresh-rising last lines orders most rise)
 fresh-rising last lines (Close ∷ orders) most rise = (tt, fresh-rising last lines orders most rise)
 
@@ -398,7 +399,7 @@ kept-none places core none empty =
     nothing = record { sent = record { each = tt; apart = apart-none; core_apart = apart-none; core_old = All-nil (λ (id : ℕ). IsOld {Name = LaneName} id []); opened_old = λ id new. refl }; ids = refl }
 
 -- an order of the writer's own opens nothing
-own-plain-by : (first : Bool) (last id k : ℕ) → opens_stream k (if first then Goaway last FlowControlError else Reset id FlowControlError true) ≡ false
+own-plain-by : (first : Bool) (last id k : ℕ) → opens_stream k (if first then Goaway last reason.Window else Reset id FlowControlError true) ≡ false
 own-plain-by true last id k = refl
 own-plain-by false last id k = refl
 
@@ -427,7 +428,7 @@ brings-plain Done (Probe bytes) core cores plain is = is
 brings-plain Done (Window id n) core cores plain is = is
 brings-plain Done (Refuse id fields) core cores plain is = is
 brings-plain Done (Reset id code written) core cores plain is = is
-brings-plain Done (Goaway last code) core cores plain is = is
+brings-plain Done (Goaway last cause) core cores plain is = is
 brings-plain Done InputEnded core cores plain is = is
 brings-plain Done Close core cores plain is = is
 brings-plain (Ended id) one core cores plain is = is
@@ -442,7 +443,7 @@ brings-same id (Probe bytes) core concerns = refl
 brings-same id (Window stream n) core concerns = refl
 brings-same id (Refuse stream fields) core concerns = refl
 brings-same id (Reset stream code written) core concerns = refl
-brings-same id (Goaway last code) core concerns = refl
+brings-same id (Goaway last cause) core concerns = refl
 brings-same id InputEnded core concerns = refl
 brings-same id Close core concerns = refl
 
@@ -624,7 +625,7 @@ kept-back run lines first old new core (Probe bytes) control new_id made home ke
 kept-back run lines first old new core (Window id n) control new_id made home kept = kept-twice run lines first old new core made.1 (subst (λ (c : Control SlotSender). HandsHome c old new) made.0 home) kept
 kept-back run lines first old new core (Refuse id fields) control new_id made home kept = kept-twice run lines first old new core made.1 (subst (λ (c : Control SlotSender). HandsHome c old new) made.0 home) kept
 kept-back run lines first old new core (Reset id code written) control new_id made home kept = kept-twice run lines first old new core made.1 (subst (λ (c : Control SlotSender). HandsHome c old new) made.0 home) kept
-kept-back run lines first old new core (Goaway last code) control new_id made home kept = kept-twice run lines first old new core made.1 (subst (λ (c : Control SlotSender). HandsHome c old new) made.0 home) kept
+kept-back run lines first old new core (Goaway last cause) control new_id made home kept = kept-twice run lines first old new core made.1 (subst (λ (c : Control SlotSender). HandsHome c old new) made.0 home) kept
 kept-back run lines first old new core InputEnded control new_id made home kept = kept-twice run lines first old new core made.1 (subst (λ (c : Control SlotSender). HandsHome c old new) made.0 home) kept
 kept-back run lines first old new core Close control new_id made home kept = kept-twice run lines first old new core made.1 (subst (λ (c : Control SlotSender). HandsHome c old new) made.0 home) kept
 

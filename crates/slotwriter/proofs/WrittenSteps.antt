@@ -36,6 +36,7 @@ use Rattle.callslot.specs.declared.order.Opened.{Opened}
 use Rattle.callslot.specs.declared.order.Opened.TheVariants.{New, Again}
 use Rattle.callslot.specs.declared.report.Ending.{Ending}
 use Rattle.callslot.specs.declared.report.Ending.TheVariants as ending
+use Rattle.reasons.specs.declared.Reason.TheVariants as reason
 use Rattle.slotwriter.specs.declared.inbox.Inbox.{Inbox}
 use Rattle.slotwriter.specs.declared.slot_writer.SlotWriter.{SlotWriter}
 use Rattle.slotwriter.specs.declared.senders.Place.{Place}
@@ -99,7 +100,7 @@ opened-made (control.Probe bytes) one old new orders made opened = opened-still 
 opened-made (control.Window id n) one old new orders made opened = opened-still (ids_of old) (ids_of new) orders (control.Window id n) made.1.ids opened
 opened-made (control.Refuse id fields) one old new orders made opened = opened-still (ids_of old) (ids_of new) orders (control.Refuse id fields) made.1.ids opened
 opened-made (control.Reset id code written) one old new orders made opened = opened-still (ids_of old) (ids_of new) orders (control.Reset id code written) made.1.ids opened
-opened-made (control.Goaway last code) one old new orders made opened = opened-still (ids_of old) (ids_of new) orders (control.Goaway last code) made.1.ids opened
+opened-made (control.Goaway last cause) one old new orders made opened = opened-still (ids_of old) (ids_of new) orders (control.Goaway last cause) made.1.ids opened
 opened-made control.InputEnded one old new orders made opened = opened-still (ids_of old) (ids_of new) orders control.InputEnded made.1.ids opened
 opened-made control.Close one old new orders made opened = opened-still (ids_of old) (ids_of new) orders control.Close made.1.ids opened
 
@@ -286,8 +287,8 @@ granted-steps order last (HandedBack back) run credit is = is
 
 granted-parting : (last : ℕ) (run : List Step) (credit : ℕ) → granted 0 run ≡ credit → granted 0 (parting last true ++ run) ≡ credit
 granted-parting last run credit is =
-    granted-none (Written (goaway_frame last InternalError)) (Taken (control.Goaway last InternalError) ∷ run) credit refl
-    (granted-none (Taken (control.Goaway last InternalError)) run credit refl is)
+    granted-none (Written (goaway_frame last reason.Memory)) (Taken (control.Goaway last reason.Memory) ∷ run) credit refl
+    (granted-none (Taken (control.Goaway last reason.Memory)) run credit refl is)
 
 granted-more : (id n : ℕ) (run : List Step) (credit : ℕ) → granted 0 run ≡ credit → granted 0 (Granted id n ∷ run) ≡ credit + granted_by 0 (Granted id n)
 granted-more id n run credit is = omega (arith, sum_by-cons (granted_by 0) (Granted id n) run, is)
@@ -303,7 +304,7 @@ record IsMild (one : Control SlotSender) : Type 0 where
   leaves : left_by (order_of one) ≡ []
 
 mild : (one : Control SlotSender) → IsWarning one → IsMild one
-mild (control.Goaway last code) own = record { plain = tt; opens = λ k. refl; spares = λ id concerns. concerns; room = λ run. tt; leaves = refl }
+mild (control.Goaway last cause) own = record { plain = tt; opens = λ k. refl; spares = λ id concerns. concerns; room = λ run. tt; leaves = refl }
 mild (control.Probe bytes) own = record { plain = tt; opens = λ k. refl; spares = λ id concerns. concerns; room = λ run. tt; leaves = refl }
 mild (control.Settings settings) own = absurd own
 mild (control.Ping bytes) own = absurd own
@@ -315,7 +316,7 @@ mild control.InputEnded own = absurd own
 mild control.Close own = absurd own
 
 pub unused-warning : (one : Control SlotSender) → IsWarning one → IsUnused got one
-unused-warning (control.Goaway last code) own = tt
+unused-warning (control.Goaway last cause) own = tt
 unused-warning (control.Probe bytes) own = tt
 unused-warning (control.Settings settings) own = absurd own
 unused-warning (control.Ping bytes) own = absurd own
@@ -429,7 +430,7 @@ module _ {W : Type 0} (contents : W → Option (List ℕ)) (failed : W → Bool)
   pub parts-on : (last : ℕ) (lost : Bool) (old new : SlotWriter W) → WritesOn got contents failed (parting last true) old.frames new.frames → core_of new ≡ core_of old
       → places_of new ≡ places_of old → notes_of new ≡ notes_of old → old.frames.standing ≡ stands.OutOfMemory → new.frames.standing ≡ old.frames.standing → StaysOn contents failed lost true old new
   parts-on last lost old new on core places noted memory still =
-      let sends : GoesOn (parting last true) old new = goes-still (parting last true) old new (λ run k. on-taken (control.Goaway last InternalError) run k refl) core (same-places places) (λ run. refl) noted in record {
+      let sends : GoesOn (parting last true) old new = goes-still (parting last true) old new (λ run k. on-taken (control.Goaway last reason.Memory) run k refl) core (same-places places) (λ run. refl) noted in record {
         runs = λ orders before credit runs. (
           parting last true ++ runs.0,
           on before runs.0 runs.1,
@@ -503,16 +504,16 @@ module _ {W : Type 0} (contents : W → Option (List ℕ)) (failed : W → Bool)
       takes order first is (makes-then order one (places_of first) (places_of old) (places_of mid) made places) (same ∙ sym frames) (alike ∙ sym noted)
 
   -- a GOAWAY of the writer's own
-  pub parting-on : (last : ℕ) (taking : Taking SlotSender) (old new : SlotWriter W) → WritesOn got contents failed (steps_of (control.Goaway last InternalError) last taking) old.frames new.frames
-      → ((before : Option (List ℕ)) (run : List Step) → Wrote got contents failed before run old.frames → Blamed taking (control.Goaway last InternalError) run)
-      → BringsBy taking (control.Goaway last InternalError) (core_of old) (core_of new) → places_of new ≡ places_of old → notes_of new ≡ notes_of old → Parts contents failed old new
+  pub parting-on : (last : ℕ) (taking : Taking SlotSender) (old new : SlotWriter W) → WritesOn got contents failed (steps_of (control.Goaway last reason.Memory) last taking) old.frames new.frames
+      → ((before : Option (List ℕ)) (run : List Step) → Wrote got contents failed before run old.frames → Blamed taking (control.Goaway last reason.Memory) run)
+      → BringsBy taking (control.Goaway last reason.Memory) (core_of old) (core_of new) → places_of new ≡ places_of old → notes_of new ≡ notes_of old → Parts contents failed old new
   parting-on last taking old new on blamed brings places noted orders before credit runs = (
-    steps_of (control.Goaway last InternalError) last taking ++ runs.0,
+    steps_of (control.Goaway last reason.Memory) last taking ++ runs.0,
     on before runs.0 runs.1,
     obeys-parting last taking (orders_of orders) runs.0 (blamed before runs.0 runs.1) runs.2,
-    holds-on true orders runs.0 (steps_of (control.Goaway last InternalError) last taking) old new
-        (goes-plain (control.Goaway last InternalError) last taking old new (λ k. refl) (brings-plain taking (control.Goaway last InternalError) (core_of old) (core_of new) tt brings) (same-places places) refl noted) runs.3,
-    granted-steps (control.Goaway last InternalError) last taking runs.0 credit runs.4,
+    holds-on true orders runs.0 (steps_of (control.Goaway last reason.Memory) last taking) old new
+        (goes-plain (control.Goaway last reason.Memory) last taking old new (λ k. refl) (brings-plain taking (control.Goaway last reason.Memory) (core_of old) (core_of new) tt brings) (same-places places) refl noted) runs.3,
+    granted-steps (control.Goaway last reason.Memory) last taking runs.0 credit runs.4,
   )
 
   -- a Close where orders were lost

@@ -4,13 +4,14 @@ use Rattle.std.specs.Prelude.{◌≡◌, ◌++◌, ℕ, Bool, true, false, refl,
 use Rattle.std.specs.Option.{is_some}
 use Rattle.flow.specs.WindowHistory.{CanCredit}
 use Rattle.flow.specs.WindowHistory.{Step as WindowStep}
-use Rattle.h2frame.specs.declared.error_code.ErrorCode.TheVariants.{NoError, FlowControlError, InternalError}
+use Rattle.h2frame.specs.declared.error_code.ErrorCode.TheVariants.{NoError, InternalError}
 use Rattle.outwriter.specs.declared.control.Control.TheVariants.{Ping, Probe, Window, Open, Reset, Goaway, InputEnded, Close}
 use Rattle.outwriter.specs.declared.control.OutFault.TheVariants.{PeerWindow}
 use Rattle.outwriter.specs.Calls.{closes}
 use Rattle.outwriter.specs.Drains.{draining, goaway_by, warning}
 use Rattle.outwriter.specs.RunState.{Blames}
 use Rattle.outwriter.specs.Steps.{Order, Taken, Granted}
+use Rattle.reasons.specs.declared.Reason.TheVariants as reason
 use Rattle.slotwriter.specs.Orders.{HasTaken, Obeys, ends_input}
 
 -- in turn, whatever else is done between them
@@ -19,7 +20,7 @@ in_turn = (inl (InputEnded ∷ [], refl, inl ([], refl, refl)), (inl tt, (inl tt
 
 -- a window is too large, and the writer ends the connection by itself
 pub answered : (n : ℕ) → Blames {S = Unit {0}} (PeerWindow 0) (Window 0 n) []
-    → Obeys false (Window 0 n ∷ Close ∷ []) (Taken Close ∷ Taken (Goaway 5 FlowControlError) ∷ Taken (Window 0 n) ∷ [])
+    → Obeys false (Window 0 n ∷ Close ∷ []) (Taken Close ∷ Taken (Goaway 5 reason.Window) ∷ Taken (Window 0 n) ∷ [])
 answered n blames = (
   inl (Window 0 n ∷ [], refl, inr (inl (5, 0, refl, refl, blames), inl ([], refl, refl))),
   (inl tt, (inl tt, (inr (inl (5, 0, refl, refl)), tt))),
@@ -39,10 +40,10 @@ left = (
 )
 
 -- the peer is warned, and then told the greatest stream of a call
-pub drained : Obeys false (Goaway 5 NoError ∷ Close ∷ []) (Taken Close ∷ Taken (Goaway 5 NoError) ∷ Taken (Probe draining) ∷ Taken warning ∷ [])
+pub drained : Obeys false (Goaway 5 (reason.Code NoError) ∷ Close ∷ []) (Taken Close ∷ Taken (Goaway 5 (reason.Code NoError)) ∷ Taken (Probe draining) ∷ Taken warning ∷ [])
 drained = (
   inl (
-    Goaway 5 NoError ∷ [],
+    Goaway 5 (reason.Code NoError) ∷ [],
     refl,
     inl ([], refl, inr (inr (inr (inr (refl, refl))), inr (inr (inr (inl (refl, refl))), refl))),
   ),
@@ -51,11 +52,11 @@ drained = (
 
 -- there was no memory for a PING: the writer ends the connection, and takes no more orders than Close
 pub parted : (bytes : List ℕ)
-    → Obeys true (InputEnded ∷ Ping bytes ∷ InputEnded ∷ Close ∷ []) (Taken Close ∷ Taken (Goaway 5 InternalError) ∷ Taken InputEnded ∷ [])
+    → Obeys true (InputEnded ∷ Ping bytes ∷ InputEnded ∷ Close ∷ []) (Taken Close ∷ Taken (Goaway 5 reason.Memory) ∷ Taken InputEnded ∷ [])
 parted bytes = record {
   front = InputEnded ∷ [];
   rest = Ping bytes ∷ InputEnded ∷ Close ∷ [];
-  ends = Taken Close ∷ Taken (Goaway 5 InternalError) ∷ [];
+  ends = Taken Close ∷ Taken (Goaway 5 reason.Memory) ∷ [];
   steps = Taken InputEnded ∷ [];
   orders_are = refl;
   run_is = refl;
@@ -99,7 +100,7 @@ abbrev leaves : Order → Bool
 leaves order = is_some (goaway_by order)
 
 -- not twice, nor behind another GOAWAY
-pub warned_late : ¬ HasTaken [] (Taken warning ∷ Taken (Goaway 5 NoError) ∷ [])
+pub warned_late : ¬ HasTaken [] (Taken warning ∷ Taken (Goaway 5 (reason.Code NoError)) ∷ [])
 warned_late (inl (earlier, parts, took)) = true≢false (sym (last_at leaves earlier warning) ∙ ap (λ (orders : List Order). last_is leaves orders) (sym parts))
 warned_late (inr (inl (last, id, is, concerns, blames), took)) = absurd concerns
 warned_late (inr (inr (inl (id, is, among, goes_on)), took)) = absurd among

@@ -16,6 +16,7 @@ use Rattle.connwriter.specs.declared.taking.Taking.{Taking}
 use Rattle.connwriter.specs.declared.taking.Taking.TheVariants.{Done, Ended, Unanswered, HandedBack}
 use Rattle.connwriter.specs.Orders.{own_order}
 use Rattle.callslot.specs.declared.order.Opened.{Opened}
+use Rattle.reasons.specs.declared.Reason.TheVariants as reason
 use Rattle.slotwriter.specs.declared.inbox.Inbox.{Inbox}
 use Rattle.slotwriter.specs.declared.senders.Untaken.{Untaken}
 use Rattle.slotwriter.specs.declared.senders.Untaken.TheVariants.{Early, OutOfMemory}
@@ -80,7 +81,7 @@ AreAnswered lacks next (Returned id items ∷ before) = AreAnswered lacks None b
 abbrev pub AreLast : List Order → List Step → Type 0
 AreLast orders [] = Unit {0}
 AreLast orders (Taken order ∷ before) =
-    (((last : ℕ) × (order ≡ Goaway last InternalError)) ⊎ ((order ≡ Close) × IsAmong order orders)) × AreLast orders before
+    (((last : ℕ) × (order ≡ Goaway last reason.Memory)) ⊎ ((order ≡ Close) × IsAmong order orders)) × AreLast orders before
 AreLast orders (Granted id n ∷ before) = AreLast orders before
 AreLast orders (Written frame ∷ before) = AreLast orders before
 AreLast orders (Returned id items ∷ before) = AreLast orders before
@@ -111,7 +112,7 @@ module _ {S : Type 0} where
 
   -- a GOAWAY, or a PING of this side's own
   abbrev pub IsWarning : Control S → Type 0
-  IsWarning (Goaway last code) = Unit {0}
+  IsWarning (Goaway last cause) = Unit {0}
   IsWarning (Probe bytes) = Unit {0}
   IsWarning _ = ⊥
 
@@ -153,7 +154,7 @@ abbrev pub waiting_of : Option (Control Opened) → Waiting
 waiting_of None = Nothing
 waiting_of (Some (Settings settings)) = waiting.Window
 waiting_of (Some (Window id n)) = waiting.Window
-waiting_of (Some (Goaway last code)) = waiting.Goaway
+waiting_of (Some (Goaway last cause)) = waiting.Goaway
 waiting_of (Some _) = Other
 
 -- no window of the peer's may overflow by the order

@@ -109,7 +109,7 @@ MakesOf (Probe bytes) control old new = (control ≡ Probe bytes) × SamePlaces 
 MakesOf (Window id n) control old new = (control ≡ Window id n) × SamePlaces old new
 MakesOf (Refuse id fields) control old new = (control ≡ Refuse id fields) × SamePlaces old new
 MakesOf (Reset id code written) control old new = (control ≡ Reset id code written) × SamePlaces old new
-MakesOf (Goaway last code) control old new = (control ≡ Goaway last code) × SamePlaces old new
+MakesOf (Goaway last cause) control old new = (control ≡ Goaway last cause) × SamePlaces old new
 MakesOf InputEnded control old new = (control ≡ InputEnded) × SamePlaces old new
 MakesOf Close control old new = (control ≡ Close) × SamePlaces old new
 
@@ -122,7 +122,7 @@ IsPlain (Probe bytes) control = control ≡ Probe bytes
 IsPlain (Window id n) control = control ≡ Window id n
 IsPlain (Refuse id fields) control = control ≡ Refuse id fields
 IsPlain (Reset id code written) control = control ≡ Reset id code written
-IsPlain (Goaway last code) control = control ≡ Goaway last code
+IsPlain (Goaway last cause) control = control ≡ Goaway last cause
 IsPlain InputEnded control = control ≡ InputEnded
 IsPlain Close control = control ≡ Close
 

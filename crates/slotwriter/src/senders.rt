@@ -424,7 +424,7 @@ fn split(order: Order) -> Result<Control<Sender<OutLane>>, (StreamId, Opened)>
         Control::Window(id, increment) => Ok(Control::Window(id, increment)),
         Control::Refuse(id, fields) => Ok(Control::Refuse(id, fields)),
         Control::Reset { id, code, written } => Ok(Control::Reset { id, code, written }),
-        Control::Goaway { last, code } => Ok(Control::Goaway { last, code }),
+        Control::Goaway { last, reason } => Ok(Control::Goaway { last, reason }),
         Control::InputEnded => Ok(Control::InputEnded),
         Control::Close => Ok(Control::Close),
     }

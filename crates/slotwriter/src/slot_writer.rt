@@ -39,6 +39,7 @@ use device::{ConnWrite, DeviceFault};
 use h2frame::{ErrorCode, StreamId};
 use lane::RingOut;
 use outwriter::Control;
+use reasons::Reason;
 use std::alloc::Global;
 use std::snapshot::Snapshot;
 
@@ -341,8 +342,8 @@ impl<W: ConnWrite + Drop> SlotWriter<W> {
         ensures parts { Parts W.contents W.failed self.old self.new }
         ensures inbox { self.new.inbox ≡ self.old.inbox }
     {
-        let code = ErrorCode::InternalError;
-        let taking = self.frames.take(Control::Goaway { last, code }, last);
+        let reason = Reason::Memory;
+        let taking = self.frames.take(Control::Goaway { last, reason }, last);
         matches!(taking, Taking::Done)
     }
 
@@ -462,8 +463,8 @@ impl<W: ConnWrite + Drop> SlotWriter<W> {
         ensures blamed { self.new.blamed ≡ self.old.blamed }
     {
         if self.frames.may_leave() {
-            let (last, code) = (GREATEST_STREAM, ErrorCode::NoError);
-            self.warn_by(Control::Goaway { last, code });
+            let (last, reason) = (GREATEST_STREAM, Reason::Code(ErrorCode::NoError));
+            self.warn_by(Control::Goaway { last, reason });
         }
     }
 

@@ -59,6 +59,7 @@ pub fn push_event(out: &mut String, event: &InEvent) -> Result<(), AllocError> {
             write!(out, ", {counted})")
         }
         InEvent::Control(control) => push_control(out, control),
+        InEvent::Fatal(reason) => write!(out, " Fatal({:?})", reason.code()),
         other => write!(out, " {other:?}"),
     }
 }

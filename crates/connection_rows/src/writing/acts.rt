@@ -6,6 +6,7 @@ use anyhow::{Context, Result, bail};
 use callbox::Sender;
 use h2frame::{ErrorCode, PeerSetting, PeerSettings, StreamId};
 use outwriter::{Control, Next, OutCore, OutFault};
+use reasons::Reason;
 use std::alloc::Global;
 use std::mem;
 
@@ -143,7 +144,7 @@ fn reset(words: &[&str]) -> Result<Order> {
 fn goaway(words: &[&str]) -> Result<Order> {
     Ok(Control::Goaway {
         last: number(words, 1)?,
-        code: ErrorCode::from_code(number(words, 2)?),
+        reason: Reason::Code(ErrorCode::from_code(number(words, 2)?)),
     })
 }
 

@@ -42,6 +42,6 @@ returns-in-Ok-None-2-clause-rests g c = λ run l. (
 
 pub returns-in-Err-clause-leads : goal.returns-in-Err-clause-leads
 returns-in-Err-clause-leads g c =
-    leads-dead g.L.Lane.got c.args.self.now _ refl refl c.choose.ensures.gives.0 (λ run l dead may last code.
+    leads-dead g.L.Lane.got c.args.self.now _ refl refl c.choose.ensures.gives.0 (λ run l dead may last reason.
     let between = c.is_between-may_part.ensures may in
-    may-part run _ _ _ _ _ _ last code between.begun between.going between.no_block (l.keeps c.if-self.false).mirrors)
+    may-part run _ _ _ _ _ _ last reason between.begun between.going between.no_block (l.keeps c.if-self.false).mirrors)

@@ -73,9 +73,9 @@ returns-in-Window-clause-leads g c =
 pub returns-in-Goaway-clause-leads : goal.returns-in-Goaway-clause-leads
 returns-in-Goaway-clause-leads g c = λ unused.
     leads-taken g.L.Lane.got c.args.self.now c.requires.living c.make_room.new.self (kept-room c.args.self.now.sending.outbound c.make_room.new.self c.make_room.ensures.stays c.make_room.ensures.takes)
-    c.take_goaway.new.self c.args.self.now.closed true c.args.self.now.has_probed c.fails_by-self.result c.args.control (order.Goaway c.in-Goaway.last c.in-Goaway.code) c.in-Goaway.is refl
-    (unsaid-goaway c.in-Goaway.last c.in-Goaway.code c.args.self.now.is_leaving c.args.self.now.has_probed c.args.self.now.has_failed c.fails_by-self.result (c.fails_by-self.ensures c.in-Goaway.last))
-    (kept-plain (order.Goaway c.in-Goaway.last c.in-Goaway.code) (due_kind.Goaway c.in-Goaway.last c.in-Goaway.code ∷ []) c.make_room.new.self c.take_goaway.new.self tt (one-plain (due_kind.Goaway c.in-Goaway.last c.in-Goaway.code) tt) c.take_goaway.ensures.taken c.take_goaway.ensures.takes)
+    c.take_goaway.new.self c.args.self.now.closed true c.args.self.now.has_probed c.fails_by-self.result c.args.control (order.Goaway c.in-Goaway.last c.in-Goaway.reason) c.in-Goaway.is refl
+    (unsaid-goaway c.in-Goaway.last c.in-Goaway.reason c.args.self.now.is_leaving c.args.self.now.has_probed c.args.self.now.has_failed c.fails_by-self.result (c.fails_by-self.ensures c.in-Goaway.last))
+    (kept-plain (order.Goaway c.in-Goaway.last c.in-Goaway.reason) (due_kind.Goaway c.in-Goaway.last c.in-Goaway.reason ∷ []) c.make_room.new.self c.take_goaway.new.self tt (one-plain (due_kind.Goaway c.in-Goaway.last c.in-Goaway.reason) tt) c.take_goaway.ensures.taken c.take_goaway.ensures.takes)
 
 pub returns-in-Open-clause-leads : goal.returns-in-Open-clause-leads
 returns-in-Open-clause-leads g c =

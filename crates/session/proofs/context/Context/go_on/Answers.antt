@@ -12,5 +12,5 @@ returns c =
     record {
       sound = if_ended _ _ _ c.end.ensures.none c.end.ensures.events (λ e. tt);
       follows = if_ended _ _ _ c.end.ensures.none c.end.ensures.events
-          (λ e entries before leads rest. breaks entries _ rest before _ _ _ _ _ _ _ leads (frame_breaks _ _ _ c.in-Err.ensures.err c.in_default.not-OutOfMemory) (e ∙ ap (λ code. c.args.events.now.items ++ fatal code) c.error_code.ensures));
+          (λ e entries before leads rest. breaks entries _ rest before _ _ _ _ _ _ _ leads (frame_breaks _ _ _ c.in-Err.ensures.err c.in_default.not-OutOfMemory) (e ∙ ap (λ why. c.args.events.now.items ++ fatal why) c.reason.ensures));
     }

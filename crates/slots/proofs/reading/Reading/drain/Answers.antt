@@ -4,6 +4,7 @@ use Rattle.h2frame.specs.declared.error_code.ErrorCode.TheVariants.{NoError}
 use Rattle.outwriter.specs.declared.control.Control.{Control}
 use Rattle.outwriter.specs.declared.control.Control.TheVariants.{Goaway}
 use Rattle.outwriter.specs.Steps.{order_of}
+use Rattle.reasons.specs.declared.Reason.TheVariants as reason
 use Rattle.slots.specs.Lines.{calls_of}
 use Rattle.slots.specs.Steps.{Drains}
 use Rattle.slots.proofs.Lines.{calls-plain}
@@ -15,7 +16,7 @@ returns-clause-decides g c = λ told reads.
     let done = c.order.ensures in
     let last = c.drain-self.ensures.last told reads.slots in
     decides-now told Drains c.order.result _
-    (one-order c.order.result _ done.0 done.1 ∙ (ap (λ (order : Control Opened). order_of order ∷ []) c.goaway.ensures.order ∙ ap (λ (n : ℕ). Goaway n NoError ∷ []) last))
+    (one-order c.order.result _ done.0 done.1 ∙ (ap (λ (order : Control Opened). order_of order ∷ []) c.goaway.ensures.order ∙ ap (λ (n : ℕ). Goaway n (reason.Code NoError) ∷ []) last))
     done.3 done.2 (reads-drain told c.args.self.now _ last refl refl c.drain-self.ensures.heard reads)
 
 pub returns-clause-aligns : goal.returns-clause-aligns

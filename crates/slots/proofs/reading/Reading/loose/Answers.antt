@@ -1,8 +1,8 @@
 use Rattle.std.proofs.Common.{ℕ, ◌∷◌, ◌∙◌, [], ap, refl, subst, sym}
 use Rattle.connbook.specs.declared.answers.Receipt.{Receipt}
 use Rattle.connbook.specs.declared.answers.Receipt.TheVariants.{Overrun}
-use Rattle.h2frame.specs.declared.error_code.ErrorCode.TheVariants.{FlowControlError}
 use Rattle.outwriter.specs.declared.control.Control.TheVariants.{Goaway}
+use Rattle.reasons.specs.declared.Reason.TheVariants as reason
 use Rattle.session.specs.declared.event.InEvent.TheVariants as events
 use Rattle.slots.specs.Readings.{Decides}
 use Rattle.slots.specs.Steps.{Received, Told}
@@ -16,7 +16,7 @@ pub returns-in-Overrun-clause-decides : goal.returns-in-Overrun-clause-decides
 returns-in-Overrun-clause-decides g c = λ counted told reads.
     subst (λ (receipt : Receipt). Decides g.H.Worker.names told (Told (events.Loose counted) (Received receipt)) c.fatal.result c.args.self.now) (sym c.in-Overrun.is)
     (decides-now told (Told (events.Loose counted) (Received Overrun)) c.fatal.result _
-    (one-order c.fatal.result _ c.fatal.ensures.orders.0 c.fatal.ensures.orders.1 ∙ ap (λ (last : ℕ). Goaway last FlowControlError ∷ []) reads.counts.last_is)
+    (one-order c.fatal.result _ c.fatal.ensures.orders.0 c.fatal.ensures.orders.1 ∙ ap (λ (last : ℕ). Goaway last reason.Overrun ∷ []) reads.counts.last_is)
     c.fatal.ensures.ends.1 c.fatal.ensures.ends.0 (reads-idle told _ _ (quiet _ refl refl) refl (idle-loose counted (Received Overrun)) reads))
 
 pub returns-in_default-clause-decides : goal.returns-in_default-clause-decides

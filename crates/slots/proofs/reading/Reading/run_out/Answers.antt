@@ -1,10 +1,10 @@
 use Rattle.std.proofs.Common.{ℕ, ◌∷◌, ◌∙◌, [], Some, ap, refl}
 use Rattle.callslot.specs.declared.order.Opened.{Opened}
 use Rattle.callslot.specs.declared.report.Ending.TheVariants.{OutOfMemory}
-use Rattle.h2frame.specs.declared.error_code.ErrorCode.TheVariants.{InternalError}
 use Rattle.outwriter.specs.declared.control.Control.{Control}
 use Rattle.outwriter.specs.Steps.{order_of}
 use Rattle.outwriter.specs.declared.control.Control.TheVariants.{Goaway}
+use Rattle.reasons.specs.declared.Reason.TheVariants as reason
 use Rattle.slots.specs.declared.reading.Decided.{Decided}
 use Rattle.slots.specs.Steps.{Lacks}
 use Rattle.slots.proofs.Heard.{idle-lacks}
@@ -18,7 +18,7 @@ returns-clause-decides g c = λ told reads.
     let done = c.order.ensures in
     let decided : Decided = record c.order.result { ends = Some OutOfMemory } in
     decides-now told Lacks decided c.args.self.now
-    (one-order decided _ done.0 done.1 ∙ (ap (λ (order : Control Opened). order_of order ∷ []) c.goaway.ensures.order ∙ ap (λ (last : ℕ). Goaway last InternalError ∷ []) reads.counts.last_is))
+    (one-order decided _ done.0 done.1 ∙ (ap (λ (order : Control Opened). order_of order ∷ []) c.goaway.ensures.order ∙ ap (λ (last : ℕ). Goaway last reason.Memory ∷ []) reads.counts.last_is))
     refl done.2 (reads-idle told _ _ (quiet _ refl refl) refl idle-lacks reads)
 
 pub returns-clause-aligns : goal.returns-clause-aligns

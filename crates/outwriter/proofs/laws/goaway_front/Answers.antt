@@ -1,0 +1,5 @@
+use Rattle.std.proofs.Common.{refl}
+use Rattle.outwriter.proofs.laws.goaway_front.Goals as goal
+
+pub returns : goal.returns
+returns c = λ last reason. refl
