@@ -346,6 +346,57 @@ def parts(program):
     return count
 
 
+def unread(program, room):
+    """Nobody reads the lines on standard error until all cases are judged: none fails for that, and each line is there then."""
+    server = subprocess.Popen([program, "serve", "--any-port", "--port-file", f"{room}/port7"], stdin=subprocess.DEVNULL, stdout=subprocess.DEVNULL)
+    port = wait_for(f"{room}/port7")
+    words = [program, "case", "all", "--port", port, "--trace", "full", "--pcap", f"{room}/u.pcap"]
+    with subprocess.Popen(words, stdin=subprocess.DEVNULL, stdout=subprocess.PIPE, stderr=subprocess.PIPE, text=True) as client:
+        said = next((line for line in client.stdout if line.startswith("case: ")), "")
+        text = client.stderr.read()
+    want(client.returncode == 0 and re.match(r"case: \d+ cases, \d+ ok, 0 failed", said), f"unread lines: {client.returncode}, {said}")
+    server.terminate()
+    server.wait()
+    return adds_up("unread lines", by_conn(entries_of(text)), talks_of(text, read_bytes(room, "u.pcap")))
+
+
+def packets_of(data):
+    """The records of a capture."""
+    found, at = [], 24
+    while at < len(data):
+        size = 16 + int.from_bytes(data[at + 8 : at + 12], "little")
+        found.append(data[at : at + size])
+        at += size
+    return found
+
+
+def damaged(program, room):
+    """Of a capture that lacks packets, or its end, what is known yet is shown, and the rest isn't made up."""
+    data = read_bytes(room, "b.pcap" if os.path.exists(f"{room}/b.pcap") else "c.pcap")
+    packets = packets_of(data)
+    whole = run(program, "frames", stdin=as_file(room, data)).stdout.decode().splitlines()
+    place = next(place for place, packet in enumerate(packets) if place > 4 and len(packet) > 56)
+    lines = run(program, "frames", stdin=as_file(room, data[:24] + b"".join(packets[:place] + packets[place + 1 :]))).stdout.decode().splitlines()
+    told = [line for line in lines if " bytes are missing here, " in line]
+    want(len(told) == 1 and told[0].startswith("conn 1 "), f"a packet that is missing: {told}")
+    want(not set(lines) - set(whole) - set(told), "frames that never were, where a packet is missing")
+    lines = run(program, "frames", stdin=as_file(room, data[:24] + b"".join(packets[place + 1 : place + 40]))).stdout.decode().splitlines()
+    want("conn 1 began before the capture: nothing is told of it" in lines, f"a capture from its middle: {lines[:3]}")
+    lines = run(program, "frames", stdin=as_file(room, data[:24] + b"".join(packet + packet for packet in packets))).stdout.decode().splitlines()
+    want(lines == whole, f"packets that are sent twice: {len(lines)} lines of {len(whole)}")
+    cut = run(program, "frames", stdin=as_file(room, data[:-1]), status=2)
+    lines = cut.stdout.decode().splitlines()
+    want(len(lines) > len(whole) // 2 and not set(lines) - set(whole), f"a capture that is cut off: {len(lines)} lines of {len(whole)}")
+    want(b"bad input: the record at byte" in cut.stderr, f"a capture that is cut off: {cut.stderr!r}")
+
+
+def as_file(room, data):
+    """An open file with these bytes."""
+    with open(f"{room}/damaged.pcap", "wb") as file:
+        file.write(data)
+    return open(f"{room}/damaged.pcap", "rb")
+
+
 def refused(program, room):
     """What can't be written or read is told of."""
     server = subprocess.Popen([program, "serve", "--any-port", "--port-file", f"{room}/port3"], stdin=subprocess.DEVNULL, stdout=subprocess.DEVNULL)
@@ -353,6 +404,7 @@ def refused(program, room):
     done = run(program, "case", "empty_unary", "--port", port, "--trace-file", "/dev/full", status=3)
     want(b"case empty_unary ok" in done.stdout and b"the trace can't be written" in done.stderr, f"a full device: {done.stderr!r}")
     run(program, "case", "empty_unary", "--port", port, "--pcap", f"{room}/none/c.pcap", status=3)
+    run(program, "case", "empty_unary", "--port", port, "--trace-file", f"{room}/one", "--pcap", f"{room}/one", status=3)
     server.terminate()
     server.wait()
     run(program, "case", "--trace", "all", "--port", port, status=2)
@@ -361,6 +413,8 @@ def refused(program, room):
     with open(f"{room}/odd", "w") as file:
         file.write("505")
     run(program, "frames", f"{room}/odd", status=2)
+    run(program, "frames", f"{room}/client.hex", f"{room}/client.hex", status=2)
+    run(program, "frames", f"{room}/client.hex", f"{room}/client.hex", "--side", "server")
 
 
 def main(program):
@@ -370,6 +424,8 @@ def main(program):
         judged(program, room)
         tshark += explained(program, room)
         count = parts(program)
+        total += unread(program, room)
+        damaged(program, room)
         refused(program, room)
     print(f"trace: {total} bytes, {tshark} frames by tshark, {count} of parts-data, {wrong} wrong")
     return 1 if wrong else 0

@@ -95,11 +95,11 @@ where
 }
 
 /// Where it is written what passes, if the words say so.
-fn recorder_of<R: Files<File = File> + Eprint>(
-    rt: &R,
-    alloc: Global,
-    words: ServeWords<'_>,
-) -> io::Result<Option<Arc<Recorder>>> {
+fn recorder_of<R>(rt: &R, alloc: Global, words: ServeWords<'_>) -> io::Result<Option<Arc<Recorder>>>
+where
+    R: Files<File = File> + Eprint,
+    R: Threads + Wait + Copy + Send + Sync + Drop + 'static,
+{
     match Recorder::open(rt, alloc, words.tracing, words.record) {
         Ok(recorder) => Ok(recorder),
         Err(_said) => Err(unwritten()),
@@ -120,11 +120,14 @@ fn unwritten() -> io::Error {
 
 /// The server has stopped. It fails where it couldn't be written what passed.
 fn end(
-    rt: &impl Eprint,
+    rt: &(impl Wait + Eprint),
     recorder: &Option<Arc<Recorder>>,
     seconds: u16,
     left: &[Connection],
 ) -> io::Result<bool> {
+    if let Some(recorder) = recorder {
+        recorder.finish(rt);
+    }
     let has_ended = name_left(rt, seconds, left);
     match recorder {
         Some(recorder) if recorder.has_failed() => Err(unwritten()),

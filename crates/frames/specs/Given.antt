@@ -1,5 +1,5 @@
 -- What files have.
-use Rattle.std.specs.Prelude.{◌≡◌, List, [], ◌∷◌, Option, Some, None}
+use Rattle.std.specs.Prelude.{◌≡◌, List, [], ◌∷◌}
 use Rattle.capture.specs.declared.conversation.Side.{Side}
 use Rattle.capture.specs.declared.conversation.Side.TheVariants as sides
 use Rattle.trace.specs.declared.input.Sent.{Sent}

@@ -10,10 +10,15 @@ use trace::Form;
 /// What a client's bytes begin with (RFC 9113, section 3.4).
 const PREFACE: &[u8] = b"PRI * HTTP/2.0\r\n\r\nSM\r\n\r\n";
 
-/// The flags SYN and ACK of a segment (RFC 9293, section 3.1).
+/// The flags FIN, SYN and ACK of a segment (RFC 9293, section 3.1).
+const FIN: u8 = 0x01;
+
 const SYN: u8 = 0x02;
 
 const ACK: u8 = 0x10;
+
+/// Half of all sequence numbers. One that is so many ahead of another is behind it (RFC 9293, section 3.4).
+const HALF: u32 = 1 << 31;
 
 /// The microseconds of a second.
 const SECOND: u64 = 1_000_000;
@@ -27,6 +32,11 @@ struct Talk {
     begun: u64,
     last: u64,
     printing: Printing,
+    /// The sequence numbers with which the sides go on, once that is known.
+    client_next: Option<u32>,
+    server_next: Option<u32>,
+    /// Whether nothing can be told of what comes.
+    is_broken: bool,
 }
 
 /// The connections of a capture, in the order in which they began.
@@ -73,24 +83,18 @@ impl Talks {
         time: u64,
         output: &mut W,
     ) -> Result<(), FramesFault> {
-        if packet.head.flags.bits & (SYN | ACK) == SYN {
+        if packet.head.flags.bits & (SYN | ACK) == SYN && !self.has_begun(packet) {
             self.begin(packet.head.path, time)?;
         }
         let (talk, side) = match self.of(packet) {
             Some(found) => found,
             None if packet.payload.is_empty() => return Ok(()),
-            None => self.open(packet, time)?,
+            None => self.open(packet, time, output)?,
         };
-        let Some(talk) = self.all.as_mut_slice().get_mut(talk) else {
-            return Ok(());
-        };
-        talk.last = time;
-        talk.printing.sent(
-            time.saturating_sub(talk.begun),
-            side,
-            packet.payload.as_slice(),
-            output,
-        )
+        match self.all.as_mut_slice().get_mut(talk) {
+            Some(talk) => talk.take(packet, side, time, output),
+            None => Ok(()),
+        }
     }
 
     /// A connection begins.
@@ -101,8 +105,23 @@ impl Talks {
             begun,
             last: begun,
             printing: Printing::new(self.alloc, number, self.form),
+            client_next: None,
+            server_next: None,
+            is_broken: false,
         })?;
         Ok(())
+    }
+
+    /// Whether the SYN of this packet came before, and nothing of its client since: it is sent again.
+    fn has_begun(&self, packet: &Packet) -> bool {
+        let next = packet.head.sequence.wrapping_add(1);
+        for talk in self.all.as_slice() {
+            let is_same = side_of(&talk.path, packet) == Some(Side::Client);
+            if is_same && talk.client_next == Some(next) {
+                return true;
+            }
+        }
+        false
     }
 
     /// The last connection that a packet may be of, by its place, and who sent it.
@@ -116,16 +135,72 @@ impl Talks {
         found
     }
 
-    /// A connection of which the beginning is not in the capture: a client's first bytes are its preface.
-    fn open(&mut self, packet: &Packet, time: u64) -> Result<(usize, Side), AllocError> {
+    /// A connection whose first packets are not in the capture. Where these are a client's first bytes all of it can be told yet, and else
+    /// nothing.
+    fn open<W: ConnWrite>(
+        &mut self,
+        packet: &Packet,
+        time: u64,
+        output: &mut W,
+    ) -> Result<(usize, Side), FramesFault> {
         let place = self.all.len();
         if packet.payload.as_slice().starts_with(PREFACE) {
             self.begin(packet.head.path, time)?;
             return Ok((place, Side::Client));
         }
         self.begin(packet.head.path.back(), time)?;
+        if let Some(talk) = self.all.as_mut_slice().get_mut(place) {
+            talk.is_broken = true;
+            talk.printing.unbegun(output)?;
+        }
         Ok((place, Side::Server))
     }
+}
+
+impl Talk {
+    /// The next packet of a side came, at this time. One that is sent again is passed over. Behind bytes that are missing nothing is told:
+    /// where frames begin isn't known.
+    fn take<W: ConnWrite>(
+        &mut self,
+        packet: &Packet,
+        side: Side,
+        time: u64,
+        output: &mut W,
+    ) -> Result<(), FramesFault> {
+        self.last = time;
+        if self.is_broken {
+            return Ok(());
+        }
+        let passed = time.saturating_sub(self.begun);
+        let first = packet.head.sequence;
+        let due = match side {
+            Side::Client => self.client_next,
+            Side::Server => self.server_next,
+        };
+        let ahead = first.wrapping_sub(due.unwrap_or(first));
+        if ahead >= HALF {
+            return Ok(());
+        }
+        if ahead > 0 {
+            self.is_broken = true;
+            return self.printing.missing(passed, side, ahead, output);
+        }
+        let next = Some(first.wrapping_add(count_of(packet)));
+        match side {
+            Side::Client => self.client_next = next,
+            Side::Server => self.server_next = next,
+        }
+        self.printing
+            .sent(passed, side, packet.payload.as_slice(), output)
+    }
+}
+
+/// How many sequence numbers a packet takes (RFC 9293, section 3.4).
+fn count_of(packet: &Packet) -> u32 {
+    let flags = packet.head.flags.bits;
+    let flag_count = u32::from(flags & SYN != 0) + u32::from(flags & FIN != 0);
+    let byte_count = u32::try_from(packet.payload.len()).unwrap_or(u32::MAX);
+    byte_count.wrapping_add(flag_count)
 }
 
 fn micros_of(time: Time) -> u64 {

@@ -15,6 +15,8 @@ pub enum FramesFault {
     BadInput(InputFault),
     /// One of two files has both sides.
     BothSides,
+    /// Which of two files has the client's bytes isn't known.
+    SameSide,
     /// Standard input, or a file, can't be read.
     ReadFailed,
     /// A line can't be written.

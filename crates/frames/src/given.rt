@@ -4,19 +4,22 @@ ghost use Rattle.std.specs.Prelude.{◌≡◌, IfOk};
 ghost use Rattle.frames.specs.Given.{AreBoth, side_of};
 
 use crate::fault::FramesFault;
-use capture::{Packet, Side, read};
+use capture::{CaptureFault, Packet, Side, read};
 use std::alloc::Global;
-use trace::{Sent, sent_of};
+use trace::{InputFault, Sent, sent_of};
 use words::Side as Named;
 
 /// What a capture in microseconds begins with.
 const MAGIC: &[u8] = b"\xd4\xc3\xb2\xa1";
 
+/// The bytes before a capture's first record.
+const FILE_HEAD: usize = 24;
+
 /// What a file has.
 #[derive(Drop)]
 pub enum Given {
-    /// The packets of a capture, of any number of connections.
-    Packets(Vec<Packet>),
+    /// The packets of a capture, of any number of connections, and why there are no more of them, where its end can't be read.
+    Packets(Vec<Packet>, Option<InputFault>),
     /// What the sides of one connection sent.
     Pieces(Vec<Sent>),
 }
@@ -24,7 +27,7 @@ pub enum Given {
 /// What a file has. Where it has one side alone, it is this one, if one is named.
 pub fn given_by(alloc: Global, file: &[u8], named: Option<Named>) -> Result<Given, FramesFault> {
     if file.starts_with(MAGIC) {
-        return Ok(Given::Packets(read(alloc, file)?));
+        return packets_of(alloc, file);
     }
     let mut pieces = sent_of(alloc, file)?;
     if pieces.len() == 1 {
@@ -33,8 +36,25 @@ pub fn given_by(alloc: Global, file: &[u8], named: Option<Named>) -> Result<Give
     Ok(Given::Pieces(pieces))
 }
 
-/// What two files have, which have a side each: the second has the client's, if it alone begins with its preface, or that is said of
-/// the first.
+/// The packets of a capture up to the first record that can't be read.
+fn packets_of(alloc: Global, file: &[u8]) -> Result<Given, FramesFault> {
+    let fault = match read(alloc, file) {
+        Ok(packets) => return Ok(Given::Packets(packets, None)),
+        Err(fault) => fault,
+    };
+    let CaptureFault::Record(at) = fault else {
+        return Err(FramesFault::from(fault));
+    };
+    let whole = file.get(..FILE_HEAD.saturating_add(at)).unwrap_or(file);
+    let packets = read(alloc, whole)?;
+    Ok(Given::Packets(packets, Some(InputFault::Capture(fault))))
+}
+
+/// What two files have, which have a side each: the client's begins with its preface, or it is said which the first has.
+///
+/// # Errors
+///
+/// `SameSide` where that isn't said, and both begin with the preface, or neither.
 pub fn both_of(
     alloc: Global,
     first: &[u8],
@@ -47,8 +67,8 @@ pub fn both_of(
     let mut second = one_of(alloc, second)?;
     let side = match named {
         Some(named) => side_of(named),
-        None if second.side == Side::Client => first.side,
-        None => Side::Client,
+        None if first.side == second.side => return Err(FramesFault::SameSide),
+        None => first.side,
     };
     first.side = side;
     second.side = side.other();

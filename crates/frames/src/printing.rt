@@ -6,6 +6,9 @@ use device::{ConnWrite, write_all};
 use std::alloc::Global;
 use trace::{Form, Line, Shown, Trace};
 
+/// The microseconds of a second.
+const SECOND: u64 = 1_000_000;
+
 /// How many bytes a trace is told at once.
 const PIECE: usize = 65_536;
 
@@ -42,6 +45,37 @@ impl Printing {
             let lines = self.trace.sent(time, side, piece)?;
             print(self.alloc, self.number, self.form, lines.as_slice(), output)?;
         }
+        Ok(())
+    }
+
+    /// The connection began before what is known of it.
+    pub fn unbegun<W: ConnWrite>(&mut self, output: &mut W) -> Result<(), FramesFault> {
+        let number = self.number;
+        let mut text = String::new(self.alloc);
+        writeln!(
+            text,
+            "conn {number} began before the capture: nothing is told of it"
+        )?;
+        write_all(output, text.as_bytes())?;
+        Ok(())
+    }
+
+    /// So many bytes of a side are missing.
+    pub fn missing<W: ConnWrite>(
+        &mut self,
+        time: u64,
+        side: Side,
+        count: u32,
+        output: &mut W,
+    ) -> Result<(), FramesFault> {
+        let number = self.number;
+        let (seconds, micros) = (time / SECOND, time % SECOND);
+        let mut text = String::new(self.alloc);
+        writeln!(
+            text,
+            "conn {number} {seconds}.{micros:06} {side}: {count} bytes are missing here, no more is told of it"
+        )?;
+        write_all(output, text.as_bytes())?;
         Ok(())
     }
 

@@ -15,7 +15,8 @@ use words::FramesWords;
 ///
 /// # Errors
 ///
-/// `ReadFailed` where a file can't be read; standard error says which, and why.
+/// `ReadFailed` where a file can't be read; standard error says which, and why. Where the end of a capture can't be read, `BadInput`
+/// comes once the frames before it are printed.
 pub fn run_frames<R, I, W>(
     rt: &R,
     words: &FramesWords<'_>,
@@ -43,7 +44,13 @@ where
         }
     };
     match given_by(alloc, file.as_slice(), words.side)? {
-        Given::Packets(packets) => print_capture(alloc, packets.as_slice(), form, output),
+        Given::Packets(packets, fault) => {
+            print_capture(alloc, packets.as_slice(), form, output)?;
+            match fault {
+                Some(fault) => Err(FramesFault::BadInput(fault)),
+                None => Ok(()),
+            }
+        }
         Given::Pieces(pieces) => print_pieces(alloc, pieces.as_slice(), form, output),
     }
 }

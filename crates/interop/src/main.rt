@@ -90,6 +90,12 @@ where
     match run_frames(rt, words, &mut input, &mut output) {
         Ok(()) => 0,
         Err(FramesFault::BothSides) => complain(rt, "one of two files has both sides"),
+        Err(FramesFault::SameSide) => {
+            complain(
+                rt,
+                "of two files one begins with a client's preface, or --side says what the first has",
+            )
+        }
         Err(FramesFault::BadInput(fault)) => {
             let _said = eprintln!(rt; "interop: bad input: {fault}");
             BAD_WORDS
@@ -123,7 +129,7 @@ where
 fn try_client<R>(rt: &R, words: MisbehaveWords<'_>, is_shown: bool) -> u8
 where
     R: Net<Stream = TcpStream, Listener = TcpListener> + Print + Eprint + AllocGlobal,
-    R: Files<File = File> + Wait + Clock + Copy + Drop,
+    R: Files<File = File> + Threads + Wait + Clock + Copy + Send + Sync + Drop + 'static,
 {
     let mut output = Marked::new(io::writer(rt));
     status_of(run_misbehave(*rt, words, is_shown, &mut output))

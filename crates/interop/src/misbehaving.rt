@@ -10,8 +10,9 @@ use std::fs::File;
 use std::net::Net;
 use std::rt::Files;
 use std::sync::Wait;
+use std::thread::Threads;
 use std::time::Clock;
-use trials::{TrialFault, Verdict, choice_of, refuse_choice, unless_failed};
+use trials::{TrialFault, Verdict, choice_of, end_run, refuse_choice};
 use words::{LOOPBACK, MisbehaveRun, MisbehaveWords};
 
 /// Lists the misbehaviours, or runs those that the words choose, and tells what came of each. Where `is_shown`, standard error is
@@ -23,7 +24,8 @@ pub fn run_misbehave<R, W>(
     output: &mut W,
 ) -> Result<Verdict, TrialFault>
 where
-    R: Net + Files<File = File> + Eprint + AllocGlobal + Wait + Clock + Copy + Drop,
+    R: Net + Files<File = File> + Eprint + AllocGlobal + Clock,
+    R: Threads + Wait + Copy + Send + Sync + Drop + 'static,
     W: ConnWrite,
 {
     let alloc = rt.alloc();
@@ -52,8 +54,8 @@ where
     }
     let recorder = Recorder::open(&rt, alloc, words.tracing, None)?;
     let net = Overlooked::new(rt, &recorder);
-    let verdict = run_chosen(rt, net, alloc, places.as_slice(), &words, is_shown, output)?;
-    unless_failed(&recorder, verdict)
+    let verdict = run_chosen(rt, net, alloc, places.as_slice(), &words, is_shown, output);
+    end_run(&rt, &recorder, verdict)
 }
 
 /// Says that there is no misbehaviour of this name, and which there are.

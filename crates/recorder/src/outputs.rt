@@ -1,9 +1,11 @@
 //! The places that all connections share.
 
+use crate::backlog::Backlog;
 use crate::notes::Entry;
 use std::fs::File;
 use std::io;
 use std::io::Write;
+use std::sync::{Arc, Wait};
 
 /// Where lines are written.
 #[derive(Drop)]
@@ -11,7 +13,7 @@ pub enum Lines {
     /// Nowhere: there are none.
     Nowhere,
     /// On standard error.
-    Standard,
+    Standard(Arc<Backlog>),
     File(File),
 }
 
@@ -36,17 +38,18 @@ impl Unwritten {
 }
 
 impl Outputs {
-    /// Writes the whole of it, each kind at once.
-    pub fn write(&mut self, rt: &impl Eprint, entry: &Entry) -> Result<(), Unwritten> {
+    /// Writes the whole of it, each kind at once. Lines for standard error are left to the thread that prints them.
+    pub fn write(&mut self, rt: &impl Wait, entry: &Entry) -> Result<(), Unwritten> {
         let lines = entry.lines.as_str();
         if !lines.is_empty() {
-            let written = match &mut self.lines {
-                Lines::Nowhere => Ok(()),
-                Lines::Standard => eprint!(rt; "{lines}"),
-                Lines::File(file) => file.write_all(lines.as_bytes()),
-            };
-            if let Err(why) = written {
-                return Err(Unwritten::new("the trace", why));
+            match &mut self.lines {
+                Lines::Nowhere => {}
+                Lines::Standard(backlog) => backlog.leave(rt, lines),
+                Lines::File(file) => {
+                    if let Err(why) = file.write_all(lines.as_bytes()) {
+                        return Err(Unwritten::new("the trace", why));
+                    }
+                }
             }
         }
         self.capture(entry.records.as_slice())

@@ -3,6 +3,7 @@
 ghost use Rattle.std.specs.Prelude.{◌↔◌, IsNone, IfOk};
 ghost use Rattle.recorder.specs.Noted.{IsQuiet};
 
+use crate::backlog::Backlog;
 use crate::fault::RecorderFault;
 use crate::notes::{Entry, Wish};
 use crate::outputs::{Lines, Outputs, Unwritten};
@@ -14,6 +15,7 @@ use std::io::{ErrorKind, Write};
 use std::rt::Files;
 use std::sync::atomic::{AtomicBool, AtomicU64, Ordering};
 use std::sync::{Arc, Mutex, Wait};
+use std::thread::Threads;
 use std::{fs, io};
 use trace::Form;
 use words::{TraceForm, Tracing};
@@ -28,33 +30,44 @@ pub struct Recorder {
     /// How many connections have begun that have no number otherwise.
     begun: AtomicU64,
     outputs: Mutex<Outputs>,
+    /// The lines that wait for standard error, where they go there.
+    backlog: Option<Arc<Backlog>>,
     /// Whether something couldn't be written.
     has_failed: AtomicBool,
 }
 
 impl Recorder {
-    /// Makes the files that the words name, and the folder, if they name any. None, where nothing is to be written.
+    /// Makes the files that the words name, and the folder, if they name any. None, where nothing is to be written. Lines for standard
+    /// error get a thread: who opens the recorder has to `finish` it.
     ///
     /// # Errors
     ///
-    /// `NotMade` of a file or the folder; standard error says why.
-    pub fn open<R: Files<File = File> + Eprint>(
+    /// `NotMade` of a file, the folder or the thread, and where two files have one name; standard error says why.
+    pub fn open<R>(
         rt: &R,
         alloc: Global,
         words: Tracing<'_>,
         folder: Option<&str>,
     ) -> Result<Option<Arc<Recorder>>, RecorderFault>
+    where
+        R: Files<File = File> + Eprint,
+        R: Threads + Wait + Copy + Send + Sync + Drop + 'static,
         ensures none { IfOk result (λ made. IsNone made ↔ IsQuiet words.entry folder.entry) }
     {
         if words.form.is_none() && words.capture.is_none() && folder.is_none() {
             return Ok(None);
         }
+        if has_one_name(words) {
+            let _said = eprintln!(rt; "interop: the trace and the capture can't be one file");
+            return Err(RecorderFault::NotMade);
+        }
         let wish = Wish {
             form: words.form.map(form_of),
             has_capture: words.capture.is_some(),
         };
+        let backlog = backlog_of(rt, alloc, words)?;
         let outputs = Outputs {
-            lines: lines_of(rt, words)?,
+            lines: lines_of(rt, words, &backlog)?,
             capture: match words.capture {
                 Some(name) => Some(new_capture(rt, name)?),
                 None => None,
@@ -70,14 +83,30 @@ impl Recorder {
             folder,
             begun: AtomicU64::new(0),
             outputs: Mutex::new(outputs),
+            backlog,
             has_failed: AtomicBool::new(false),
         };
         Ok(Some(Arc::new(alloc, recorder)?))
     }
 
+    /// No more comes. It returns once the lines that wait for standard error are printed.
+    pub fn finish(&self, rt: &impl Wait) {
+        if let Some(backlog) = &self.backlog {
+            backlog.finish(rt);
+        }
+    }
+
     /// Whether something couldn't be written.
     pub fn has_failed(&self) -> bool {
-        self.has_failed.load(Ordering::SeqCst)
+        self.has_failed.load(Ordering::SeqCst) || self.has_failed_lines()
+    }
+
+    /// Whether a line couldn't be printed on standard error.
+    fn has_failed_lines(&self) -> bool {
+        match &self.backlog {
+            Some(backlog) => backlog.has_failed(),
+            None => false,
+        }
     }
 
     /// The file with the bytes of the connection of this number, where there is one.
@@ -146,15 +175,44 @@ fn form_of(form: TraceForm) -> Form {
     }
 }
 
+/// Whether lines and a capture would go to one file.
+fn has_one_name(words: Tracing<'_>) -> bool {
+    match (words.lines, words.capture) {
+        (Some(lines), Some(capture)) => lines == capture,
+        _ => false,
+    }
+}
+
+/// The lines that wait for standard error, where they go there.
+fn backlog_of<R>(
+    rt: &R,
+    alloc: Global,
+    words: Tracing<'_>,
+) -> Result<Option<Arc<Backlog>>, RecorderFault>
+where
+    R: Threads + Wait + Eprint + Copy + Send + Sync + Drop + 'static,
+{
+    if !words.is_shown() {
+        return Ok(None);
+    }
+    match Backlog::begin(rt, alloc) {
+        Ok(backlog) => Ok(Some(backlog)),
+        Err(why) => Err(unmade(rt, "standard error", &why)),
+    }
+}
+
 /// Where lines are written, if there are any.
 fn lines_of<R: Files<File = File> + Eprint>(
     rt: &R,
     words: Tracing<'_>,
+    backlog: &Option<Arc<Backlog>>,
 ) -> Result<Lines, RecorderFault> {
+    if let Some(backlog) = backlog {
+        return Ok(Lines::Standard(Arc::try_clone(backlog)?));
+    }
     match (words.form, words.lines) {
-        (None, _) => Ok(Lines::Nowhere),
-        (Some(_), None) => Ok(Lines::Standard),
         (Some(_), Some(name)) => Ok(Lines::File(create(rt, name)?)),
+        _ => Ok(Lines::Nowhere),
     }
 }
 

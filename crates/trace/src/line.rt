@@ -17,6 +17,9 @@ use std::fmt;
 /// The microseconds of a second.
 const SECOND: u64 = 1_000_000;
 
+/// Of how many messages in one frame of DATA short lines tell at most.
+const MOST_PARTS: usize = 8;
+
 /// How much a line says.
 #[derive(Clone, Copy, Debug, PartialEq, Eq)]
 pub enum Form {
@@ -163,9 +166,7 @@ impl Shown<'_> {
                 stream,
                 is_cut,
             } => {
-                for part in parts {
-                    write!(f, ": {part}")?;
-                }
+                self.parts(f, parts.as_slice())?;
                 if *is_cut {
                     write!(f, ": the stream ends inside it")?;
                 }
@@ -174,6 +175,23 @@ impl Shown<'_> {
             Told::Credit(change) => write!(f, ": {change}"),
             Told::Resized(change) => write!(f, "; windows of streams: {change}"),
         }
+    }
+
+    /// What DATA have of messages. Of many the first are shown alone, unless all bytes are wanted.
+    fn parts<W: fmt::Write>(&self, f: &mut fmt::Formatter<W>, parts: &[Part]) -> fmt::Result {
+        let count = match self.form {
+            Form::Short => MOST_PARTS,
+            Form::Full => parts.len(),
+        };
+        for part in parts.iter().take(count) {
+            write!(f, ": {part}")?;
+        }
+        let more = parts.len().saturating_sub(count);
+        if more == 0 {
+            return Ok(());
+        }
+        let more = Grouped(more as u64);
+        write!(f, ": {more} more messages")
     }
 
     fn block<W: fmt::Write>(&self, f: &mut fmt::Formatter<W>, block: &Block) -> fmt::Result {

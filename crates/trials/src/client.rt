@@ -11,7 +11,7 @@ use crate::connecting::{Place, connect};
 use crate::load::load_case;
 use crate::soak::run_soak;
 use crate::tally::{Tally, push_tally};
-use crate::trial::{TrialFault, Verdict, choice_of, refuse_choice, unless_failed};
+use crate::trial::{TrialFault, Verdict, choice_of, end_run, refuse_choice};
 use cases::{Case, CaseFault, Limit, ReportFault, Soak, Windows, print_line, push_line, run_all};
 use device::{ConnWrite, write_all};
 use recorder::Recorder;
@@ -145,20 +145,37 @@ where
         is_shown: is_shown && !words.tracing.is_shown(),
     };
     let recorder = Recorder::open(&rt, rt.alloc(), words.tracing, None)?;
+    let verdict = run_recorded(rt, places, words, run, &recorder, output);
+    end_run(&rt, &recorder, verdict)
+}
+
+/// Runs the cases at these places of the names, where it is written what passes, and tells what came of each.
+fn run_recorded<R, W>(
+    rt: R,
+    places: &[usize],
+    words: &CaseRun<'_>,
+    run: Run<'_, '_>,
+    recorder: &Option<Arc<Recorder>>,
+    output: &mut W,
+) -> Result<Verdict, TrialFault>
+where
+    R: Net<Stream = TcpStream, Listener = TcpListener> + Files<File = File> + Eprint + AllocGlobal,
+    R: Clock + Threads + Wait + Copy + Send + Sync + Drop + 'static,
+    W: ConnWrite,
+{
     let mut sinks = Sinks::open(rt, rt.alloc(), run)?;
     'runs: for _ in 0..words.reporting.repeat {
         for place in places {
             let Some(name) = NAMES.get(*place) else {
                 continue;
             };
-            run_named(rt, name, words, &recorder, &mut sinks, output)?;
+            run_named(rt, name, words, recorder, &mut sinks, output)?;
             if sinks.is_over() {
                 break 'runs;
             }
         }
     }
-    let verdict = Verdict::from(sinks.close(output)?);
-    unless_failed(&recorder, verdict)
+    Ok(Verdict::from(sinks.close(output)?))
 }
 
 /// Runs the case or the soak of this name, as the words say, and tells what came of it.

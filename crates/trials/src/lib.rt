@@ -20,5 +20,5 @@ mod wire_cases;
 pub use attempt::{Target, outcome_by, outcomes_of, passed_since, print_summary};
 pub use client::{PATIENCE, run_all_cases, run_case};
 pub use connecting::{Place, set_ticks, without_brackets};
-pub use trial::{TrialFault, Verdict, choice_of, refuse_choice, unless_failed};
+pub use trial::{TrialFault, Verdict, choice_of, end_run, refuse_choice};
 pub use wire_cases::run_wire;

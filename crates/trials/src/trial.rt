@@ -9,7 +9,7 @@ use recorder::{Recorder, RecorderFault};
 use results::{Choice, ChoiceFault};
 use sinks::SinkFault;
 use std::alloc::{AllocError, AllocFailed};
-use std::sync::Arc;
+use std::sync::{Arc, Wait};
 use wire::WireFault;
 use words::Reporting;
 
@@ -127,13 +127,19 @@ pub fn refuse_choice(rt: &impl Eprint, fault: ChoiceFault<'_>) -> Result<Verdict
     Ok(Verdict::UnknownCase)
 }
 
-/// The verdict, unless it couldn't be written what passed.
-pub fn unless_failed(
+/// A run is over, and nothing more passes: its verdict, unless it couldn't be written what passed.
+pub fn end_run(
+    rt: &impl Wait,
     recorder: &Option<Arc<Recorder>>,
-    verdict: Verdict,
+    verdict: Result<Verdict, TrialFault>,
 ) -> Result<Verdict, TrialFault> {
-    match recorder {
-        Some(recorder) if recorder.has_failed() => Err(TrialFault::Failed),
-        _ => Ok(verdict),
+    let Some(recorder) = recorder else {
+        return verdict;
+    };
+    recorder.finish(rt);
+    let verdict = verdict?;
+    if recorder.has_failed() {
+        return Err(TrialFault::Failed);
     }
+    Ok(verdict)
 }

@@ -2,7 +2,7 @@
 
 use crate::connecting::{Place, connect};
 use crate::desk::{Desk, NO_ANSWER, Round};
-use crate::trial::{TrialFault, Verdict, choice_of, refuse_choice, unless_failed};
+use crate::trial::{TrialFault, Verdict, choice_of, end_run, refuse_choice};
 use cases::Limit;
 use device::ConnWrite;
 use lane::Bell;
@@ -174,10 +174,43 @@ where
         is_shown: is_shown && !words.tracing.is_shown(),
     };
     let recorder = Recorder::open(&rt, alloc, words.tracing, None)?;
+    let plan = Plan {
+        cases: cases.as_slice(),
+        places: places.as_slice(),
+        words: &words,
+    };
+    let verdict = run_recorded(rt, plan, run, &recorder, output);
+    end_run(&rt, &recorder, verdict)
+}
+
+/// Which cases are run, and how.
+#[derive(Clone, Copy)]
+struct Plan<'a> {
+    /// All that there are, and the places of those that are run.
+    cases: &'a [Case],
+    places: &'a [usize],
+    words: &'a WireRun<'a>,
+}
+
+/// Runs cases, where it is written what passes, and tells what came of each.
+fn run_recorded<R, W>(
+    rt: R,
+    plan: Plan<'_>,
+    run: Run<'_, '_>,
+    recorder: &Option<Arc<Recorder>>,
+    output: &mut W,
+) -> Result<Verdict, TrialFault>
+where
+    R: Net<Stream = TcpStream, Listener = TcpListener> + Files<File = File> + Eprint + AllocGlobal,
+    R: Clock + Threads + Wait + Copy + Send + Sync + Drop + 'static,
+    W: ConnWrite,
+{
+    let alloc = rt.alloc();
+    let words = plan.words;
     let mut sinks = Sinks::open(rt, alloc, run)?;
     for _ in 0..words.reporting.repeat {
-        let chosen = picked(alloc, cases.as_slice(), places.as_slice())?;
-        match run_round(rt, alloc, chosen, &words, &recorder, &mut sinks, output)? {
+        let chosen = picked(alloc, plan.cases, plan.places)?;
+        match run_round(rt, alloc, chosen, words, recorder, &mut sinks, output)? {
             Round::Done => {}
             Round::Enough => break,
             Round::Dead => {
@@ -188,8 +221,7 @@ where
             Round::Lost(why) => return lose(&rt, why.as_str(), &mut sinks, output),
         }
     }
-    let verdict = Verdict::from(sinks.close(output)?);
-    unless_failed(&recorder, verdict)
+    Ok(Verdict::from(sinks.close(output)?))
 }
 
 /// Ends a run for which there is no connection to the server any more, and says why.
