@@ -96,6 +96,8 @@ impl Accounts {
         requires { place < length (items_of self.old.full self.old.last) }
         ensures items { items_of self.new.full self.new.last
             ≡ set (items_of self.old.full self.old.last) place account }
+        ensures room { has_room self.new.count self.new.last
+            ≡ has_room self.old.count self.old.last }
     {
         let before = self.count - self.last.len();
         if place < before {

@@ -41,6 +41,17 @@ still-apart : (told : List Step) (step : Step) (id : ℕ) → ((other : ℕ) →
 still-apart told step id above apart =
     list_any-append (nat_eq id) (admitted told) (once (admitted_by step)) ∙ ap (λ (b : Bool). b || list_any (nat_eq id) (once (admitted_by step))) apart ∙ not-now (admitted_by step) id above
 
+module _ {names : List ℕ → ℕ → Type 0} where
+  unserved-step : (told : List Step) (step : Step) (account : CallAccount) → ((other : ℕ) → admitted_by step ≡ Some other → account.id < other) → IsUnserved names told account → IsUnserved names (step ∷ told) account
+  unserved-step told step account above is = record {
+    head = is.head;
+    apart = still-apart told step account.id above is.apart;
+    opened =
+        (let o = is.opened in (o.0, step ∷ o.1, o.2, ap (λ (steps : List Step). step ∷ steps) o.3));
+    named = is.named;
+    bare = is.bare;
+  }
+
 module _ {known : ℕ → List (List ℕ) → Bool → Answer → Type 0} {names : List ℕ → ℕ → Type 0} {carries : ℕ → List OutItem → Type 0} where
   pub settled-step : (told : List Step) (step : Step) (account : CallAccount) → IsRising told → Rises told step → IsSettled known names carries told account → IsSettled known names carries (step ∷ told) account
   settled-step told step account rising rises is =
@@ -59,16 +70,6 @@ module _ {known : ℕ → List (List ℕ) → Bool → Answer → Type 0} {names
         stands = is.stands;
         carried = is.carried;
       }
-
-  unserved-step : (told : List Step) (step : Step) (account : CallAccount) → ((other : ℕ) → admitted_by step ≡ Some other → account.id < other) → IsUnserved names told account → IsUnserved names (step ∷ told) account
-  unserved-step told step account above is = record {
-    head = is.head;
-    apart = still-apart told step account.id above is.apart;
-    opened =
-        (let o = is.opened in (o.0, step ∷ o.1, o.2.0, ap (λ (steps : List Step). step ∷ steps) o.2.1));
-    named = is.named;
-    bare = is.bare;
-  }
 
   pub accounted-step : (told : List Step) (step : Step) (account : CallAccount) → IsRising told → Rises told step → ((other : ℕ) → admitted_by step ≡ Some other → account.id < other)
       → IsAccounted known names carries told account → IsAccounted known names carries (step ∷ told) account

@@ -1,7 +1,7 @@
 -- What was heard, one after another.
 use Rattle.std.proofs.Common.{◌≡◌, ◌≢◌, ℕ, Option, None, Some, List, eq-eqb, refl, subst}
 use Rattle.readerloop.specs.Steps.{Fate, Plain, Admitted, Unserved, Unknown, TurnedAway, Received, Missed, Lacking, Told, Drains, Lacks, admitted_by, reported_by}
-use Rattle.std.specs.Prelude.{IfErr, OnErr, OnOk, Result, Ok, Err}
+use Rattle.std.specs.Prelude.{IfErr, IfSome, OnErr, OnOk, Result, Ok, Err}
 use Rattle.h2frame.specs.declared.error_code.ErrorCode.{ErrorCode}
 use Rattle.callhead.specs.declared.head.CallHead.{CallHead}
 use Rattle.callhead.specs.declared.fault.HeadFault.{HeadFault}
@@ -91,3 +91,7 @@ ok-map (Err fault) follows p = tt
 pub err-map : {A E P Q : Type 0} (result : Result A E) → (P → Q) → OnErr result P → OnErr result Q
 err-map (Ok value) follows p = tt
 err-map (Err fault) follows p = follows p
+
+pub some-map : {A : Type 0} (found : Option A) (P Q : A → Type 0) → ((value : A) → P value → Q value) → IfSome found P → IfSome found Q
+some-map None P Q follows p = tt
+some-map (Some value) P Q follows p = follows value p

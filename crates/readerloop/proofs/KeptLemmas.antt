@@ -22,11 +22,11 @@ below-last (step ∷ before) rising = below-with (admitted_by step) (admitted be
 
 among : (id : ℕ) (ids : List ℕ) → list_any (nat_eq id) ids ≡ true → Contains ids id
 among id [] is = absurd cc
-among id (first ∷ ids) is = by (nat_eq id first) refl is
+among id (first ∷ ids) is = by (nat_eq id first) refl is (λ some. among id ids some)
   where
-    by : (here : Bool) → nat_eq id first ≡ here → (here || list_any (nat_eq id) ids) ≡ true → Contains (first ∷ ids) id
-    by true same some = (0, omega arith, sym (eqb-true id first same))
-    by false same some = let rest = among id ids some in (suc rest.0, omega (arith, rest.1), rest.2)
+    by : (here : Bool) → nat_eq id first ≡ here → (here || list_any (nat_eq id) ids) ≡ true → (list_any (nat_eq id) ids ≡ true → Contains ids id) → Contains (first ∷ ids) id
+    by true same some behind = (0, omega arith, sym (eqb-true id first same))
+    by false same some behind = let rest = behind some in (suc rest.0, omega (arith, rest.1), rest.2)
 
 -- nor is one that was admitted
 pub known-below : (told : List Step) → IsRising told → (id : ℕ) → is_admitted id told ≡ true → id ≤ last_of told

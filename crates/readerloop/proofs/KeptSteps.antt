@@ -66,7 +66,7 @@ greatest-above (first ∷ ids) id low =
 
 below-greatest : (ids : List ℕ) → All (λ (id : ℕ). id ≤ greatest ids) ids
 below-greatest [] = All-nil (λ (id : ℕ). id ≤ 0)
-below-greatest (first ∷ ids) k d within = by k within
+below-greatest (first ∷ ids) k d within = by k within (below-greatest ids)
   where
     left : (a b : ℕ) → a ≤ max a b
     left a b = grind arith
@@ -74,9 +74,9 @@ below-greatest (first ∷ ids) k d within = by k within
     right : (a b c : ℕ) → c ≤ b → c ≤ max a b
     right a b c low = grind (arith, low)
 
-    by : (k : ℕ) → k < length (first ∷ ids) → get_or (first ∷ ids) k d ≤ max first (greatest ids)
-    by zero within = left first (greatest ids)
-    by (suc k) within = right first (greatest ids) (get_or ids k d) (below-greatest ids k d (omega (arith, within)))
+    by : (k : ℕ) → k < length (first ∷ ids) → All (λ (id : ℕ). id ≤ greatest ids) ids → get_or (first ∷ ids) k d ≤ max first (greatest ids)
+    by zero within behind = left first (greatest ids)
+    by (suc k) within behind = right first (greatest ids) (get_or ids k d) (behind k d (omega (arith, within)))
 
 -- ---- ids that are distinct
 
@@ -286,7 +286,7 @@ get-left ids id n x found =
 
 get-last : (ids : List ℕ) (id n : ℕ) → n ≡ length ids → slice_get (ids ++ id ∷ []) n ≡ Some id
 get-last ids id n is =
-    slice_get-get_or (ids ++ id ∷ []) n 0 (omega (arith, is, length_push ids id)) ∙ ap (λ (m : ℕ). Some m) (get_or_push ids id 0 n is)
+    slice_get-get_or (ids ++ id ∷ []) n 0 (omega (arith, is, length_push ids id)) ∙ ap (λ (m : ℕ). Some m) (get_or_push ids id 0 n (sym is))
 
 module _ {J : Type 0} {book : Ghosts J} {known : ℕ → List (List ℕ) → Bool → Answer → Type 0} {names : List ℕ → ℕ → Type 0} {carries : ℕ → List OutItem → Type 0} where
   module _ (told : List Step) (calls : List (Call J book)) (accounts : List CallAccount) (last id : ℕ) (above : last < id) (going : is_draining told ≡ false) (k : AreKept known names carries told calls accounts last) where
@@ -445,7 +445,7 @@ module _ {J : Type 0} {book : Ghosts J} {known : ℕ → List (List ℕ) → Boo
         where
           by : (found : Bool) → nat_eq x y ≡ found → nat_eq x y ≡ nat_eq y x
           by true yes = yes ∙ sym (eq-eqb y x (sym (eqb-true x y yes)))
-          by false no = no ∙ sym (ne_eqb y x (λ same. true≢false (sym (eq-eqb x y (sym same)) ∙ no)))
+          by false other = other ∙ sym (ne_eqb y x (λ same. true≢false (sym (eq-eqb x y (sym same)) ∙ other)))
 
 module _ {J : Type 0} {book : Ghosts J} {known : ℕ → List (List ℕ) → Bool → Answer → Type 0} {names : List ℕ → ℕ → Type 0} {carries : ℕ → List OutItem → Type 0} where
   -- calls of which nothing is changed that is spoken of
@@ -455,13 +455,13 @@ module _ {J : Type 0} {book : Ghosts J} {known : ℕ → List (List ℕ) → Boo
       (subst (λ (found : List CallAccount). AreKept known names carries told (unsettled old) found new.last) (sym accounts)
       (subst (λ (n : ℕ). AreKept known names carries told (unsettled old) (accounts_of old) n) (sym last) k))
 
-module _ {J : Type 0} {book : Ghosts J} {known : ℕ → List (List ℕ) → Bool → Answer → Type 0} {names : List ℕ → ℕ → Type 0} {carries : ℕ → List OutItem → Type 0} where
-  open-unclosed : (half : Half) → is_open half ≡ true → is_none (shown half).closing ≡ true
-  open-unclosed (Open feeder) is = refl
-  open-unclosed (Closed end) is = absurd cc
-  open-unclosed (Missed feeder) is = absurd cc
-  open-unclosed Moving is = absurd cc
+open-unclosed : (half : Half) → is_open half ≡ true → is_none (shown half).closing ≡ true
+open-unclosed (Open feeder) is = refl
+open-unclosed (Closed end) is = absurd cc
+open-unclosed (Missed feeder) is = absurd cc
+open-unclosed Moving is = absurd cc
 
+module _ {J : Type 0} {book : Ghosts J} {known : ℕ → List (List ℕ) → Bool → Answer → Type 0} {names : List ℕ → ℕ → Type 0} {carries : ℕ → List OutItem → Type 0} where
   -- more may be fed to a call whose half is open
   pub call-fed : (told : List Step) (call : Call J book) → is_open call.half ≡ true → IsCall known names carries told call → is_fed call.id told ≡ true
   call-fed told call unclosed is =
@@ -515,3 +515,16 @@ module _ {J : Type 0} {book : Ghosts J} {known : ℕ → List (List ℕ) → Boo
     where
       empty : (id : ℕ) → Contains [] id → ⊥
       empty id (n, within, at) = omega (arith, within)
+
+  -- so it is of calls of which one is taken out, whose account is then set
+  pub kept-settled : (told : List Step) (old new : Calls J book) (place : ℕ) (call : Call J book) (account : CallAccount) → place < length (unsettled old) → call ≡ get_or (unsettled old) place call
+      → unsettled new ≡ swap_remove (unsettled old) place call → accounts_of new ≡ set (accounts_of old) call.place account → new.last ≡ old.last
+      → account.id ≡ call.id → (IsCall known names carries told call → IsSettled known names carries told account)
+      → Kept known names carries told old → Kept known names carries told new
+  kept-settled told old new place call account there is rest put last same_id settles k =
+      kept-as told (swap_remove (unsettled old) place call) (unsettled new) (set (accounts_of old) call.place account) (accounts_of new) old.last new.last rest put last
+      (kept-settle told (unsettled old) (swap_remove (unsettled old) place call) (accounts_of old) old.last place call account there is refl same_id settles k)
+
+module _ {J : Type 0} {book : Ghosts J} where
+  abbrev pub last_in : Calls J book → ℕ
+  last_in calls = calls.last

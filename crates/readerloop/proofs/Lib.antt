@@ -16,3 +16,6 @@ pub mod AccountSteps
 pub mod KeptSteps
 pub mod Settling
 pub mod ReadingSteps
+pub mod Collecting
+pub mod Starting
+pub mod SeatSteps

@@ -60,7 +60,7 @@ told-more id Lacks before = sym (append-nil (pieces id (events_of before)))
 
 pub missed-less : (id : ℕ) (told : List Step) → closing_by id told ≡ Some Misses → length (fed_by id told) < length (pieces id (events_of told))
 missed-less id [] closed = absurd cc
-missed-less id (step ∷ before) closed = by (closing_by id before) refl
+missed-less id (step ∷ before) closed = by (closing_by id before) refl (λ missed. missed-less id before missed)
   where
     same : fed_by id (step ∷ before) ≡ fed_by id before
     same = ap (λ (found : Option Closing). fed_by id before ++ unless found (data_at id step)) closed ∙ append-nil (fed_by id before)
@@ -68,13 +68,14 @@ missed-less id (step ∷ before) closed = by (closing_by id before) refl
     more : length (pieces id (events_of (step ∷ before))) ≡ length (pieces id (events_of before)) + length (data_at id step)
     more = ap length (told-more id step before) ∙ length-append (pieces id (events_of before)) (data_at id step)
 
-    by : (found : Option Closing) → closing_by id before ≡ found → length (fed_by id (step ∷ before)) < length (pieces id (events_of (step ∷ before)))
-    by None unclosed =
+    by : (found : Option Closing) → closing_by id before ≡ found → (closing_by id before ≡ Some Misses → length (fed_by id before) < length (pieces id (events_of before)))
+        → length (fed_by id (step ∷ before)) < length (pieces id (events_of (step ∷ before)))
+    by None unclosed behind =
         let now = misses-now id step (sym (ap (λ (found : Option Closing). earlier found (closing_at id step)) unclosed) ∙ closed) in
         let all = ap length (fed-open id before unclosed) in
         let fed = ap length same in
         omega (arith, now, all, fed, more)
-    by (Some closing) was =
-        let less = missed-less id before (was ∙ (sym (ap (λ (found : Option Closing). earlier found (closing_at id step)) was) ∙ closed)) in
+    by (Some closing) was behind =
+        let less = behind (was ∙ (sym (ap (λ (found : Option Closing). earlier found (closing_at id step)) was) ∙ closed)) in
         let fed = ap length same in
         omega (arith, less, fed, more)

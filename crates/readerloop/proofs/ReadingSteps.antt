@@ -4,7 +4,6 @@ use Rattle.std.specs.Prelude.{◌&&◌, ◌||◌, if◌then◌else◌, is_none, 
 use Rattle.std.proofs.lemmas.List.{append_assoc}
 use Rattle.account.specs.declared.call.OutItem.{OutItem}
 use Rattle.callparts.specs.declared.order.Opening.{Opening}
-use Rattle.callparts.specs.declared.answering.Answering.{Ghosts as Answerings}
 use Rattle.callparts.specs.declared.register.Naming.{Ghosts}
 use Rattle.callparts.specs.declared.report.Ending.{Ending}
 use Rattle.connbook.specs.declared.answers.Receipt.{Receipt}
@@ -20,7 +19,7 @@ use Rattle.session.specs.declared.event.InEvent.TheVariants as events
 use Rattle.readerloop.specs.declared.decided.Cut.{Cut}
 use Rattle.readerloop.specs.declared.decided.Decided.{Decided}
 use Rattle.readerloop.specs.declared.reading.Reading.{Reading}
-use Rattle.readerloop.specs.Calls.{is_admitted}
+use Rattle.readerloop.specs.Calls.{carried_in, is_admitted}
 use Rattle.readerloop.specs.Concerns.{Concerns, IsIdle}
 use Rattle.readerloop.specs.Kept.{Kept, accounts_of, unsettled}
 use Rattle.readerloop.specs.Orders.{IsDue, begun, begun_at, came_loose, ends_at, greatest, is_fed, last_stream, named, named_with, orders_at}
@@ -83,29 +82,36 @@ goes-one (CutOff other) id is = refl
 goes-one Drains id is = absurd cc
 goes-one Lacks id is = refl
 
-module _ {J M : Type 0} {book : Ghosts J} {answering : Answerings M} where
-  pub counts-same : (n : ℕ) (ids : List ℕ) (old new : Reading J M book answering) → new.last ≡ old.last → new.begun ≡ old.begun → Counts n ids old → Counts n ids new
+module _ {J M : Type 0} {book : Ghosts J} where
+  pub counts-same : (n : ℕ) (ids : List ℕ) (old new : Reading J M book) → new.last ≡ old.last → new.begun ≡ old.begun → Counts n ids old → Counts n ids new
   counts-same n ids old new last count counts = record { last_is = last ∙ counts.last_is; count = count ∙ counts.count }
 
-  pub counts-step : (step : Step) (told : List Step) (reading : Reading J M book answering) → IsQuiet step → Counts (named told) (begun told) reading → Counts (named (step ∷ told)) (begun (step ∷ told)) reading
+  pub counts-step : (step : Step) (told : List Step) (reading : Reading J M book) → IsQuiet step → Counts (named told) (begun told) reading → Counts (named (step ∷ told)) (begun (step ∷ told)) reading
   counts-step step told reading quiet counts =
       subst (λ (n : ℕ). Counts n (begun (step ∷ told)) reading) (sym (named-none step told quiet.begins quiet.goes_on))
       (subst (λ (ids : List ℕ). Counts (named told) ids reading) (sym (begun-none step told quiet.begins)) counts)
 
   -- what is counted where a stream begins
-  abbrev pub CountsOn : ℕ → Option ℕ → Reading J M book answering → Reading J M book answering → Type 0
+  abbrev pub CountsOn : ℕ → Option ℕ → Reading J M book → Reading J M book → Type 0
   CountsOn id goaway old new = (last : ℕ) (ids : List ℕ) → Counts last ids old
       → Counts (named_with id old.is_draining last) (id ∷ ids) new × (goaway_in goaway ≡ last_stream id old.is_draining ids)
 
-  pub counts-none : (reading : Reading J M book answering) → reading.last ≡ 0 → reading.begun ≡ 0 → Counts 0 [] reading
+  pub counts-none : (reading : Reading J M book) → reading.last ≡ 0 → reading.begun ≡ 0 → Counts 0 [] reading
   counts-none reading last count = record { last_is = last; count = count }
 
-module _ {J M : Type 0} {book : Ghosts J} {answering : Answerings M} where
+module _ {J M : Type 0} {book : Ghosts J} where
   -- where a stream is counted these stay
-  pub record IsCounted (old new : Reading J M book answering) : Type 0 where
+  pub record IsCounted (old new : Reading J M book) : Type 0 where
     pub calls : new.calls ≡ old.calls
     pub draining : new.is_draining ≡ old.is_draining
     pub goaway : new.peer_goaway ≡ old.peer_goaway
+
+  pub counted : (old new : Reading J M book) → new ≡ record old { last = new.last; begun = new.begun } → IsCounted old new
+  counted old new rest = record {
+    calls = ap (λ (reading : Reading J M book). reading.calls) rest;
+    draining = ap (λ (reading : Reading J M book). reading.is_draining) rest;
+    goaway = ap (λ (reading : Reading J M book). reading.peer_goaway) rest;
+  }
 
 -- ---- what was told
 
@@ -121,9 +127,9 @@ draining-not told step not = ap (λ (b : Bool). b || is_draining told) not
 
 -- ---- the reading side
 
-module _ {J M : Type 0} {book : Ghosts J} {answering : Answerings M} {known : ℕ → List (List ℕ) → Bool → Answer → Type 0} {names : List ℕ → ℕ → Type 0} {carries : ℕ → List OutItem → Type 0} where
+module _ {J M : Type 0} {book : Ghosts J} {known : ℕ → List (List ℕ) → Bool → Answer → Type 0} {names : List ℕ → ℕ → Type 0} {carries : ℕ → List OutItem → Type 0} where
   -- a step that begins no stream
-  pub reads-step : (told : List Step) (step : Step) (old new : Reading J M book answering) → IsQuiet step → new.is_draining ≡ old.is_draining → new.last ≡ old.last → new.begun ≡ old.begun → new.peer_goaway ≡ old.peer_goaway
+  pub reads-step : (told : List Step) (step : Step) (old new : Reading J M book) → IsQuiet step → new.is_draining ≡ old.is_draining → new.last ≡ old.last → new.begun ≡ old.begun → new.peer_goaway ≡ old.peer_goaway
       → (Kept known names carries told old.calls → Kept known names carries (step ∷ told) new.calls) → Reads known names carries told old → Reads known names carries (step ∷ told) new
   reads-step told step old new quiet draining last count goaway hears reads = record {
     calls = hears reads.calls;
@@ -133,7 +139,7 @@ module _ {J M : Type 0} {book : Ghosts J} {answering : Answerings M} {known : �
   }
 
   -- the peer opens no more streams
-  pub reads-goaway : (told : List Step) (fate : Fate) (old new : Reading J M book answering) → new.is_draining ≡ old.is_draining → new.last ≡ old.last → new.begun ≡ old.begun
+  pub reads-goaway : (told : List Step) (fate : Fate) (old new : Reading J M book) → new.is_draining ≡ old.is_draining → new.last ≡ old.last → new.begun ≡ old.begun
       → (Kept known names carries told old.calls → Kept known names carries (Told events.PeerGoaway fate ∷ told) new.calls) → Reads known names carries told old → Reads known names carries (Told events.PeerGoaway fate ∷ told) new
   reads-goaway told fate old new draining last count hears reads = record {
     calls = hears reads.calls;
@@ -143,12 +149,12 @@ module _ {J M : Type 0} {book : Ghosts J} {answering : Answerings M} {known : �
   }
 
   -- a step that is nothing to any call, and begins no stream
-  pub reads-idle : (told : List Step) (step : Step) (reading : Reading J M book answering) → IsQuiet step → IsIdle step → Reads known names carries told reading → Reads known names carries (step ∷ told) reading
+  pub reads-idle : (told : List Step) (step : Step) (reading : Reading J M book) → IsQuiet step → IsIdle step → Reads known names carries told reading → Reads known names carries (step ∷ told) reading
   reads-idle told step reading quiet idle reads =
       reads-step told step reading reading quiet refl refl refl refl (λ kept. kept-idle told step (unsettled reading.calls) (accounts_of reading.calls) reading.calls.last idle kept) reads
 
   -- the same steps
-  pub reads-same : (told : List Step) (old new : Reading J M book answering) → new.is_draining ≡ old.is_draining → new.last ≡ old.last → new.begun ≡ old.begun → new.peer_goaway ≡ old.peer_goaway
+  pub reads-same : (told : List Step) (old new : Reading J M book) → new.is_draining ≡ old.is_draining → new.last ≡ old.last → new.begun ≡ old.begun → new.peer_goaway ≡ old.peer_goaway
       → (Kept known names carries told old.calls → Kept known names carries told new.calls) → Reads known names carries told old → Reads known names carries told new
   reads-same told old new draining last count goaway keeps reads = record {
     calls = keeps reads.calls;
@@ -158,7 +164,7 @@ module _ {J M : Type 0} {book : Ghosts J} {answering : Answerings M} {known : �
   }
 
   -- a half that is to be shut
-  pub awaits-cut : (told : List Step) (step : Step) (cut : Cut) (reading : Reading J M book answering) → IsQuiet step → Concerns cut.id step → closing_at cut.id step ≡ Some (ShutAs cut.kind)
+  pub awaits-cut : (told : List Step) (step : Step) (cut : Cut) (reading : Reading J M book) → IsQuiet step → Concerns cut.id step → closing_at cut.id step ≡ Some (ShutAs cut.kind)
       → Reads known names carries told reading → Awaits known names carries told step cut reading
   awaits-cut told step cut reading quiet concerns closes reads = record {
     calls = reads.calls;
@@ -169,7 +175,7 @@ module _ {J M : Type 0} {book : Ghosts J} {answering : Answerings M} {known : �
     closes = closes;
   }
 
-  pub shuts-awaited : (told : List Step) (step : Step) (cut : Cut) (old new : Reading J M book answering) → new.is_draining ≡ old.is_draining → new.last ≡ old.last → new.begun ≡ old.begun → new.peer_goaway ≡ old.peer_goaway
+  pub shuts-awaited : (told : List Step) (step : Step) (cut : Cut) (old new : Reading J M book) → new.is_draining ≡ old.is_draining → new.last ≡ old.last → new.begun ≡ old.begun → new.peer_goaway ≡ old.peer_goaway
       → (Concerns cut.id step → closing_at cut.id step ≡ Some (ShutAs cut.kind) → Kept known names carries told old.calls → Kept known names carries (step ∷ told) new.calls)
       → Awaits known names carries told step cut old → Reads known names carries (step ∷ told) new
   shuts-awaited told step cut old new draining last count goaway hears awaits = record {
@@ -180,7 +186,7 @@ module _ {J M : Type 0} {book : Ghosts J} {answering : Answerings M} {known : �
   }
 
   -- a stream that begins
-  pub begins-with : (told : List Step) (step : Step) (id : ℕ) (old new : Reading J M book answering) → begun_at step ≡ id ∷ [] → new.is_draining ≡ old.is_draining → new.last ≡ old.last → new.begun ≡ old.begun → new.peer_goaway ≡ old.peer_goaway
+  pub begins-with : (told : List Step) (step : Step) (id : ℕ) (old new : Reading J M book) → begun_at step ≡ id ∷ [] → new.is_draining ≡ old.is_draining → new.last ≡ old.last → new.begun ≡ old.begun → new.peer_goaway ≡ old.peer_goaway
       → (Kept known names carries told old.calls → Kept known names carries (step ∷ told) new.calls) → Reads known names carries told old → Begins known names carries told step id new
   begins-with told step id old new begins draining last count goaway hears reads = record {
     calls = hears reads.calls;
@@ -193,36 +199,36 @@ module _ {J M : Type 0} {book : Ghosts J} {answering : Answerings M} {known : �
   }
 
   -- where the step is nothing to any call
-  pub begins-idle : (told : List Step) (step : Step) (id : ℕ) (reading : Reading J M book answering) → begun_at step ≡ id ∷ [] → IsIdle step → Reads known names carries told reading → Begins known names carries told step id reading
+  pub begins-idle : (told : List Step) (step : Step) (id : ℕ) (reading : Reading J M book) → begun_at step ≡ id ∷ [] → IsIdle step → Reads known names carries told reading → Begins known names carries told step id reading
   begins-idle told step id reading begins idle reads =
       begins-with told step id reading reading begins refl refl refl refl (λ kept. kept-idle told step (unsettled reading.calls) (accounts_of reading.calls) reading.calls.last idle kept) reads
 
   -- ---- what is decided
 
-  stands-none : (told : List Step) (step : Step) (cut : Option Cut) (reading : Reading J M book answering) → cut ≡ None → Reads known names carries (step ∷ told) reading → Stands known names carries told step cut reading
+  stands-none : (told : List Step) (step : Step) (cut : Option Cut) (reading : Reading J M book) → cut ≡ None → Reads known names carries (step ∷ told) reading → Stands known names carries told step cut reading
   stands-none told step cut reading none reads = subst (λ (found : Option Cut). Stands known names carries told step found reading) (sym none) reads
 
-  stands-some : (told : List Step) (step : Step) (found : Option Cut) (cut : Cut) (reading : Reading J M book answering) → found ≡ Some cut → Awaits known names carries told step cut reading → Stands known names carries told step found reading
+  stands-some : (told : List Step) (step : Step) (found : Option Cut) (cut : Cut) (reading : Reading J M book) → found ≡ Some cut → Awaits known names carries told step cut reading → Stands known names carries told step found reading
   stands-some told step found cut reading some awaits = subst (λ (c : Option Cut). Stands known names carries told step c reading) (sym some) awaits
 
   -- no half is to be shut
-  pub decides-now : (told : List Step) (step : Step) (decided : Decided J book) (reading : Reading J M book answering) → orders_in decided ≡ orders_at told step → decided.ends ≡ ends_at step → decided.cut ≡ None
+  pub decides-now : (told : List Step) (step : Step) (decided : Decided J book) (reading : Reading J M book) → orders_in decided ≡ orders_at told step → decided.ends ≡ ends_at step → decided.cut ≡ None
       → Reads known names carries (step ∷ told) reading → Decides known names carries told step decided reading
   decides-now told step decided reading orders ends none reads = record { orders = orders; ends = ends; stands = stands-none told step decided.cut reading none reads }
 
   -- one is
-  pub decides-cut : (told : List Step) (step : Step) (decided : Decided J book) (cut : Cut) (reading : Reading J M book answering) → orders_in decided ≡ orders_at told step → decided.ends ≡ ends_at step
+  pub decides-cut : (told : List Step) (step : Step) (decided : Decided J book) (cut : Cut) (reading : Reading J M book) → orders_in decided ≡ orders_at told step → decided.ends ≡ ends_at step
       → decided.cut ≡ Some cut → Awaits known names carries told step cut reading → Decides known names carries told step decided reading
   decides-cut told step decided cut reading orders ends some awaits = record { orders = orders; ends = ends; stands = stands-some told step decided.cut cut reading some awaits }
 
   -- a stream begins
-  pub counts-begun : (told : List Step) (step : Step) (id : ℕ) (goaway : Option ℕ) (old new : Reading J M book answering) → CountsOn id goaway old new → Begins known names carries told step id old
+  pub counts-begun : (told : List Step) (step : Step) (id : ℕ) (goaway : Option ℕ) (old new : Reading J M book) → CountsOn id goaway old new → Begins known names carries told step id old
       → Counts (named_with id (is_draining told) (named told)) (id ∷ begun told) new × (goaway_in goaway ≡ last_stream id (is_draining told) (begun told))
   counts-begun told step id goaway old new counts begins =
       subst (λ (b : Bool). Counts (named_with id b (named told)) (id ∷ begun told) new × (goaway_in goaway ≡ last_stream id b (begun told))) begins.drains
       (counts (named told) (begun told) begins.counts)
 
-  reads-begun : (told : List Step) (step : Step) (id : ℕ) (old new : Reading J M book answering) → IsCounted old new
+  reads-begun : (told : List Step) (step : Step) (id : ℕ) (old new : Reading J M book) → IsCounted old new
       → Counts (named_with id (is_draining told) (named told)) (id ∷ begun told) new → Begins known names carries told step id old → Reads known names carries (step ∷ told) new
   reads-begun told step id old new same counts begins = record {
     calls = rw same.calls begins.calls;
@@ -232,7 +238,7 @@ module _ {J M : Type 0} {book : Ghosts J} {answering : Answerings M} {known : �
     goaway = λ is. told-more events.PeerGoaway step told (begins.goaway (sym same.goaway ∙ is));
   }
 
-  pub decides-begun : (told : List Step) (step : Step) (id : ℕ) (decided : Decided J book) (more : List Order) (old new : Reading J M book answering) → IsCounted old new
+  pub decides-begun : (told : List Step) (step : Step) (id : ℕ) (decided : Decided J book) (more : List Order) (old new : Reading J M book) → IsCounted old new
       → CountsOn id decided.goaway old new → order_in decided.order ≡ more
       → orders_at told step ≡ last_stream id (is_draining told) (begun told) ++ more → decided.ends ≡ ends_at step → decided.cut ≡ None → Begins known names carries told step id old → Decides known names carries told step decided new
   decides-begun told step id decided more old new same counts order orders ends none begins =
@@ -242,7 +248,7 @@ module _ {J M : Type 0} {book : Ghosts J} {answering : Answerings M} {known : �
       ends none (reads-begun told step id old new same count.0 begins)
 
   -- the server drains
-  pub reads-drain : (told : List Step) (old new : Reading J M book answering) → new.last ≡ greatest (reported told) → new.begun ≡ old.begun → new.peer_goaway ≡ old.peer_goaway → new.is_draining ≡ true
+  pub reads-drain : (told : List Step) (old new : Reading J M book) → new.last ≡ greatest (reported told) → new.begun ≡ old.begun → new.peer_goaway ≡ old.peer_goaway → new.is_draining ≡ true
       → (Kept known names carries told old.calls → Kept known names carries (Drains ∷ told) new.calls) → Reads known names carries told old → Reads known names carries (Drains ∷ told) new
   reads-drain told old new last count goaway draining hears reads = record {
     calls = hears reads.calls;
@@ -253,24 +259,24 @@ module _ {J M : Type 0} {book : Ghosts J} {answering : Answerings M} {known : �
 
 -- ---- more of them
 
-module _ {J M : Type 0} {book : Ghosts J} {answering : Answerings M} {known : ℕ → List (List ℕ) → Bool → Answer → Type 0} {names : List ℕ → ℕ → Type 0} where
+module _ {J M : Type 0} {book : Ghosts J} {known : ℕ → List (List ℕ) → Bool → Answer → Type 0} {names : List ℕ → ℕ → Type 0} where
   -- there was no memory, or there was
-  pub lacks-as : (event : InEvent) (fate : Fate) (decided : Decided J book) (ending : Ending) (old new : Reading J M book answering) → decided.ends ≡ Some ending
+  pub lacks-as : (event : InEvent) (fate : Fate) (decided : Decided J book) (ending : Ending) (old new : Reading J M book) → decided.ends ≡ Some ending
       → DecidesOn known names (Told event Lacking) decided old new → DecidesOn known names (Told event (unless_ended decided.ends fate)) decided old new
-  lacks-as event fate decided ending old new is decides carries told reads =
-      subst (λ (end : Option Ending). Decides known names carries told (Told event (unless_ended end fate)) decided new) (sym is) (decides carries told reads)
+  lacks-as event fate decided ending old new is decides sent told reads =
+      subst (λ (end : Option Ending). Decides known names (carried_in sent) told (Told event (unless_ended end fate)) decided new) (sym is) (decides sent told reads)
 
-  pub plain-as : (event : InEvent) (fate : Fate) (decided : Decided J book) (old new : Reading J M book answering) → decided.ends ≡ None
+  pub plain-as : (event : InEvent) (fate : Fate) (decided : Decided J book) (old new : Reading J M book) → decided.ends ≡ None
       → DecidesOn known names (Told event fate) decided old new → DecidesOn known names (Told event (unless_ended decided.ends fate)) decided old new
-  plain-as event fate decided old new is decides carries told reads =
-      subst (λ (end : Option Ending). Decides known names carries told (Told event (unless_ended end fate)) decided new) (sym is) (decides carries told reads)
+  plain-as event fate decided old new is decides sent told reads =
+      subst (λ (end : Option Ending). Decides known names (carried_in sent) told (Told event (unless_ended end fate)) decided new) (sym is) (decides sent told reads)
 
   -- as the step says it goes on, there was memory
-  pub calm-as : (event : InEvent) (fate : Fate) (decided : Decided J book) (old new : Reading J M book answering) → ends_at (Told event fate) ≡ None
+  pub calm-as : (event : InEvent) (fate : Fate) (decided : Decided J book) (old new : Reading J M book) → ends_at (Told event fate) ≡ None
       → DecidesOn known names (Told event fate) decided old new → DecidesOn known names (Told event (unless_ended decided.ends fate)) decided old new
-  calm-as event fate decided old new calm decides carries told reads =
-      let now = decides carries told reads in
-      subst (λ (end : Option Ending). Decides known names carries told (Told event (unless_ended end fate)) decided new) (sym (now.ends ∙ calm)) now
+  calm-as event fate decided old new calm decides sent told reads =
+      let now = decides sent told reads in
+      subst (λ (end : Option Ending). Decides known names (carried_in sent) told (Told event (unless_ended end fate)) decided new) (sym (now.ends ∙ calm)) now
 
 -- one order, or none
 module _ {J : Type 0} {book : Ghosts J} where

@@ -1,5 +1,5 @@
 -- A call of a connection, as the reading side has it, and as it is by what was heard. A list of steps has the latest first.
-use Rattle.std.specs.Prelude.{◌≡◌, ◌≢◌, ◌<◌, ◌≤◌, ◌&&◌, ℕ, Bool, true, nat_eq, List, [], length, Option, None, Some, IfSome, IsSomeAnd, MatchOption}
+use Rattle.std.specs.Prelude.{◌≡◌, ◌≢◌, ◌<◌, ◌≤◌, ◌&&◌, ℕ, Bool, true, nat_eq, List, [], length, Contains, Option, None, Some, IfSome, IsSomeAnd, MatchOption}
 use Rattle.std.specs.List.{list_any, AllWithin, HoldsAt}
 use Rattle.std.specs.Option.{is_some}
 use Rattle.account.specs.declared.call.OutItem.{OutItem}
@@ -43,6 +43,15 @@ abbrev pub AreNames : (List ℕ → ℕ → Type 0) → (List ℕ → ℕ → Ty
 AreNames narrow wide = (path : List ℕ) (index : ℕ) → narrow path index → wide path index
 
 -- ---- what came back of a call
+
+-- the sender of this stream's call got these items
+pub record Sent : Type 0 where
+  pub id : ℕ
+  pub items : List OutItem
+
+-- so it is among what senders got
+abbrev pub carried_in : List Sent → ℕ → List OutItem → Type 0
+carried_in sent id items = Contains sent (record { id = id; items = items })
 
 module _ {J : Type 0} {book : Ghosts J} where
   -- its worker answered what its client asked for

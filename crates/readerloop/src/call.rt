@@ -1,21 +1,17 @@
 //! A call, as the reading side has it.
 
 ghost use Rattle.std.specs.Prelude.{◌≡◌, ◌≢◌, ℕ, Bool, List, [], ◌∷◌, true, Some, OnErr, OnOk, option_map, unwrap_or};
-ghost use Rattle.account.specs.declared.call.OutItem.{OutItem as Item};
 ghost use Rattle.connbook.specs.declared.answers.Receipt.TheVariants.{Feed};
-ghost use Rattle.handlers.specs.declared.step.Step.{Step as Answer};
 ghost use Rattle.session.specs.declared.event.InEvent.TheVariants as events;
 ghost use Rattle.callparts.specs.Numbers.{OptionalName_set, in_lane_at};
-ghost use Rattle.readerloop.specs.Calls.{HasAnswered, HasReturned, IsCall, Rises, is_over};
 ghost use Rattle.readerloop.specs.Halves.{is_open, lane_of};
-ghost use Rattle.readerloop.specs.Reports.{IsSettled};
 ghost use Rattle.readerloop.specs.Steps.{Misses, Received, ShutAs, Step, Told, closing_at};
 
 use crate::half::Half;
 use account::Shut;
 use bytes::Bytes;
 use callbox::{FeedFault, settle_in, settle_out};
-use callparts::{CallAccount, CallNumber, Finished, Naming, Returning, Sending};
+use callparts::{Answering, CallAccount, CallNumber, Finished, Naming, Returning, Sending};
 use h2frame::StreamId;
 use lane::End;
 
@@ -46,6 +42,9 @@ pub struct Call<J: Naming> {
 }
 
 impl<J: Naming> Call<J> {
+    ghost use Rattle.readerloop.specs.Calls.{HasAnswered, HasReturned, IsCall, Rises, Sent, carried_in, is_over};
+    ghost use Rattle.readerloop.specs.Reports.{IsSettled};
+
     /// Whether all its ends are back: it is over.
     pub(crate) fn is_over(&self) -> bool
         ensures { result ≡ is_over self.now }
@@ -62,16 +61,14 @@ impl<J: Naming> Call<J> {
     }
 
     /// Feeds a piece to it, if more may be fed.
-    pub(crate) fn feed(&mut self, piece: Bytes) -> Result<(), FeedFault>
-        ensures heard { OnOk result ((known : ℕ → List (List ℕ) → Bool → Answer → Type 0)
-            (names : List ℕ → ℕ → Type 0) (carries : ℕ → List Item → Type 0) (counted : ℕ)
-            (told : List Step) → IsCall known names carries told self.old
-            → IsCall known names carries
+    pub(crate) fn feed<M: Answering>(&mut self, piece: Bytes) -> Result<(), FeedFault>
+        ensures heard { OnOk result ((sent : List Sent) (counted : ℕ)
+            (told : List Step) → IsCall M.known M.names (carried_in sent) told self.old
+            → IsCall M.known M.names (carried_in sent)
             (Told (events.Data self.old.id piece counted) (Received Feed) ∷ told) self.new) }
-        ensures stays { OnErr result ((known : ℕ → List (List ℕ) → Bool → Answer → Type 0)
-            (names : List ℕ → ℕ → Type 0) (carries : ℕ → List Item → Type 0) (told : List Step)
-            → IsCall known names carries told self.old
-            → IsCall known names carries told self.new) }
+        ensures stays { OnErr result ((sent : List Sent) (told : List Step)
+            → IsCall M.known M.names (carried_in sent) told self.old
+            → IsCall M.known M.names (carried_in sent) told self.new) }
         ensures due { OnErr result ((piece ≢ []) × (is_open self.old.half ≡ true)) }
         ensures id { self.new.id ≡ self.old.id }
         ensures place { self.new.place ≡ self.old.place }
@@ -80,12 +77,11 @@ impl<J: Naming> Call<J> {
     }
 
     /// Shuts its half in this way. Where it was closed before nothing changes.
-    pub(crate) fn shut(&mut self, kind: Shut)
-        ensures heard { (known : ℕ → List (List ℕ) → Bool → Answer → Type 0)
-            (names : List ℕ → ℕ → Type 0) (carries : ℕ → List Item → Type 0) (told : List Step) (step : Step)
+    pub(crate) fn shut<M: Answering>(&mut self, kind: Shut)
+        ensures heard { (sent : List Sent) (told : List Step) (step : Step)
             → Rises told step → closing_at self.old.id step ≡ Some (ShutAs kind)
-            → IsCall known names carries told self.old
-            → IsCall known names carries (step ∷ told) self.new }
+            → IsCall M.known M.names (carried_in sent) told self.old
+            → IsCall M.known M.names (carried_in sent) (step ∷ told) self.new }
         ensures id { self.new.id ≡ self.old.id }
         ensures place { self.new.place ≡ self.old.place }
     {
@@ -93,12 +89,11 @@ impl<J: Naming> Call<J> {
     }
 
     /// A piece isn't fed to it, if more may be fed.
-    pub(crate) fn miss(&mut self)
-        ensures heard { (known : ℕ → List (List ℕ) → Bool → Answer → Type 0)
-            (names : List ℕ → ℕ → Type 0) (carries : ℕ → List Item → Type 0) (told : List Step) (step : Step)
+    pub(crate) fn miss<M: Answering>(&mut self)
+        ensures heard { (sent : List Sent) (told : List Step) (step : Step)
             → Rises told step → closing_at self.old.id step ≡ Some Misses
-            → IsCall known names carries told self.old
-            → IsCall known names carries (step ∷ told) self.new }
+            → IsCall M.known M.names (carried_in sent) told self.old
+            → IsCall M.known M.names (carried_in sent) (step ∷ told) self.new }
         ensures id { self.new.id ≡ self.old.id }
         ensures place { self.new.place ≡ self.old.place }
     {
@@ -106,11 +101,10 @@ impl<J: Naming> Call<J> {
     }
 
     /// Its worker has handed this back, if it is of its number.
-    pub(crate) fn finish(&mut self, finished: Finished<J>)
-        ensures stays { (known : ℕ → List (List ℕ) → Bool → Answer → Type 0)
-            (names : List ℕ → ℕ → Type 0) (carries : ℕ → List Item → Type 0) (told : List Step)
-            → HasAnswered known finished → IsCall known names carries told self.old
-            → IsCall known names carries told self.new }
+    pub(crate) fn finish<M: Answering>(&mut self, finished: Finished<J>)
+        ensures stays { (sent : List Sent) (told : List Step)
+            → HasAnswered M.known finished → IsCall M.known M.names (carried_in sent) told self.old
+            → IsCall M.known M.names (carried_in sent) told self.new }
         ensures id { self.new.id ≡ self.old.id }
         ensures place { self.new.place ≡ self.old.place }
     {
@@ -120,12 +114,11 @@ impl<J: Naming> Call<J> {
     }
 
     /// The writing side has handed this back, if it is of its number.
-    pub(crate) fn take_back(&mut self, returning: Returning<J>)
-        ensures stays { (known : ℕ → List (List ℕ) → Bool → Answer → Type 0)
-            (names : List ℕ → ℕ → Type 0) (carries : ℕ → List Item → Type 0) (told : List Step)
-            → HasReturned carries returning.sending.value
-            → IsCall known names carries told self.old
-            → IsCall known names carries told self.new }
+    pub(crate) fn take_back<M: Answering>(&mut self, returning: Returning<J>)
+        ensures stays { (sent : List Sent) (told : List Step)
+            → HasReturned (carried_in sent) returning.sending.value
+            → IsCall M.known M.names (carried_in sent) told self.old
+            → IsCall M.known M.names (carried_in sent) told self.new }
         ensures id { self.new.id ≡ self.old.id }
         ensures place { self.new.place ≡ self.old.place }
     {
@@ -135,12 +128,11 @@ impl<J: Naming> Call<J> {
     }
 
     /// Brings its ends together, once it is over.
-    pub(crate) fn settle(self) -> CallAccount
+    pub(crate) fn settle<M: Answering>(self) -> CallAccount
         requires over { is_over self ≡ true }
         ensures id { result.id ≡ self.id }
-        ensures settled { (known : ℕ → List (List ℕ) → Bool → Answer → Type 0)
-            (names : List ℕ → ℕ → Type 0) (carries : ℕ → List Item → Type 0) (told : List Step)
-            → IsCall known names carries told self → IsSettled known names carries told result }
+        ensures settled { (sent : List Sent) (told : List Step)
+            → IsCall M.known M.names (carried_in sent) told self → IsSettled M.known M.names (carried_in sent) told result }
     {
         let Call {
             id,

@@ -1,13 +1,11 @@
 //! The calls of a connection, as its reading side has them.
 
-ghost use Rattle.std.specs.Prelude.{◌≡◌, ◌<◌, ℕ, Bool, List, [], ◌∷◌, ◌++◌, true, false, length, None, Some, IfNone, IfSome, OnErr, OnOk, nat_eq, position, vec_capacity, vec_len};
-ghost use Rattle.account.specs.declared.call.OutItem.{OutItem as Item};
+ghost use Rattle.std.specs.Prelude.{◌≡◌, ◌<◌, ℕ, Bool, List, [], ◌∷◌, ◌++◌, true, false, length, None, Some, IfSome, OnErr, OnOk, nat_eq, position, set, vec_capacity, vec_len};
 ghost use Rattle.callhead.specs.declared.head.CallHead.{CallHead as Head};
 ghost use Rattle.callparts.specs.Blocks.{has_room};
 ghost use Rattle.connbook.specs.declared.answers.Receipt.TheVariants.{Feed};
-ghost use Rattle.handlers.specs.declared.step.Step.{Step as Answer};
 ghost use Rattle.session.specs.declared.event.InEvent.TheVariants as events;
-ghost use Rattle.readerloop.specs.Calls.{HasAnswered, HasReturned};
+ghost use Rattle.readerloop.specs.Calls.{HasAnswered, HasReturned, Sent, carried_in};
 ghost use Rattle.readerloop.specs.Concerns.{Concerns};
 ghost use Rattle.readerloop.specs.Kept.{Hears, IsFresh, Keeps, Kept, accounts_of, fed_at, unsettled};
 ghost use Rattle.readerloop.specs.Orders.{IsDue, is_fed};
@@ -18,7 +16,7 @@ use crate::call::Call;
 use account::Shut;
 use bytes::Bytes;
 use callbox::FeedFault;
-use callparts::{Accounts, CallAccount, Finished, Naming, Returning};
+use callparts::{Accounts, Answering, CallAccount, Finished, Naming, Returning};
 use h2frame::StreamId;
 use std::alloc::{AllocError, Global};
 
@@ -33,10 +31,9 @@ pub struct Calls<J: Naming> {
 }
 
 impl<J: Naming> Calls<J> {
-    pub(crate) fn new(alloc: Global) -> Calls<J>
-        ensures kept { (known : ℕ → List (List ℕ) → Bool → Answer → Type 0)
-            (names : List ℕ → ℕ → Type 0) (carries : ℕ → List Item → Type 0)
-            → Kept known names carries [] result }
+    pub(crate) fn new<M: Answering>(alloc: Global) -> Calls<J>
+        ensures kept { (sent : List Sent)
+            → Kept M.known M.names (carried_in sent) [] result }
         ensures none { unsettled result ≡ [] }
     {
         Calls {
@@ -75,16 +72,15 @@ impl<J: Naming> Calls<J> {
     }
 
     /// A call was admitted, for which there is room, and for its account. Until the call is settled, that is of one that isn't served.
-    pub(crate) fn add(&mut self, call: Call<J>)
+    pub(crate) fn add<M: Answering>(&mut self, call: Call<J>)
         requires room { vec_len self.old.calls < vec_capacity self.old.calls }
         requires account_room { has_room self.old.accounts.count self.old.accounts.last ≡ true }
         requires above { self.old.last < call.id }
         requires place { call.place ≡ length (accounts_of self.old) }
-        ensures heard { (known : ℕ → List (List ℕ) → Bool → Answer → Type 0)
-            (names : List ℕ → ℕ → Type 0) (carries : ℕ → List Item → Type 0) (head : Head)
-            (told : List Step) → IsFresh names head call → is_draining told ≡ false
-            → Kept known names carries told self.old
-            → Kept known names carries (Told (events.Open call.id head) Admitted ∷ told)
+        ensures heard { (sent : List Sent) (head : Head)
+            (told : List Step) → IsFresh M.names head call → is_draining told ≡ false
+            → Kept M.known M.names (carried_in sent) told self.old
+            → Kept M.known M.names (carried_in sent) (Told (events.Open call.id head) Admitted ∷ told)
             self.new }
         ensures calls { unsettled self.new ≡ unsettled self.old ++ call ∷ [] }
     {
@@ -96,14 +92,13 @@ impl<J: Naming> Calls<J> {
     }
 
     /// A call of this method was admitted, and no worker serves it.
-    pub(crate) fn pass_over(&mut self, id: StreamId, method: usize)
+    pub(crate) fn pass_over<M: Answering>(&mut self, id: StreamId, method: usize)
         requires account_room { has_room self.old.accounts.count self.old.accounts.last ≡ true }
         requires above { self.old.last < id }
-        ensures heard { (known : ℕ → List (List ℕ) → Bool → Answer → Type 0)
-            (names : List ℕ → ℕ → Type 0) (carries : ℕ → List Item → Type 0) (head : Head)
-            (why : Lack) (told : List Step) → names head.path method → is_draining told ≡ false
-            → Kept known names carries told self.old
-            → Kept known names carries (Told (events.Open id head) (Unserved why) ∷ told)
+        ensures heard { (sent : List Sent) (head : Head)
+            (why : Lack) (told : List Step) → M.names head.path method → is_draining told ≡ false
+            → Kept M.known M.names (carried_in sent) told self.old
+            → Kept M.known M.names (carried_in sent) (Told (events.Open id head) (Unserved why) ∷ told)
             self.new }
         ensures calls { unsettled self.new ≡ unsettled self.old }
     {
@@ -128,17 +123,18 @@ impl<J: Naming> Calls<J> {
     }
 
     /// Feeds a piece to the call of this stream, if more may be fed to it. The worker that is to see it.
-    pub(crate) fn feed(&mut self, id: StreamId, piece: Bytes) -> Result<Option<usize>, FeedFault>
-        ensures heard { OnOk result ((known : ℕ → List (List ℕ) → Bool → Answer → Type 0)
-            (names : List ℕ → ℕ → Type 0) (carries : ℕ → List Item → Type 0) (counted : ℕ)
-            → Hears known names carries (Told (events.Data id piece counted) (Received Feed))
+    pub(crate) fn feed<M: Answering>(
+        &mut self,
+        id: StreamId,
+        piece: Bytes,
+    ) -> Result<Option<usize>, FeedFault>
+        ensures heard { OnOk result ((sent : List Sent) (counted : ℕ)
+            → Hears M.known M.names (carried_in sent) (Told (events.Data id piece counted) (Received Feed))
             self.old self.new) }
-        ensures stays { OnErr result ((known : ℕ → List (List ℕ) → Bool → Answer → Type 0)
-            (names : List ℕ → ℕ → Type 0) (carries : ℕ → List Item → Type 0)
-            → Keeps known names carries self.old self.new) }
-        ensures due { OnErr result ((known : ℕ → List (List ℕ) → Bool → Answer → Type 0)
-            (names : List ℕ → ℕ → Type 0) (carries : ℕ → List Item → Type 0) (told : List Step)
-            → Kept known names carries told self.old → IsDue id piece told) }
+        ensures stays { OnErr result ((sent : List Sent)
+            → Keeps M.known M.names (carried_in sent) self.old self.new) }
+        ensures due { OnErr result ((sent : List Sent) (told : List Step)
+            → Kept M.known M.names (carried_in sent) told self.old → IsDue id piece told) }
     {
         let Some(place) = self.find(id) else {
             return Ok(None);
@@ -146,37 +142,38 @@ impl<J: Naming> Calls<J> {
         let Some(call) = self.calls.get_mut(place) else {
             return Ok(None);
         };
-        call.feed(piece)?;
+        call.feed::<M>(piece)?;
         Ok(call.worker())
     }
 
     /// Shuts the half of the call of this stream in this way. Where it was closed before nothing changes. The worker that is to look
     /// whether the call is live still.
-    pub(crate) fn shut(&mut self, id: StreamId, kind: Shut) -> Option<usize>
-        ensures heard { (known : ℕ → List (List ℕ) → Bool → Answer → Type 0)
-            (names : List ℕ → ℕ → Type 0) (carries : ℕ → List Item → Type 0) (step : Step)
+    pub(crate) fn shut<M: Answering>(&mut self, id: StreamId, kind: Shut) -> Option<usize>
+        ensures heard { (sent : List Sent) (step : Step)
             → Concerns id step → closing_at id step ≡ Some (ShutAs kind)
-            → Hears known names carries step self.old self.new }
+            → Hears M.known M.names (carried_in sent) step self.old self.new }
+        ensures accounts { self.new.accounts ≡ self.old.accounts }
+        ensures last { self.new.last ≡ self.old.last }
     {
         let place = self.find(id)?;
         let call = self.calls.get_mut(place)?;
-        call.shut(kind);
+        call.shut::<M>(kind);
         call.worker()
     }
 
     /// Of the call of this stream, if more may be fed to it, a piece isn't fed.
-    pub(crate) fn miss(&mut self, id: StreamId)
-        ensures heard { (known : ℕ → List (List ℕ) → Bool → Answer → Type 0)
-            (names : List ℕ → ℕ → Type 0) (carries : ℕ → List Item → Type 0) (step : Step)
+    pub(crate) fn miss<M: Answering>(&mut self, id: StreamId)
+        ensures heard { (sent : List Sent) (step : Step)
             → Concerns id step → closing_at id step ≡ Some Misses
-            → Hears known names carries step self.old self.new }
+            → Hears M.known M.names (carried_in sent) step self.old self.new }
     {
         let Some(place) = self.find(id) else {
             return;
         };
-        if let Some(call) = self.calls.get_mut(place) {
-            call.miss();
-        }
+        let Some(call) = self.calls.get_mut(place) else {
+            return;
+        };
+        call.miss::<M>();
     }
 
     /// The stream of the call at this place, if more may be fed to it.
@@ -191,52 +188,70 @@ impl<J: Naming> Calls<J> {
     }
 
     /// A worker has handed a call back.
-    pub(crate) fn finish(&mut self, finished: Finished<J>)
-        ensures stays { (known : ℕ → List (List ℕ) → Bool → Answer → Type 0)
-            (names : List ℕ → ℕ → Type 0) (carries : ℕ → List Item → Type 0)
-            → HasAnswered known finished → Keeps known names carries self.old self.new }
+    pub(crate) fn finish<M: Answering>(&mut self, finished: Finished<J>)
+        ensures stays { (sent : List Sent)
+            → HasAnswered M.known finished → Keeps M.known M.names (carried_in sent) self.old self.new }
+        ensures accounts { self.new.accounts ≡ self.old.accounts }
+        ensures last { self.new.last ≡ self.old.last }
     {
         let number = &finished.number;
         let Some(place) = self.calls.iter().position(|call| call.number.is(number)) else {
             return;
         };
-        if let Some(call) = self.calls.get_mut(place) {
-            call.finish(finished);
-        }
+        let Some(call) = self.calls.get_mut(place) else {
+            return;
+        };
+        call.finish::<M>(finished);
     }
 
     /// The writing side has handed a sender back.
-    pub(crate) fn take_back(&mut self, returning: Returning<J>)
-        ensures stays { (known : ℕ → List (List ℕ) → Bool → Answer → Type 0)
-            (names : List ℕ → ℕ → Type 0) (carries : ℕ → List Item → Type 0)
-            → HasReturned carries returning.sending.value
-            → Keeps known names carries self.old self.new }
+    pub(crate) fn take_back<M: Answering>(&mut self, returning: Returning<J>)
+        ensures stays { (sent : List Sent)
+            → HasReturned (carried_in sent) returning.sending.value
+            → Keeps M.known M.names (carried_in sent) self.old self.new }
+        ensures accounts { self.new.accounts ≡ self.old.accounts }
+        ensures last { self.new.last ≡ self.old.last }
     {
         let number = &returning.sending.number;
         let Some(place) = self.calls.iter().position(|call| call.number.is(number)) else {
             return;
         };
-        if let Some(call) = self.calls.get_mut(place) {
-            call.take_back(returning);
-        }
+        let Some(call) = self.calls.get_mut(place) else {
+            return;
+        };
+        call.take_back::<M>(returning);
     }
 
     /// Settles a call that is over, if there is one: its account is final.
-    pub(crate) fn settle_next(&mut self) -> Option<CallAccount>
+    pub(crate) fn settle_next<M: Answering>(&mut self) -> Option<CallAccount>
         ensures settled { IfSome result (λ account.
-            (known : ℕ → List (List ℕ) → Bool → Answer → Type 0) (names : List ℕ → ℕ → Type 0)
-            (carries : ℕ → List Item → Type 0) (told : List Step)
-            → Kept known names carries told self.old
-            → IsSettled known names carries told account
-            × Kept known names carries told self.new) }
-        ensures none { IfNone result (unsettled self.new ≡ unsettled self.old) }
+            (sent : List Sent) (told : List Step)
+            → Kept M.known M.names (carried_in sent) told self.old
+            → IsSettled M.known M.names (carried_in sent) told account) }
+        ensures stays { (sent : List Sent)
+            → Keeps M.known M.names (carried_in sent) self.old self.new }
+        ensures room { has_room self.new.accounts.count self.new.accounts.last
+            ≡ has_room self.old.accounts.count self.old.accounts.last }
+        ensures last { self.new.last ≡ self.old.last }
     {
         let place = self.calls.iter().position(|call| call.is_over())?;
         let call = self.calls.swap_remove(place);
         let at = call.place;
-        let account = call.settle();
-        self.accounts.set(at, account);
+        let account = call.settle::<M>();
+        self.set_account(at, account);
         Some(account)
+    }
+
+    /// Puts an account in the place of another, if there is one at this place.
+    fn set_account(&mut self, place: usize, account: CallAccount)
+        ensures accounts { accounts_of self.new ≡ set (accounts_of self.old) place account }
+        ensures room { has_room self.new.accounts.count self.new.accounts.last
+            ≡ has_room self.old.accounts.count self.old.accounts.last }
+        ensures rest { self.new ≡ record self.old { accounts = self.new.accounts } }
+    {
+        if place < self.accounts.len() {
+            self.accounts.set(place, account);
+        }
     }
 
     /// The accounts of all calls.

@@ -7,21 +7,22 @@
 //! An order that resets a stream is to be put before its call sees the reset. So the half that a decision shuts is named in it
 //! (`Decided::cut`), and shut by `Reading::shut` once the order was put.
 
-ghost use Rattle.std.specs.Prelude.{◌≡◌, ◌⊎◌, ◌<◌, ℕ, List, [], ◌∷◌, ◌++◌, true, false, length, Option, None, Some, IfErr, IfNone, IfOk, IfSome, IsSomeAnd, OnErr, OnOk, vec_capacity, vec_len};
-ghost use Rattle.account.specs.declared.call.OutItem.{OutItem as Item};
+ghost use Rattle.std.specs.Prelude.{◌≡◌, ◌⊎◌, ◌<◌, ℕ, List, [], ◌∷◌, ◌++◌, true, false, length, Option, None, Some, IfErr, IfNone, IfOk, IfSome, IsSomeAnd, OnErr, OnOk, option_map, slice_get, vec_capacity, vec_len};
 ghost use Rattle.callhead.specs.declared.head.CallHead.{CallHead as Head};
 ghost use Rattle.callhead.specs.StatusFields.{refusal_of, unknown_method as unknown_fields};
+ghost use Rattle.lane.specs.RingLane.{got, in_name, out_name, put_in};
 ghost use Rattle.callparts.specs.Blocks.{items_of};
+ghost use Rattle.callparts.specs.Workers.{IsFreshWork};
 ghost use Rattle.callparts.specs.declared.report.Ending.TheVariants as ending;
 ghost use Rattle.connbook.specs.declared.answers.Receipt.TheVariants.{Discard, Feed};
 ghost use Rattle.h2frame.specs.declared.error_code.ErrorCode.TheVariants.{InternalError};
 ghost use Rattle.outwriter.specs.Steps.{order_of};
 ghost use Rattle.outwriter.specs.declared.control.Control.TheVariants as orders;
 ghost use Rattle.session.specs.declared.event.InEvent.TheVariants as events;
-ghost use Rattle.readerloop.specs.Calls.{HasReturned};
+ghost use Rattle.readerloop.specs.Calls.{HasReturned, Sent, carried_in};
 ghost use Rattle.readerloop.specs.Kept.{Kept, fed_at, unsettled};
 ghost use Rattle.readerloop.specs.Orders.{begun, ends_at, last_stream, named, named_with, news_of, orders_at, without_head};
-ghost use Rattle.readerloop.specs.Readings.{Awaits, Begins, CollectsTo, Counts, Decides, DecidesOn, HasSameRest, IsNext, KeepsNext, MayMiss, Opens, Reads, ReadsOn, Stays, fate_of, goaway_in, order_in, refused_by, unless_ended};
+ghost use Rattle.readerloop.specs.Readings.{Awaits, Begins, CollectsTo, Counts, Decides, DecidesOn, HasCollected, HasSameRest, IsNext, KeepsNext, MayMiss, Opens, Reads, ReadsOn, Stays, fate_of, goaway_in, order_in, refused_by, unless_ended};
 ghost use Rattle.readerloop.specs.Reports.{AreAccounts, IsSettled};
 ghost use Rattle.readerloop.specs.Seats.{HasPlaces, HasPlacesAt};
 ghost use Rattle.readerloop.specs.Steps.{Admitted, CutOff, Drains, Lacking, Lacks, NoWorker, Plain, Received, Step, Stopped, Told, TurnedAway, Unknown, Unserved, WasTold, is_draining, reported};
@@ -33,11 +34,11 @@ use crate::half::Half;
 use crate::seats::{Seat, Seats};
 use account::Shut;
 use bytes::Bytes;
-use callbox::{FeedFault, open_call};
+use callbox::{FeedFault, Feeder, open_call};
 use callhead::{CallHead, HeadFault, unknown_method};
 use callparts::{
-    Accounts, Answering, CallAccount, DoneIn, Ending, Front, HOME, Job, Naming, Opening, Order,
-    Register, Request, Returning, Sending, TasksOut, Work,
+    Accounts, Answering, CallAccount, DoneIn, Ending, Front, HOME, InLane, Job, Naming, Opening,
+    Order, Register, Request, Returning, Sending, TasksOut, Work,
 };
 use connbook::{AdmitFault, Receipt};
 use h2frame::{ErrorCode, StreamId};
@@ -56,6 +57,14 @@ const IN_ROOM: usize = 65_536;
 
 /// Room for what a call is answered with: so many messages wait at most to be written.
 const OUT_ROOM: usize = 16;
+
+/// The ends of the lanes of a call that begins: that which feeds it, those that its worker is handed, and its sender.
+#[derive(Drop)]
+struct Ends<J: Naming> {
+    feeder: Feeder<InLane>,
+    job: Job<J>,
+    sending: Box<Sending<J>>,
+}
 
 /// The reading side of a connection: its calls, its workers, and which streams were begun.
 #[derive(Drop)]
@@ -87,14 +96,14 @@ impl<J: Naming, M: Answering> Reading<J, M> {
         front: Front<J>,
         home: RingOut<Returning<J>>,
     ) -> Reading<J, M>
-        ensures reads { (carries : ℕ → List Item → Type 0)
-            → Reads M.known M.names carries [] result }
+        ensures reads { (sent : List Sent)
+            → Reads M.known M.names (carried_in sent) [] result }
         ensures home { result.home ≡ home }
         ensures none { unsettled result.calls ≡ [] }
     {
         Reading {
             alloc,
-            calls: Calls::new(alloc),
+            calls: Calls::new::<M>(alloc),
             seats: Seats::new(alloc),
             register,
             front,
@@ -234,59 +243,81 @@ impl<J: Naming, M: Answering> Reading<J, M> {
         requires named { M.names request.head.path request.index }
         requires next { IsNext request.id self.old }
         requires places { HasPlacesAt number self.old.seats }
-        ensures heard { OnOk result ((carries : ℕ → List Item → Type 0) (told : List Step)
+        ensures heard { OnOk result ((sent : List Sent) (told : List Step)
             → is_draining told ≡ false
-            → Kept M.known M.names carries told self.old.calls
-            → Kept M.known M.names carries
+            → Kept M.known M.names (carried_in sent) told self.old.calls
+            → Kept M.known M.names (carried_in sent)
             (Told (events.Open request.id request.head) Admitted ∷ told) self.new.calls) }
         ensures opens { IfOk result (λ opening. Opens request (orders.Open request.id opening)) }
-        ensures kept { OnErr result ((carries : ℕ → List Item → Type 0) (told : List Step)
-            → Kept M.known M.names carries told self.old.calls
-            → Kept M.known M.names carries told self.new.calls) }
+        ensures kept { OnErr result ((sent : List Sent) (told : List Step)
+            → Kept M.known M.names (carried_in sent) told self.old.calls
+            → Kept M.known M.names (carried_in sent) told self.new.calls) }
         ensures next { OnErr result (KeepsNext self.old self.new) }
         ensures rest { HasSameRest self.old self.new }
     {
         self.calls.reserve()?;
-        let (id, method) = (request.id, request.index);
         let Some(line) = self.seats.line(number) else {
             return Err(AllocError);
         };
         let line = Arc::try_clone(line)?;
-        let (feeder, taker, giver, sender) = open_call(self.alloc, id, IN_ROOM, OUT_ROOM)?;
-        let work = Work {
-            request,
-            taker,
-            giver,
-        };
-        let Some(entry) = self.front.draw(&self.register, &work) else {
-            return Err(AllocError);
-        };
-        let sending = Box::new(
-            self.alloc,
-            Sending {
-                number: entry.again(),
-                sender: Some(sender),
-            },
-        )?;
+        let (id, method) = (request.id, request.index);
+        let Ends {
+            feeder,
+            job,
+            sending,
+        } = self.open_lanes(request)?;
         let place = self.calls.next_place();
-        self.calls.add(Call {
+        self.calls.add::<M>(Call {
             id,
             method,
-            number: entry.again(),
+            number: job.number.again(),
             place,
             seat: number,
             half: Half::Open(feeder),
             finished: None,
             returning: None,
         });
-        self.seats.hand(
-            number,
-            Job {
-                work,
-                number: entry,
-            },
-        );
+        self.seats.hand(number, job);
         Ok(Opening { sending, line })
+    }
+
+    /// Opens the lanes of a call, and enters it in the register.
+    fn open_lanes(&mut self, request: Request) -> Result<Ends<J>, AllocError>
+        ensures request { IfOk result (λ ends. ends.job.work.request ≡ request) }
+        ensures fresh { IfOk result (λ ends. IsFreshWork ends.job.work) }
+        ensures one_lane { IfOk result
+            (λ ends. in_name ends.feeder.tx ≡ out_name ends.job.work.taker.rx) }
+        ensures unfed { IfOk result (λ ends. put_in ends.feeder.tx ≡ []) }
+        ensures stands { IfOk result (λ ends. slice_get ends.sending.value.number.seen.log
+            ends.sending.value.number.value ≡ Some ends.job.work) }
+        ensures ungot { IfOk result
+            (λ ends. option_map (λ s. got s.rx) ends.sending.value.sender ≡ Some []) }
+        ensures rest { self.new ≡ record self.old { front = self.new.front } }
+    {
+        let id = request.id;
+        let (feeder, taker, giver, sender) = open_call(self.alloc, id, IN_ROOM, OUT_ROOM)?;
+        let work = Work {
+            request,
+            taker,
+            giver,
+        };
+        let Some(number) = self.front.draw(&self.register, &work) else {
+            return Err(AllocError);
+        };
+        let again = number.again();
+        let sending = Box::new(
+            self.alloc,
+            Sending {
+                number: again,
+                sender: Some(sender),
+            },
+        )?;
+        let job = Job { work, number };
+        Ok(Ends {
+            feeder,
+            job,
+            sending,
+        })
     }
 
     /// No worker could be started for a call of this method, which was admitted: its account says so, and the connection ends.
@@ -296,7 +327,7 @@ impl<J: Naming, M: Answering> Reading<J, M> {
         ensures unserved { (head : Head) → M.names head.path method → DecidesOn M.known M.names
             (Told (events.Open id head) (Unserved NoWorker)) result self.old self.new }
     {
-        self.calls.pass_over(id, method);
+        self.calls.pass_over::<M>(id, method);
         self.end_at(id)
     }
 
@@ -306,7 +337,7 @@ impl<J: Naming, M: Answering> Reading<J, M> {
         ensures decides { (head : Head) → M.names head.path method → DecidesOn M.known M.names
             (Told (events.Open id head) (Unserved Stopped)) result self.old self.new }
     {
-        self.calls.pass_over(id, method);
+        self.calls.pass_over::<M>(id, method);
         let goaway = self.count(id);
         Decided {
             goaway,
@@ -330,11 +361,11 @@ impl<J: Naming, M: Answering> Reading<J, M> {
     fn begin(&mut self, id: StreamId, order: Order<J>) -> Decided<J>
         ensures ends { result.ends ≡ None }
         ensures order { result.order ≡ Some order }
-        ensures decides { (carries : ℕ → List Item → Type 0) (told : List Step) (step : Step)
-            → Begins M.known M.names carries told step id self.old → ends_at step ≡ None
+        ensures decides { (sent : List Sent) (told : List Step) (step : Step)
+            → Begins M.known M.names (carried_in sent) told step id self.old → ends_at step ≡ None
             → orders_at told step
             ≡ last_stream id (is_draining told) (begun told) ++ order_of order ∷ []
-            → Decides M.known M.names carries told step result self.new }
+            → Decides M.known M.names (carried_in sent) told step result self.new }
         ensures calls { self.new.calls ≡ self.old.calls }
         ensures home { self.new.home ≡ self.old.home }
     {
@@ -357,12 +388,12 @@ impl<J: Naming, M: Answering> Reading<J, M> {
     /// A stream begins, with which the connection ends.
     fn end_at(&mut self, id: StreamId) -> Decided<J>
         ensures memory { result.ends ≡ Some ending.OutOfMemory }
-        ensures ends { (carries : ℕ → List Item → Type 0) (told : List Step) (step : Step)
-            → Begins M.known M.names carries told step id self.old
+        ensures ends { (sent : List Sent) (told : List Step) (step : Step)
+            → Begins M.known M.names (carried_in sent) told step id self.old
             → ends_at step ≡ Some ending.OutOfMemory
             → orders_at told step ≡ last_stream id (is_draining told) (begun told)
             ++ orders.Goaway (named_with id (is_draining told) (named told)) InternalError ∷ []
-            → Decides M.known M.names carries told step result self.new }
+            → Decides M.known M.names (carried_in sent) told step result self.new }
     {
         let goaway = self.count(id);
         Decided {
@@ -401,8 +432,8 @@ impl<J: Naming, M: Answering> Reading<J, M> {
         ensures decides { (counted : ℕ) → DecidesOn M.known M.names
             (Told (events.Data id piece counted) (fate_of receipt result.order result.ends))
             result self.old self.new }
-        ensures missed { (carries : ℕ → List Item → Type 0) (told : List Step)
-            → Reads M.known M.names carries told self.old
+        ensures missed { (sent : List Sent) (told : List Step)
+            → Reads M.known M.names (carried_in sent) told self.old
             → MayMiss id piece (fate_of receipt result.order result.ends) told }
     {
         match receipt {
@@ -428,11 +459,11 @@ impl<J: Naming, M: Answering> Reading<J, M> {
         ensures decides { (counted : ℕ) → DecidesOn M.known M.names
             (Told (events.Data id piece counted) (fate_of Feed result.order result.ends))
             result self.old self.new }
-        ensures missed { (carries : ℕ → List Item → Type 0) (told : List Step)
-            → Reads M.known M.names carries told self.old
+        ensures missed { (sent : List Sent) (told : List Step)
+            → Reads M.known M.names (carried_in sent) told self.old
             → MayMiss id piece (fate_of Feed result.order result.ends) told }
     {
-        match self.calls.feed(id, piece) {
+        match self.calls.feed::<M>(id, piece) {
             Ok(worker) => {
                 self.seats.note(worker);
                 Decided::nothing()
@@ -467,10 +498,19 @@ impl<J: Naming, M: Answering> Reading<J, M> {
         ensures decides { (counted : ℕ) → DecidesOn M.known M.names
             (Told (events.Data id piece.now counted) (Received Discard)) result self.old self.new }
     {
-        if !piece.is_empty() {
-            self.calls.miss(id);
-        }
+        self.lose_piece(id, piece);
         Decided::nothing()
+    }
+
+    /// The call of this stream misses a piece, unless that has no bytes.
+    fn lose_piece(&mut self, id: StreamId, piece: &Bytes)
+        ensures reads { (counted : ℕ) → ReadsOn M.known M.names
+            (Told (events.Data id piece.now counted) (Received Discard)) self.old self.new }
+    {
+        if piece.is_empty() {
+            return;
+        }
+        self.calls.miss::<M>(id);
     }
 
     /// Bytes came that count on the connection alone, of which the lock said this.
@@ -488,7 +528,7 @@ impl<J: Naming, M: Answering> Reading<J, M> {
     pub fn end_half(&mut self, id: StreamId)
         ensures reads { ReadsOn M.known M.names (Told (events.End id) Plain) self.old self.new }
     {
-        let worker = self.calls.shut(id, Shut::End);
+        let worker = self.calls.shut::<M>(id, Shut::End);
         self.seats.note(worker);
     }
 
@@ -510,14 +550,14 @@ impl<J: Naming, M: Answering> Reading<J, M> {
 
     /// The half of a call is shut, as was decided.
     pub fn shut(&mut self, cut: Cut)
-        ensures heard { (carries : ℕ → List Item → Type 0) (told : List Step) (step : Step)
-            → Awaits M.known M.names carries told step cut self.old
-            → Reads M.known M.names carries (step ∷ told) self.new }
+        ensures heard { (sent : List Sent) (told : List Step) (step : Step)
+            → Awaits M.known M.names (carried_in sent) told step cut self.old
+            → Reads M.known M.names (carried_in sent) (step ∷ told) self.new }
         ensures next { KeepsNext self.old self.new }
         ensures draining { self.new.is_draining ≡ self.old.is_draining }
         ensures home { self.new.home ≡ self.old.home }
     {
-        let worker = self.calls.shut(cut.id, cut.kind);
+        let worker = self.calls.shut::<M>(cut.id, cut.kind);
         self.seats.note(worker);
     }
 
@@ -593,8 +633,8 @@ impl<J: Naming, M: Answering> Reading<J, M> {
     /// Whether the server drains.
     pub fn is_draining(&self) -> bool
         ensures value { result ≡ self.now.is_draining }
-        ensures told { (carries : ℕ → List Item → Type 0) (told : List Step)
-            → Reads M.known M.names carries told self.now → result ≡ is_draining told }
+        ensures told { (sent : List Sent) (told : List Step)
+            → Reads M.known M.names (carried_in sent) told self.now → result ≡ is_draining told }
     {
         self.is_draining
     }
@@ -608,42 +648,60 @@ impl<J: Naming, M: Answering> Reading<J, M> {
         ensures draining { self.new.is_draining ≡ self.old.is_draining }
     {
         'workers: for number in 0..self.seats.len() {
-            if let Some(finished) = self.seats.finished(number) {
-                self.calls.finish(finished);
-            }
+            self.collect_from(number);
         }
         'senders: for _ in 0..HOME {
-            let Some(returning) = self.home.take() else {
+            if !self.collect_sender() {
                 return;
-            };
-            self.calls.take_back(returning);
+            }
         }
+    }
+
+    /// Takes the call that the worker of this number has handed back, if it has.
+    fn collect_from(&mut self, number: usize)
+        ensures { HasCollected M.known M.names self.old self.new }
+    {
+        let Some(finished) = self.seats.finished(number) else {
+            return;
+        };
+        self.calls.finish::<M>(finished);
+    }
+
+    /// Takes a sender that the writing side has handed back, and says whether there was one.
+    fn collect_sender(&mut self) -> bool
+        ensures { HasCollected M.known M.names self.old self.new }
+    {
+        let Some(returning) = self.home.take() else {
+            return false;
+        };
+        self.calls.take_back::<M>(returning);
+        true
     }
 
     /// Takes a sender that comes back on another way: its order wasn't put, or the writing side has ended.
     pub fn take_back(&mut self, returning: Returning<J>)
-        ensures stays { (carries : ℕ → List Item → Type 0) (told : List Step)
-            → HasReturned carries returning.sending.value
-            → Reads M.known M.names carries told self.old
-            → Reads M.known M.names carries told self.new }
+        ensures stays { (sent : List Sent) (told : List Step)
+            → HasReturned (carried_in sent) returning.sending.value
+            → Reads M.known M.names (carried_in sent) told self.old
+            → Reads M.known M.names (carried_in sent) told self.new }
         ensures next { KeepsNext self.old self.new }
         ensures draining { self.new.is_draining ≡ self.old.is_draining }
         ensures home { self.new.home ≡ self.old.home }
     {
-        self.calls.take_back(returning);
+        self.calls.take_back::<M>(returning);
     }
 
     /// Settles a call that is over, if there is one: its account is final.
     pub fn settle_next(&mut self) -> Option<CallAccount>
-        ensures settled { IfSome result (λ account. (carries : ℕ → List Item → Type 0)
-            (told : List Step) → Reads M.known M.names carries told self.old
-            → IsSettled M.known M.names carries told account) }
+        ensures settled { IfSome result (λ account. (sent : List Sent)
+            (told : List Step) → Reads M.known M.names (carried_in sent) told self.old
+            → IsSettled M.known M.names (carried_in sent) told account) }
         ensures stays { Stays M.known M.names self.old self.new }
         ensures next { KeepsNext self.old self.new }
         ensures draining { self.new.is_draining ≡ self.old.is_draining }
         ensures home { self.new.home ≡ self.old.home }
     {
-        self.calls.settle_next()
+        self.calls.settle_next::<M>()
     }
 
     /// How many calls aren't settled.
@@ -674,11 +732,11 @@ impl<J: Naming, M: Answering> Reading<J, M> {
         ensures input { (result ≡ ending.InputEnded)
             ⊎ ((result ≡ ending.PeerGoaway) ⊎ (result ≡ ending.Drained)) }
         ensures draining { self.now.is_draining ≡ true → result ≡ ending.Drained }
-        ensures drained { result ≡ ending.Drained → (carries : ℕ → List Item → Type 0)
-            (told : List Step) → Reads M.known M.names carries told self.now
+        ensures drained { result ≡ ending.Drained → (sent : List Sent)
+            (told : List Step) → Reads M.known M.names (carried_in sent) told self.now
             → is_draining told ≡ true }
-        ensures goaway { result ≡ ending.PeerGoaway → (carries : ℕ → List Item → Type 0)
-            (told : List Step) → Reads M.known M.names carries told self.now
+        ensures goaway { result ≡ ending.PeerGoaway → (sent : List Sent)
+            (told : List Step) → Reads M.known M.names (carried_in sent) told self.now
             → WasTold events.PeerGoaway told }
     {
         if self.is_draining {
@@ -713,9 +771,9 @@ impl<J: Naming, M: Answering> Reading<J, M> {
 
     /// The accounts of all calls that were admitted.
     pub fn into_accounts(self) -> Accounts
-        ensures accounts { (carries : ℕ → List Item → Type 0) (told : List Step)
-            → Reads M.known M.names carries told self → unsettled self.calls ≡ []
-            → AreAccounts M.known M.names carries told (reported told)
+        ensures accounts { (sent : List Sent) (told : List Step)
+            → Reads M.known M.names (carried_in sent) told self → unsettled self.calls ≡ []
+            → AreAccounts M.known M.names (carried_in sent) told (reported told)
             (items_of result.full result.last) }
     {
         self.calls.into_accounts()

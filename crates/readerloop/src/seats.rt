@@ -4,7 +4,6 @@ ghost use Rattle.std.specs.Prelude.{◌≡◌, ◌<◌, ◌≤◌, ℕ, true, fa
 ghost use Rattle.rtrb.specs.Ring.{IsPair, known_free, sent};
 ghost use Rattle.callparts.specs.Workers.{IsFreshWork};
 ghost use Rattle.readerloop.specs.Calls.{HasAnswered};
-ghost use Rattle.readerloop.specs.Seats.{HasPlaces};
 
 use callparts::{Answering, DoneIn, DoneOut, Finished, Job, Line, Naming, TasksIn, TasksOut};
 use flow::MAX_LIVE;
@@ -28,6 +27,8 @@ pub struct Seat<J: Naming, M: Answering> {
 }
 
 impl<J: Naming, M: Answering> Seat<J, M> {
+    ghost use Rattle.readerloop.specs.Seats.{HasPlaces};
+
     /// A worker that was handed nothing yet.
     pub fn new(line: Arc<Line>, tasks: TasksIn<J>, done: DoneOut<J, M>) -> Seat<J, M>
         requires place { 0 < known_free tasks }
@@ -52,7 +53,10 @@ impl<J: Naming, M: Answering> Seat<J, M> {
     fn is_free(&mut self) -> bool
         ensures places { result ≡ true → HasPlaces self.new }
     {
-        self.is_free && !self.is_ended && self.tasks.slots() >= 2
+        if !self.is_free || self.is_ended {
+            return false;
+        }
+        self.tasks.slots() >= 2
     }
 
     /// Hands it a call. Its bell is still to be rung.
@@ -81,12 +85,18 @@ impl<J: Naming, M: Answering> Seat<J, M> {
 
     /// Tells it that no more calls come, and rings its bell.
     fn end(&mut self) {
-        if !self.is_ended {
-            self.tasks.push_reserved(None);
-            self.is_ended = true;
-        }
+        self.tell_end();
         self.is_noted = true;
         self.ring_noted();
+    }
+
+    /// Tells it that no more calls come, unless it was told.
+    fn tell_end(&mut self) {
+        if self.is_ended {
+            return;
+        }
+        self.tasks.push_reserved(None);
+        self.is_ended = true;
     }
 
     /// Rings its bell, where that is still to be.
@@ -111,7 +121,7 @@ pub struct Seats<J: Naming, M: Answering> {
 }
 
 impl<J: Naming, M: Answering> Seats<J, M> {
-    ghost use Rattle.readerloop.specs.Seats.{HasPlacesAt};
+    ghost use Rattle.readerloop.specs.Seats.{HasPlaces, HasPlacesAt};
 
     pub(crate) fn new(alloc: Global) -> Seats<J, M> {
         Seats {
@@ -156,13 +166,21 @@ impl<J: Naming, M: Answering> Seats<J, M> {
         ensures places { IfSome result (λ number. HasPlacesAt number self.new) }
     {
         for number in 0..self.seats.len() {
-            if let Some(seat) = self.seats.get_mut(number) {
-                if seat.is_free() {
-                    return Some(number);
-                }
+            if self.is_free(number) {
+                return Some(number);
             }
         }
         None
+    }
+
+    /// Whether the worker of this number is free.
+    fn is_free(&mut self, number: usize) -> bool
+        ensures places { result ≡ true → HasPlacesAt number self.new }
+    {
+        let Some(seat) = self.seats.get_mut(number) else {
+            return false;
+        };
+        seat.is_free()
     }
 
     /// What wakes the worker of this number.

@@ -17,6 +17,7 @@ use Rattle.outwriter.specs.Steps.{Order, Step, Taken, Granted, Returned, Written
 use Rattle.callparts.specs.declared.order.Opening.{Opening}
 use Rattle.callparts.specs.declared.order.Returning.{Returning}
 use Rattle.callparts.specs.declared.register.Naming.{Ghosts}
+use Rattle.device.specs.declared.conn.ConnWrite.{Ghosts as ConnGhosts}
 use Rattle.callparts.specs.declared.report.Ending.{Ending}
 use Rattle.callparts.specs.declared.report.Ending.TheVariants as ending
 use Rattle.callparts.specs.Lanes.{OutSender}
@@ -56,7 +57,7 @@ told-back run id None tells back = absurd back
 told-back run id (Some sender) tells (inl returned) = tells id (got sender.rx) returned
 told-back run id (Some sender) tells (inr never) = told-none run id (got sender.rx) never.0
 
-module _ {J W : Type 0} {naming : Ghosts J} (contents : W → Option (List ℕ)) (failed : W → Bool) where
+module _ {J : Type 0} {naming : Ghosts J} where
   -- of an order that was set aside
   told-aside : (given : List (Control (Opening J naming))) (aside : Option (Control (Opening J naming))) (run : List Step) → AreApart (given ++ order_in aside) → Obeys true (orders_of given) run
       → All (IsTold run) (map (λ call. (call.1, [])) (opens (order_in aside)))
@@ -74,8 +75,9 @@ module _ {J W : Type 0} {naming : Ghosts J} (contents : W → Option (List ℕ))
   told-aside given (Some control.InputEnded) run apart obeys = All-nil (IsTold run)
   told-aside given (Some control.Close) run apart obeys = All-nil (IsTold run)
 
+module _ {J W : Type 0} {naming : Ghosts J} {conn : ConnGhosts W} (contents : W → Option (List ℕ)) (failed : W → Bool) where
   -- what is left of a writer whose buffer is flushed
-  pub has-written : (before : Option (List ℕ)) (credit : ℕ) (writer : Writing J W naming) (device : W) (told : Option Ending) (faultless : Bool) → device ≡ writer.frames.device → IsFlushed writer
+  pub has-written : (before : Option (List ℕ)) (credit : ℕ) (writer : Writing J W naming conn) (device : W) (told : Option Ending) (faultless : Bool) → device ≡ writer.frames.device → IsFlushed writer
       → (led : LedOut contents failed before credit writer)
       → TellOthers led.2.0
       → IsFront (frames_of led.2.0) before (contents device)
@@ -112,7 +114,7 @@ module _ {J W : Type 0} {naming : Ghosts J} (contents : W → Option (List ℕ))
       )
 
   -- what is left of its senders too
-  pub has-sent : (before : Option (List ℕ)) (credit : ℕ) (writer : Writing J W naming) (rest : Senders J naming) (device : W) (told : Option Ending) (faultless : Bool) (led : LedOut contents failed before credit writer)
+  pub has-sent : (before : Option (List ℕ)) (credit : ℕ) (writer : Writing J W naming conn) (rest : Senders J naming) (device : W) (told : Option Ending) (faultless : Bool) (led : LedOut contents failed before credit writer)
       → (written : HasWritten contents failed before credit (orders_of (taken writer.inbox.ring)) told faultless device) → written.run ≡ led.2.0
       → rest.aside ≡ writer.inbox.set_aside → rest.sends ≡ writer.sends → rest.core.items ≡ core_of writer
       → TellFronts led.2.0 (calls got (core_of writer)) → TellReturned led.2.0

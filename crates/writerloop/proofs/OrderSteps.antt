@@ -247,9 +247,9 @@ module _ {S : Type 0} where
   pub all-given : (inbox : Inbox S) → inbox.set_aside ≡ None → taken inbox.ring ≡ [] → HasGiven [] inbox
   all-given inbox none empty = ap (λ (aside : Option (Control S)). order_in aside) none ∙ sym empty
 
-  -- an order that opens a call takes its turn
-  pub obeys-opening : (id : ℕ) (orders : List Order) (run : List Step) → Obeys false orders run → Obeys false (orders ++ control.Open id tt ∷ []) (Taken (control.Open id tt) ∷ run)
-  obeys-opening id orders run obeys = (taken-next orders (control.Open id tt) run obeys.0, (inl tt, answered-next (control.Open id tt) run obeys.1))
+-- an order that opens a call takes its turn
+pub obeys-opening : (id : ℕ) (orders : List Order) (run : List Step) → Obeys false orders run → Obeys false (orders ++ control.Open id tt ∷ []) (Taken (control.Open id tt) ∷ run)
+obeys-opening id orders run obeys = (taken-next orders (control.Open id tt) run obeys.0, (inl tt, answered-next (control.Open id tt) run obeys.1))
 
 -- ---- streams that are opened
 

@@ -29,6 +29,7 @@ use Rattle.outwriter.specs.Steps.{Order, Step, Taken, Granted, Returned, Written
 use Rattle.callparts.specs.declared.order.Opening.{Opening}
 use Rattle.callparts.specs.declared.order.Returning.{Returning}
 use Rattle.callparts.specs.declared.register.Naming.{Ghosts}
+use Rattle.device.specs.declared.conn.ConnWrite.{Ghosts as ConnGhosts}
 use Rattle.callparts.specs.Lanes.{OutSender}
 use Rattle.writerloop.specs.declared.filled.Filled.{Filled}
 use Rattle.writerloop.specs.declared.filled.Filled.TheVariants.{Over, Stopped}
@@ -269,81 +270,67 @@ abbrev stream-of : Order → ℕ
 stream-of (control.Open n sender) = n
 stream-of _ = 0
 
+abbrev opens-it : Order → Bool
+opens-it (control.Open n sender) = true
+opens-it _ = false
+
 module _ {J : Type 0} {naming : Ghosts J} where
   pub among-opens : (orders : List (Control (Opening J naming))) (id : ℕ) → IsAmong (control.Open id tt) (orders_of orders) → (number : ℕ) × Contains (opens orders) (number, id)
   among-opens [] id among = absurd among
   among-opens (control.Open stream opening ∷ orders) id (inl is) =
       let same : id ≡ stream = ap stream-of is in
-      (opening.sending.value.number.value, 0, omega arith, ap (λ (n : ℕ). (opening.sending.value.number.value, n)) (sym same))
+      (opening.sending.value.number.value, (0, omega arith, ap (λ (n : ℕ). (opening.sending.value.number.value, n)) (sym same)))
   among-opens (control.Open stream opening ∷ orders) id (inr among) =
-      let rest = among-opens orders id among in (rest.0, suc rest.1.0, omega (arith, rest.1.1), rest.1.2)
-  among-opens (control.Settings settings ∷ orders) id (inl is) = absurd (no is)
-    where
-      no : {x : _} → control.Open id tt ≡ control.Settings x → ⊥
-      no e = cc
+      let rest = among-opens orders id among in (rest.0, (suc rest.1.0, omega (arith, rest.1.1), rest.1.2))
+  among-opens (control.Settings settings ∷ orders) id (inl is) = absurd (true≢false (ap opens-it is))
   among-opens (control.Settings settings ∷ orders) id (inr among) = among-opens orders id among
-  among-opens (control.Ping bytes ∷ orders) id (inl is) = absurd (no is)
-    where
-      no : {x : _} → control.Open id tt ≡ control.Ping x → ⊥
-      no e = cc
+  among-opens (control.Ping bytes ∷ orders) id (inl is) = absurd (true≢false (ap opens-it is))
   among-opens (control.Ping bytes ∷ orders) id (inr among) = among-opens orders id among
-  among-opens (control.Probe bytes ∷ orders) id (inl is) = absurd (no is)
-    where
-      no : {x : _} → control.Open id tt ≡ control.Probe x → ⊥
-      no e = cc
+  among-opens (control.Probe bytes ∷ orders) id (inl is) = absurd (true≢false (ap opens-it is))
   among-opens (control.Probe bytes ∷ orders) id (inr among) = among-opens orders id among
-  among-opens (control.Window stream n ∷ orders) id (inl is) = absurd (no is)
-    where
-      no : {x y : _} → control.Open id tt ≡ control.Window x y → ⊥
-      no e = cc
+  among-opens (control.Window stream n ∷ orders) id (inl is) = absurd (true≢false (ap opens-it is))
   among-opens (control.Window stream n ∷ orders) id (inr among) = among-opens orders id among
-  among-opens (control.Refuse stream fields ∷ orders) id (inl is) = absurd (no is)
-    where
-      no : {x y : _} → control.Open id tt ≡ control.Refuse x y → ⊥
-      no e = cc
+  among-opens (control.Refuse stream fields ∷ orders) id (inl is) = absurd (true≢false (ap opens-it is))
   among-opens (control.Refuse stream fields ∷ orders) id (inr among) = among-opens orders id among
-  among-opens (control.Reset stream code written ∷ orders) id (inl is) = absurd (no is)
-    where
-      no : {x y z : _} → control.Open id tt ≡ control.Reset x y z → ⊥
-      no e = cc
+  among-opens (control.Reset stream code written ∷ orders) id (inl is) = absurd (true≢false (ap opens-it is))
   among-opens (control.Reset stream code written ∷ orders) id (inr among) = among-opens orders id among
-  among-opens (control.Goaway last code ∷ orders) id (inl is) = absurd (no is)
-    where
-      no : {x y : _} → control.Open id tt ≡ control.Goaway x y → ⊥
-      no e = cc
+  among-opens (control.Goaway last code ∷ orders) id (inl is) = absurd (true≢false (ap opens-it is))
   among-opens (control.Goaway last code ∷ orders) id (inr among) = among-opens orders id among
-  among-opens (control.InputEnded ∷ orders) id (inl is) = absurd (no is)
-    where
-      no : control.Open id tt ≡ control.InputEnded → ⊥
-      no e = cc
+  among-opens (control.InputEnded ∷ orders) id (inl is) = absurd (true≢false (ap opens-it is))
   among-opens (control.InputEnded ∷ orders) id (inr among) = among-opens orders id among
-  among-opens (control.Close ∷ orders) id (inl is) = absurd (no is)
-    where
-      no : control.Open id tt ≡ control.Close → ⊥
-      no e = cc
+  among-opens (control.Close ∷ orders) id (inl is) = absurd (true≢false (ap opens-it is))
   among-opens (control.Close ∷ orders) id (inr among) = among-opens orders id among
 
-module _ {J W : Type 0} {naming : Ghosts J} where
+  -- the next order is among those that were taken
+  aside-given : (next : Control (Opening J naming)) (given : List (Control (Opening J naming))) (mid : Inbox (Opening J naming)) → mid.set_aside ≡ None → HasGiven (given ++ next ∷ []) mid → given ++ next ∷ [] ≡ taken mid.ring
+  aside-given next given mid none has = sym (append-nil (given ++ next ∷ [])) ∙ (ap (λ (one : Option (Control (Opening J naming))). (given ++ next ∷ []) ++ order_in one) (sym none) ∙ has)
+
+-- frames reset no call that was left
+left-frames : (frames : List Frame) (run : List Step) → left_in (map Written frames ++ run) ≡ left_in run
+left-frames [] run = refl
+left-frames (frame ∷ frames) run = left-frames frames run
+
+module _ {J W : Type 0} {naming : Ghosts J} {conn : ConnGhosts W} where
   -- the calls are the same, and what was handed back
-  pub record SameSent (old new : Writing J W naming) : Type 0 where
+  pub record SameSent (old new : Writing J W naming conn) : Type 0 where
     pub numbers : numbers new.sends.calls.items ≡ numbers old.sends.calls.items
     pub way : put_in new.sends.home ≡ put_in old.sends.home
 
-  pub record SameKnown (old new : Writing J W naming) : Type 0 where
+  pub record SameKnown (old new : Writing J W naming conn) : Type 0 where
     pub input : new.input_ended ≡ old.input_ended
     pub closed : new.closed ≡ old.closed
 
-  pub sent-here : (writer : Writing J W naming) → SameSent writer writer
+  pub sent-here : (writer : Writing J W naming conn) → SameSent writer writer
   sent-here writer = record { numbers = refl; way = refl }
 
-  pub known-here : (writer : Writing J W naming) → SameKnown writer writer
+  pub known-here : (writer : Writing J W naming conn) → SameKnown writer writer
   known-here writer = record { input = refl; closed = refl }
 
   -- by these steps no sender is lost
-  abbrev pub GoesOn : List Step → Writing J W naming → Writing J W naming → Type 0
+  abbrev pub GoesOn : List Step → Writing J W naming conn → Writing J W naming conn → Type 0
   GoesOn steps old new = (orders : List (Control (Opening J naming))) (run : List Step) → Holds orders run old → Holds orders (steps ++ run) new
 
-  pub goes-by : (steps : List Step) (old new : Writing J W naming) → SameSent old new → new.blames ≡ old.blames → ((run : List Step) (id : ℕ) → On run (steps ++ run) id)
+  pub goes-by : (steps : List Step) (old new : Writing J W naming conn) → SameSent old new → new.blames ≡ old.blames → ((run : List Step) (id : ℕ) → On run (steps ++ run) id)
       → ((run : List Step) → left_in (steps ++ run) ≡ left_in run) → ((id : ℕ) → GaveLeft id (calls got (core_of old)) → GaveLeft id (calls got (core_of new))) → GoesOn steps old new
   goes-by steps old new same blames on lefts gave orders run holds = record {
     senders =
@@ -352,58 +339,54 @@ module _ {J W : Type 0} {naming : Ghosts J} where
     blamed = λ is. overflow-later 0 steps run (holds.blamed (sym blames ∙ is));
   }
 
-  gave-same : (old new : Writing J W naming) → core_of new ≡ core_of old → (id : ℕ) → GaveLeft id (calls got (core_of old)) → GaveLeft id (calls got (core_of new))
+  gave-same : (old new : Writing J W naming conn) → core_of new ≡ core_of old → (id : ℕ) → GaveLeft id (calls got (core_of old)) → GaveLeft id (calls got (core_of new))
   gave-same old new core id gave = subst (λ (senders : List (ℕ × OutSender)). GaveLeft id (calls got senders)) (sym core) gave
 
-  pub goes-none : (old new : Writing J W naming) → SameSent old new → new.blames ≡ old.blames → core_of new ≡ core_of old → GoesOn [] old new
+  pub goes-none : (old new : Writing J W naming conn) → SameSent old new → new.blames ≡ old.blames → core_of new ≡ core_of old → GoesOn [] old new
   goes-none old new same blames core = goes-by [] old new same blames on-same (λ run. refl) (gave-same old new core)
 
-  pub goes-granted : (id n : ℕ) (old new : Writing J W naming) → SameSent old new → new.blames ≡ old.blames → core_of new ≡ core_of old → GoesOn (Granted id n ∷ []) old new
+  pub goes-granted : (id n : ℕ) (old new : Writing J W naming conn) → SameSent old new → new.blames ≡ old.blames → core_of new ≡ core_of old → GoesOn (Granted id n ∷ []) old new
   goes-granted id n old new same blames core = goes-by (Granted id n ∷ []) old new same blames (on-granted id n) (λ run. refl) (gave-same old new core)
 
-  left-frames : (frames : List Frame) (run : List Step) → left_in (map Written frames ++ run) ≡ left_in run
-  left-frames [] run = refl
-  left-frames (frame ∷ frames) run = left-frames frames run
-
-  pub goes-frames : (frames : List Frame) (old new : Writing J W naming) → SameSent old new → new.blames ≡ old.blames
+  pub goes-frames : (frames : List Frame) (old new : Writing J W naming conn) → SameSent old new → new.blames ≡ old.blames
       → ((id : ℕ) → GaveLeft id (calls got (core_of old)) → GaveLeft id (calls got (core_of new))) → GoesOn (map Written frames) old new
   goes-frames frames old new same blames gave = goes-by (map Written frames) old new same blames (on-frames frames) (left-frames frames) gave
 
   -- an order that opens no call and resets none that was left
-  goes-plain : {S : Type 0} (order : Order) (last : ℕ) (taking : Taking S) (old new : Writing J W naming) → ((k : ℕ) → opens_stream k order ≡ false) → left_by order ≡ [] → SameSent old new → new.blames ≡ old.blames
+  goes-plain : {S : Type 0} (order : Order) (last : ℕ) (taking : Taking S) (old new : Writing J W naming conn) → ((k : ℕ) → opens_stream k order ≡ false) → left_by order ≡ [] → SameSent old new → new.blames ≡ old.blames
       → core_of new ≡ core_of old → GoesOn (steps_of order last taking) old new
   goes-plain order last taking old new plain leaves same blames core =
       goes-by (steps_of order last taking) old new same blames (λ run k. on-steps order last taking run k (plain k)) (λ run. left-steps order last taking run leaves) (gave-same old new core)
 
-  pub knows-same : (orders : List Order) (old new : Writing J W naming) → (new.inbox.has_lost ≡ false → old.inbox.has_lost ≡ false) → SameKnown old new → Knows orders old → Knows orders new
+  pub knows-same : (orders : List Order) (old new : Writing J W naming conn) → (new.inbox.has_lost ≡ false → old.inbox.has_lost ≡ false) → SameKnown old new → Knows orders old → Knows orders new
   knows-same orders old new kept same knows = record {
     input = λ still. same.input ∙ knows.input (kept still);
     closed = same.closed ∙ knows.closed;
   }
 
-  closed-more : (order : Order) (orders : List Order) (old new : Writing J W naming) → new.closed ≡ (closes order || old.closed) → old.closed ≡ list_any closes orders
+  closed-more : (order : Order) (orders : List Order) (old new : Writing J W naming conn) → new.closed ≡ (closes order || old.closed) → old.closed ≡ list_any closes orders
       → new.closed ≡ list_any closes (orders ++ order ∷ [])
   closed-more order orders old new heeds was = heeds ∙ (ap (λ (closed : Bool). closes order || closed) was ∙ any-more closes orders order)
 
   -- the next order is taken
-  pub knows-taken : (order : Order) (old new : Writing J W naming) → (new.inbox.has_lost ≡ false → old.inbox.has_lost ≡ false) → Heeds order old new → (orders : List Order) → Knows orders old
+  pub knows-taken : (order : Order) (old new : Writing J W naming conn) → (new.inbox.has_lost ≡ false → old.inbox.has_lost ≡ false) → Heeds order old new → (orders : List Order) → Knows orders old
       → Knows (orders ++ order ∷ []) new
   knows-taken order old new kept heeds orders knows = record {
     input = λ still. heeds.input ∙ (ap (λ (ended : Bool). ends_input order || ended) (knows.input (kept still)) ∙ any-more ends_input orders order);
     closed = closed-more order orders old new heeds.closed knows.closed;
   }
 
-module _ {J W : Type 0} {naming : Ghosts J} (contents : W → Option (List ℕ)) (failed : W → Bool) where
+module _ {J W : Type 0} {naming : Ghosts J} {conn : ConnGhosts W} (contents : W → Option (List ℕ)) (failed : W → Bool) where
   -- ---- frames
 
   -- frames are put into the buffer
-  pub fills-on : (filled : Option Filled) (old new : Writing J W naming) → Fills got (coming got ahead) contents failed filled old.frames new.frames → ((frames : List Frame) → GoesOn (map Written frames) old new)
+  pub fills-on : (filled : Option Filled) (old new : Writing J W naming conn) → Fills got (coming got ahead) contents failed filled old.frames new.frames → ((frames : List Frame) → GoesOn (map Written frames) old new)
       → (lost : Bool) (orders : List (Control (Opening J naming))) (before : Option (List ℕ)) (credit : ℕ) → Runs contents failed lost orders before credit old → Runs contents failed lost orders before credit new
   fills-on filled old new fills goes lost orders before credit runs =
       let found = fills before runs.0 runs.1 in
       (map Written found.0 ++ runs.0, found.1, obeys-frames lost (orders_of orders) found.0 runs.0 runs.2, goes found.0 orders runs.0 runs.3, granted-frames found.0 runs.0 credit runs.4)
 
-  over-filled : (old new : Writing J W naming) → Fills got (coming got ahead) contents failed (Some Over) old.frames new.frames → ((frames : List Frame) → GoesOn (map Written frames) old new)
+  over-filled : (old new : Writing J W naming conn) → Fills got (coming got ahead) contents failed (Some Over) old.frames new.frames → ((frames : List Frame) → GoesOn (map Written frames) old new)
       → RunsOut contents failed old new
   over-filled old new fills goes lost orders before credit runs =
       let found = fills before runs.0 runs.1 in
@@ -416,7 +399,7 @@ module _ {J W : Type 0} {naming : Ghosts J} (contents : W → Option (List ℕ))
         λ going. record { closed = found.1.leads.closed ∙ rest.1; answered = rest.0.answered },
       )
 
-  stopped-filled : (old new : Writing J W naming) → Fills got (coming got ahead) contents failed (Some Stopped) old.frames new.frames → ((frames : List Frame) → GoesOn (map Written frames) old new)
+  stopped-filled : (old new : Writing J W naming conn) → Fills got (coming got ahead) contents failed (Some Stopped) old.frames new.frames → ((frames : List Frame) → GoesOn (map Written frames) old new)
       → RunsOut contents failed old new
   stopped-filled old new fills goes lost orders before credit runs =
       let found = fills before runs.0 runs.1 in (
@@ -429,19 +412,19 @@ module _ {J W : Type 0} {naming : Ghosts J} (contents : W → Option (List ℕ))
       )
 
   -- so many that nothing is left to be written
-  pub fills-over : (filled : Filled) (old new : Writing J W naming) → Fills got (coming got ahead) contents failed (Some filled) old.frames new.frames
+  pub fills-over : (filled : Filled) (old new : Writing J W naming conn) → Fills got (coming got ahead) contents failed (Some filled) old.frames new.frames
       → ((frames : List Frame) → GoesOn (map Written frames) old new) → filled ≡ Over → RunsOut contents failed old new
   fills-over filled old new fills goes over =
       over-filled old new (subst (λ (found : Filled). Fills got (coming got ahead) contents failed (Some found) old.frames new.frames) over fills) goes
 
   -- the writer makes no more
-  pub fills-stopped : (filled : Filled) (old new : Writing J W naming) → Fills got (coming got ahead) contents failed (Some filled) old.frames new.frames
+  pub fills-stopped : (filled : Filled) (old new : Writing J W naming conn) → Fills got (coming got ahead) contents failed (Some filled) old.frames new.frames
       → ((frames : List Frame) → GoesOn (map Written frames) old new) → filled ≡ Stopped → RunsOut contents failed old new
   fills-stopped filled old new fills goes stopped =
       stopped-filled old new (subst (λ (found : Filled). Fills got (coming got ahead) contents failed (Some found) old.frames new.frames) stopped fills) goes
 
   -- credit is owed
-  pub grants-on : (id n : ℕ) (old new : Writing J W naming) → WritesOn got contents failed (Granted id n ∷ []) old.frames new.frames → GoesOn (Granted id n ∷ []) old new
+  pub grants-on : (id n : ℕ) (old new : Writing J W naming conn) → WritesOn got contents failed (Granted id n ∷ []) old.frames new.frames → GoesOn (Granted id n ∷ []) old new
       → (credit : ℕ) (lost : Bool) (orders : List (Control (Opening J naming))) (before : Option (List ℕ)) → Runs contents failed lost orders before credit old
       → Runs contents failed lost orders before (credit + granted_by 0 (Granted id n)) new
   grants-on id n old new on goes credit lost orders before runs = (
@@ -453,12 +436,12 @@ module _ {J W : Type 0} {naming : Ghosts J} (contents : W → Option (List ℕ))
   )
 
   -- no step
-  pub runs-same : (lost : Bool) (old new : Writing J W naming) → WritesOn got contents failed [] old.frames new.frames → GoesOn [] old new
+  pub runs-same : (lost : Bool) (old new : Writing J W naming conn) → WritesOn got contents failed [] old.frames new.frames → GoesOn [] old new
       → (orders : List (Control (Opening J naming))) (before : Option (List ℕ)) (credit : ℕ) → Runs contents failed lost orders before credit old → Runs contents failed lost orders before credit new
   runs-same lost old new on goes orders before credit runs = (runs.0, on before runs.0 runs.1, runs.2, goes orders runs.0 runs.3, runs.4)
 
   -- no step, of a writer that stands as it did
-  pub still-on : (lost : Bool) (old new : Writing J W naming) → WritesOn got contents failed [] old.frames new.frames → GoesOn [] old new
+  pub still-on : (lost : Bool) (old new : Writing J W naming conn) → WritesOn got contents failed [] old.frames new.frames → GoesOn [] old new
       → (new.frames.standing ≡ stands.Going → old.frames.standing ≡ stands.Going) → StaysOn contents failed lost lost old new
   still-on lost old new on goes still = record {
     runs = runs-same lost old new on goes;
@@ -466,13 +449,13 @@ module _ {J W : Type 0} {naming : Ghosts J} (contents : W → Option (List ℕ))
   }
 
   -- the buffer is written, or that failed
-  pub flushes-on : {A E : Type 0} (lost : Bool) (result : Result A E) (old new : Writing J W naming) → WritesOn got contents failed [] old.frames new.frames → GoesOn [] old new
+  pub flushes-on : {A E : Type 0} (lost : Bool) (result : Result A E) (old new : Writing J W naming conn) → WritesOn got contents failed [] old.frames new.frames → GoesOn [] old new
       → OnOk result (new.frames.standing ≡ old.frames.standing) → OnErr result (new.frames.standing ≡ stands.Broken) → StaysOn contents failed lost lost old new
   flushes-on lost (Ok one) old new on goes stood broken = still-on lost old new on goes (λ going. sym stood ∙ going)
   flushes-on lost (Err fault) old new on goes stood broken = still-on lost old new on goes (λ going. absurd (broken-going (sym broken ∙ going)))
 
   -- a sender is given back
-  pub returns-on : (lost : Bool) (id : ℕ) (items : List OutItem) (old new : Writing J W naming) → WritesOn got contents failed (Returned id items ∷ []) old.frames new.frames
+  pub returns-on : (lost : Bool) (id : ℕ) (items : List OutItem) (old new : Writing J W naming conn) → WritesOn got contents failed (Returned id items ∷ []) old.frames new.frames
       → GoesOn (Returned id items ∷ []) old new → new.frames.standing ≡ old.frames.standing → StaysOn contents failed lost lost old new
   returns-on lost id items old new on goes still = record {
     runs = λ orders before credit runs. (
@@ -493,7 +476,7 @@ module _ {J W : Type 0} {naming : Ghosts J} (contents : W → Option (List ℕ))
   }
 
   -- the last word of a core
-  pub parts-on : (last : ℕ) (lost : Bool) (old new : Writing J W naming) → WritesOn got contents failed (parting last true) old.frames new.frames → core_of new ≡ core_of old
+  pub parts-on : (last : ℕ) (lost : Bool) (old new : Writing J W naming conn) → WritesOn got contents failed (parting last true) old.frames new.frames → core_of new ≡ core_of old
       → SameSent old new → new.blames ≡ old.blames → old.frames.standing ≡ stands.OutOfMemory → new.frames.standing ≡ old.frames.standing → StaysOn contents failed lost true old new
   parts-on last lost old new on core same blames memory still =
       let goes : GoesOn (parting last true) old new =
@@ -516,7 +499,7 @@ module _ {J W : Type 0} {naming : Ghosts J} (contents : W → Option (List ℕ))
       }
 
   -- between writers of the same frames
-  runs-between : (lost : Bool) (old new : Writing J W naming) → new.frames ≡ old.frames → SameSent old new → new.blames ≡ old.blames
+  runs-between : (lost : Bool) (old new : Writing J W naming conn) → new.frames ≡ old.frames → SameSent old new → new.blames ≡ old.blames
       → (orders : List (Control (Opening J naming))) (before : Option (List ℕ)) (credit : ℕ) → Runs contents failed lost orders before credit old → Runs contents failed lost orders before credit new
   runs-between lost old new frames same blames orders before credit runs = (
     runs.0,
@@ -526,7 +509,7 @@ module _ {J W : Type 0} {naming : Ghosts J} (contents : W → Option (List ℕ))
     runs.4,
   )
 
-  ends-between : (lost : Bool) (old new : Writing J W naming) → new.frames ≡ old.frames → SameSent old new → new.blames ≡ old.blames
+  ends-between : (lost : Bool) (old new : Writing J W naming conn) → new.frames ≡ old.frames → SameSent old new → new.blames ≡ old.blames
       → (orders : List (Control (Opening J naming))) (before : Option (List ℕ)) (credit : ℕ) → Ends contents failed lost orders before credit old → Ends contents failed lost orders before credit new
   ends-between lost old new frames same blames orders before credit ends = (
     ends.0,
@@ -540,7 +523,7 @@ module _ {J W : Type 0} {naming : Ghosts J} (contents : W → Option (List ℕ))
   -- ---- orders
 
   -- the core was given an order that opens no call, and none was lost before
-  pub given-on : (one : Control OutSender) (last : ℕ) (taking : Taking OutSender) (old new : Writing J W naming) → OpensNone one
+  pub given-on : (one : Control OutSender) (last : ℕ) (taking : Taking OutSender) (old new : Writing J W naming conn) → OpensNone one
       → WritesOn got contents failed (steps_of (order_of one) last taking) old.frames new.frames
       → ((before : Option (List ℕ)) (run : List Step) → Wrote got contents failed before run old.frames → Blamed taking one run)
       → core_of new ≡ core_of old → SameSent old new → (new.blames ≡ true → EndsAll taking ⊎ (old.blames ≡ true)) → new.inbox.has_lost ≡ loses_by taking → Takes contents failed (order_of one) old new
@@ -568,17 +551,17 @@ module _ {J W : Type 0} {naming : Ghosts J} (contents : W → Option (List ℕ))
       by runs why (inr was) = overflow-later 0 (steps_of (order_of one) last taking) runs.0 (runs.3.blamed was)
 
   -- the calls are the same before
-  pub takes-from : (order : Order) (old mid new : Writing J W naming) → mid.frames ≡ old.frames → SameSent old mid → mid.blames ≡ old.blames → Takes contents failed order mid new → Takes contents failed order old new
+  pub takes-from : (order : Order) (old mid new : Writing J W naming conn) → mid.frames ≡ old.frames → SameSent old mid → mid.blames ≡ old.blames → Takes contents failed order mid new → Takes contents failed order old new
   takes-from order old mid new frames same blames takes orders one before credit is runs = takes orders one before credit is (runs-between false old mid frames same blames orders before credit runs)
 
   -- a call begins
-  pub begins-on : (id : ℕ) (opening : Opening J naming) (sender : OutSender) (old new : Writing J W naming) → WritesOn got contents failed (Taken (control.Open id tt) ∷ []) old.frames new.frames
+  pub begins-on : (id : ℕ) (opening : Opening J naming) (sender : OutSender) (old new : Writing J W naming conn) → WritesOn got contents failed (Taken (control.Open id tt) ∷ []) old.frames new.frames
       → numbers new.sends.calls.items ≡ numbers old.sends.calls.items ++ numbered id opening.sending.value ∷ [] → put_in new.sends.home ≡ put_in old.sends.home
       → core_of new ≡ core_of old ++ (id, sender) ∷ [] → new.blames ≡ old.blames → Begins contents failed (control.Open id opening) old new
   begins-on id opening sender old new on more way brings blames orders before credit runs = (
     Taken (control.Open id tt) ∷ runs.0,
     on before runs.0 runs.1,
-    subst (λ (os : List Order). Obeys false os (Taken (control.Open id tt) ∷ runs.0)) (sym (given-next orders (control.Open id opening))) (obeys-opening {S = Opening J naming} id (orders_of orders) runs.0 runs.2),
+    subst (λ (os : List Order). Obeys false os (Taken (control.Open id tt) ∷ runs.0)) (sym (given-next orders (control.Open id opening))) (obeys-opening id (orders_of orders) runs.0 runs.2),
     record {
       senders = has-opened id opening sender orders runs.0 old.sends.calls.items new.sends.calls.items (core_of old) (core_of new) (put_in old.sends.home) (put_in new.sends.home) more way brings runs.3.senders;
       blamed = λ is. overflow-later 0 (Taken (control.Open id tt) ∷ []) runs.0 (runs.3.blamed (sym blames ∙ is));
@@ -587,7 +570,7 @@ module _ {J W : Type 0} {naming : Ghosts J} (contents : W → Option (List ℕ))
   )
 
   -- a GOAWAY of the writer's own
-  pub parting-on : (last : ℕ) (taking : Taking OutSender) (old new : Writing J W naming) → WritesOn got contents failed (steps_of (control.Goaway last InternalError) last taking) old.frames new.frames
+  pub parting-on : (last : ℕ) (taking : Taking OutSender) (old new : Writing J W naming conn) → WritesOn got contents failed (steps_of (control.Goaway last InternalError) last taking) old.frames new.frames
       → ((before : Option (List ℕ)) (run : List Step) → Wrote got contents failed before run old.frames → Blamed taking (control.Goaway last InternalError) run)
       → core_of new ≡ core_of old → SameSent old new → new.blames ≡ old.blames → Parts contents failed old new
   parting-on last taking old new on blamed core same blames orders before credit runs = (
@@ -599,7 +582,7 @@ module _ {J W : Type 0} {naming : Ghosts J} (contents : W → Option (List ℕ))
   )
 
   -- a Close where orders were lost
-  pub closing-on : (last : ℕ) (taking : Taking OutSender) (old new : Writing J W naming) → WritesOn got contents failed (steps_of control.Close last taking) old.frames new.frames
+  pub closing-on : (last : ℕ) (taking : Taking OutSender) (old new : Writing J W naming conn) → WritesOn got contents failed (steps_of control.Close last taking) old.frames new.frames
       → ((before : Option (List ℕ)) (run : List Step) → Wrote got contents failed before run old.frames → Blamed taking control.Close run)
       → core_of new ≡ core_of old → SameSent old new → new.blames ≡ old.blames → PassesOver contents failed control.Close old new
   closing-on last taking old new on blamed core same blames orders before credit runs =
@@ -619,7 +602,7 @@ module _ {J W : Type 0} {naming : Ghosts J} (contents : W → Option (List ℕ))
       )
 
   -- another order there, which opens no call
-  pub passes-by : (order : Control (Opening J naming)) (old new : Writing J W naming) → OpensNone order → new.frames ≡ old.frames → SameSent old new → new.blames ≡ old.blames → PassesOver contents failed order old new
+  pub passes-by : (order : Control (Opening J naming)) (old new : Writing J W naming conn) → OpensNone order → new.frames ≡ old.frames → SameSent old new → new.blames ≡ old.blames → PassesOver contents failed order old new
   passes-by order old new plain frames same blames orders before credit runs = (
     runs.0,
     subst (λ (writes : FrameWriter W). Wrote got contents failed before runs.0 writes) (sym frames) runs.1,
@@ -634,7 +617,7 @@ module _ {J W : Type 0} {naming : Ghosts J} (contents : W → Option (List ℕ))
   )
 
   -- and one that opens a call: its sender is handed back
-  pub passes-open : (id : ℕ) (opening : Opening J naming) (old new : Writing J W naming) → new.frames ≡ old.frames → numbers new.sends.calls.items ≡ numbers old.sends.calls.items → new.blames ≡ old.blames
+  pub passes-open : (id : ℕ) (opening : Opening J naming) (old new : Writing J W naming conn) → new.frames ≡ old.frames → numbers new.sends.calls.items ≡ numbers old.sends.calls.items → new.blames ≡ old.blames
       → ((returning : Returning J naming) × (returning.sending ≡ opening.sending) × (put_in new.sends.home ≡ put_in old.sends.home ++ returning ∷ [])) → PassesOver contents failed (control.Open id opening) old new
   passes-open id opening old new frames same blames home orders before credit runs = (
     runs.0,
@@ -652,7 +635,7 @@ module _ {J W : Type 0} {naming : Ghosts J} (contents : W → Option (List ℕ))
   )
 
   -- a reset of the writer's own
-  pub resetting-on : (id last : ℕ) (taking : Taking OutSender) (old new : Writing J W naming)
+  pub resetting-on : (id last : ℕ) (taking : Taking OutSender) (old new : Writing J W naming conn)
       → WritesOn got contents failed (steps_of (control.Reset id InternalError true) last taking) old.frames new.frames
       → ((before : Option (List ℕ)) (run : List Step) → Wrote got contents failed before run old.frames → Blamed taking (control.Reset id InternalError true) run)
       → core_of new ≡ core_of old → SameSent old new → new.blames ≡ old.blames → GaveLeft id (calls got (core_of old))
@@ -684,7 +667,7 @@ module _ {J W : Type 0} {naming : Ghosts J} (contents : W → Option (List ℕ))
       lefts (HandedBack back) k run why there = inr there
 
   -- a warning of the writer's own
-  warning-on : (one : Control OutSender) (last : ℕ) (taking : Taking OutSender) (old new : Writing J W naming) → IsWarning one
+  warning-on : (one : Control OutSender) (last : ℕ) (taking : Taking OutSender) (old new : Writing J W naming conn) → IsWarning one
       → WritesOn got contents failed (steps_of (order_of one) last taking) old.frames new.frames
       → ((before : Option (List ℕ)) (run : List Step) → Wrote got contents failed before run old.frames → Blamed taking one run)
       → ((before : Option (List ℕ)) (run : List Step) → Wrote got contents failed before run old.frames → Warns (order_of one) run)
@@ -701,54 +684,54 @@ module _ {J W : Type 0} {naming : Ghosts J} (contents : W → Option (List ℕ))
 
   -- ---- with the inbox
 
-  pub leads-then : (old mid new : Writing J W naming) → LeadsOn contents failed old mid → LeadsOn contents failed mid new → LeadsOn contents failed old new
+  pub leads-then : (old mid new : Writing J W naming conn) → LeadsOn contents failed old mid → LeadsOn contents failed mid new → LeadsOn contents failed old new
   leads-then old mid new first second = record { name = second.name ∙ first.name; on = λ before credit led. second.on before credit (first.on before credit led) }
 
-  pub leads-here : (writer : Writing J W naming) → LeadsOn contents failed writer writer
+  pub leads-here : (writer : Writing J W naming conn) → LeadsOn contents failed writer writer
   leads-here writer = record { name = refl; on = λ before credit led. led }
 
-  pub stays-then : (old mid new : Writing J W naming) → Stays contents failed old mid → Stays contents failed mid new → Stays contents failed old new
+  pub stays-then : (old mid new : Writing J W naming conn) → Stays contents failed old mid → Stays contents failed mid new → Stays contents failed old new
   stays-then old mid new first second = record {
     leads = leads-then old mid new first.leads second.leads;
     out = λ before credit led. second.out before credit (first.out before credit led);
   }
 
-  pub stays-here : (writer : Writing J W naming) → Stays contents failed writer writer
+  pub stays-here : (writer : Writing J W naming conn) → Stays contents failed writer writer
   stays-here writer = record { leads = leads-here writer; out = λ before credit led. led }
 
   -- by so much credit
-  pub to-here : (credit : ℕ) (writer : Writing J W naming) → LeadsTo contents failed credit writer credit writer
+  pub to-here : (credit : ℕ) (writer : Writing J W naming conn) → LeadsTo contents failed credit writer credit writer
   to-here credit writer = record { name = refl; on = λ before led. led }
 
-  pub to-then : (had between has : ℕ) (old mid new : Writing J W naming) → LeadsTo contents failed had old between mid → LeadsTo contents failed between mid has new
+  pub to-then : (had between has : ℕ) (old mid new : Writing J W naming conn) → LeadsTo contents failed had old between mid → LeadsTo contents failed between mid has new
       → LeadsTo contents failed had old has new
   to-then had between has old mid new first second = record { name = second.name ∙ first.name; on = λ before led. second.on before (first.on before led) }
 
   -- before it no credit was granted, or behind it
-  pub to-behind : (had other has : ℕ) (old mid new : Writing J W naming) → LeadsOn contents failed old mid → other ≡ had → LeadsTo contents failed other mid has new
+  pub to-behind : (had other has : ℕ) (old mid new : Writing J W naming conn) → LeadsOn contents failed old mid → other ≡ had → LeadsTo contents failed other mid has new
       → LeadsTo contents failed had old has new
   to-behind had other has old mid new first is second = record {
     name = second.name ∙ first.name;
     on = λ before led. second.on before (subst (λ (n : ℕ). Led contents failed before n mid) (sym is) (first.on before had led));
   }
 
-  pub to-still : (had has other : ℕ) (old mid new : Writing J W naming) → LeadsTo contents failed had old has mid → LeadsOn contents failed mid new → other ≡ has
+  pub to-still : (had has other : ℕ) (old mid new : Writing J W naming conn) → LeadsTo contents failed had old has mid → LeadsOn contents failed mid new → other ≡ has
       → LeadsTo contents failed had old other new
   to-still had has other old mid new first second is = record {
     name = second.name ∙ first.name;
     on = λ before led. subst (λ (n : ℕ). Led contents failed before n new) (sym is) (second.on before has (first.on before led));
   }
 
-  pub to-out : (had has other : ℕ) (old mid out new : Writing J W naming) → LeadsTo contents failed had old has mid → LeadsOut contents failed mid out → Stays contents failed out new
+  pub to-out : (had has other : ℕ) (old mid out new : Writing J W naming conn) → LeadsTo contents failed had old has mid → LeadsOut contents failed mid out → Stays contents failed out new
       → other ≡ has → LeadsOutTo contents failed had old other new
-  to-out had has other old mid out new first leads then is before led =
-      subst (λ (n : ℕ). LedOut contents failed before n new) (sym is) (then.out before has (leads before has (first.on before led)))
+  to-out had has other old mid out new first leads stays is before led =
+      subst (λ (n : ℕ). LedOut contents failed before n new) (sym is) (stays.out before has (leads before has (first.on before led)))
 
-  pub out-then : (old mid out new : Writing J W naming) → LeadsOn contents failed old mid → LeadsOut contents failed mid out → Stays contents failed out new → LeadsOut contents failed old new
-  out-then old mid out new first leads then before credit led = then.out before credit (leads before credit (first.on before credit led))
+  pub out-then : (old mid out new : Writing J W naming conn) → LeadsOn contents failed old mid → LeadsOut contents failed mid out → Stays contents failed out new → LeadsOut contents failed old new
+  out-then old mid out new first leads stays before credit led = stays.out before credit (leads before credit (first.on before credit led))
 
   -- no order is taken
-  pub leads-to : (had has : ℕ) (old new : Writing J W naming) → new.inbox ≡ old.inbox → SameKnown old new
+  pub leads-to : (had has : ℕ) (old new : Writing J W naming conn) → new.inbox ≡ old.inbox → SameKnown old new
       → ((lost : Bool) (orders : List (Control (Opening J naming))) (before : Option (List ℕ)) → Runs contents failed lost orders before had old → Runs contents failed lost orders before has new)
       → LeadsTo contents failed had old has new
   leads-to had has old new same known on = record {
@@ -761,7 +744,7 @@ module _ {J W : Type 0} {naming : Ghosts J} (contents : W → Option (List ℕ))
     );
   }
 
-  pub leads-still : (old new : Writing J W naming) → new.inbox ≡ old.inbox → SameKnown old new
+  pub leads-still : (old new : Writing J W naming conn) → new.inbox ≡ old.inbox → SameKnown old new
       → ((lost : Bool) (orders : List (Control (Opening J naming))) (before : Option (List ℕ)) (credit : ℕ) → Runs contents failed lost orders before credit old → Runs contents failed lost orders before credit new)
       → LeadsOn contents failed old new
   leads-still old new same known on = record {
@@ -769,7 +752,7 @@ module _ {J W : Type 0} {naming : Ghosts J} (contents : W → Option (List ℕ))
     on = λ before credit. (leads-to credit credit old new same known (λ lost orders began. on lost orders began credit)).on before;
   }
 
-  pub leads-out : (old new : Writing J W naming) → new.inbox ≡ old.inbox → SameKnown old new → RunsOut contents failed old new → LeadsOut contents failed old new
+  pub leads-out : (old new : Writing J W naming conn) → new.inbox ≡ old.inbox → SameKnown old new → RunsOut contents failed old new → LeadsOut contents failed old new
   leads-out old new same known out before credit led = (
     led.0,
     subst (λ (inbox : Inbox (Opening J naming)). HasGiven led.0 inbox) (sym same) led.1,
@@ -778,7 +761,7 @@ module _ {J W : Type 0} {naming : Ghosts J} (contents : W → Option (List ℕ))
   )
 
   -- the same, and more may be lost
-  pub stays-by : (old new : Writing J W naming) → new.inbox ≡ record old.inbox { has_lost = new.inbox.has_lost }
+  pub stays-by : (old new : Writing J W naming conn) → new.inbox ≡ record old.inbox { has_lost = new.inbox.has_lost }
       → (new.inbox.has_lost ≡ false → old.inbox.has_lost ≡ false) → SameKnown old new
       → StaysOn contents failed old.inbox.has_lost new.inbox.has_lost old new → Stays contents failed old new
   stays-by old new same kept_too known on = record {
@@ -793,7 +776,7 @@ module _ {J W : Type 0} {naming : Ghosts J} (contents : W → Option (List ℕ))
       given-on-to given has = subst (λ (inbox : Inbox (Opening J naming)). HasGiven given inbox) (sym same) has
 
   -- an order is looked at
-  pub stays-with : (old new : Writing J W naming) → Keeps old.inbox new.inbox → SameKnown old new → SameSent old new → new.frames ≡ old.frames → new.blames ≡ old.blames → Stays contents failed old new
+  pub stays-with : (old new : Writing J W naming conn) → Keeps old.inbox new.inbox → SameKnown old new → SameSent old new → new.frames ≡ old.frames → new.blames ≡ old.blames → Stays contents failed old new
   stays-with old new keeps known same frames blames = record {
     leads = record {
       name = keeps.name;
@@ -813,7 +796,7 @@ module _ {J W : Type 0} {naming : Ghosts J} (contents : W → Option (List ℕ))
   }
 
   -- nothing is done
-  pub stays-same : (old new : Writing J W naming) → new.inbox ≡ old.inbox → SameKnown old new → SameSent old new → new.frames ≡ old.frames → new.blames ≡ old.blames → Stays contents failed old new
+  pub stays-same : (old new : Writing J W naming conn) → new.inbox ≡ old.inbox → SameKnown old new → SameSent old new → new.frames ≡ old.frames → new.blames ≡ old.blames → Stays contents failed old new
   stays-same old new inbox known same frames blames =
       stays-with old new (record {
         name = ap (λ (i : Inbox (Opening J naming)). out_name i.ring) inbox;
@@ -824,18 +807,15 @@ module _ {J W : Type 0} {naming : Ghosts J} (contents : W → Option (List ℕ))
   -- ---- an order is looked for
 
   -- it gives none
-  pub leads-none : (old new : Writing J W naming) → Gives None old.inbox new.inbox → SameKnown old new → SameSent old new → new.frames ≡ old.frames → new.blames ≡ old.blames → LeadsOn contents failed old new
+  pub leads-none : (old new : Writing J W naming conn) → Gives None old.inbox new.inbox → SameKnown old new → SameSent old new → new.frames ≡ old.frames → new.blames ≡ old.blames → LeadsOn contents failed old new
   leads-none old new gives known same frames blames = (stays-with old new (record {
     name = gives.name;
     lost = gives.lost;
     given = λ given has. subst (λ (all : List (Control (Opening J naming))). HasGiven all new.inbox) (append-nil given) (gives.given given has);
   }) known same frames blames).leads
 
-  aside-given : (next : Control (Opening J naming)) (given : List (Control (Opening J naming))) (mid : Inbox (Opening J naming)) → mid.set_aside ≡ None → HasGiven (given ++ next ∷ []) mid → given ++ next ∷ [] ≡ taken mid.ring
-  aside-given next given mid none has = sym (append-nil (given ++ next ∷ [])) ∙ (ap (λ (one : Option (Control (Opening J naming))). (given ++ next ∷ []) ++ order_in one) (sym none) ∙ has)
-
   -- what is given comes back, and may be set aside as lost
-  pub leads-back : (next : Control (Opening J naming)) (old new : Writing J W naming) (mid : Inbox (Opening J naming)) → Gives (Some next) old.inbox mid → new.inbox.ring ≡ mid.ring → new.inbox.set_aside ≡ Some next
+  pub leads-back : (next : Control (Opening J naming)) (old new : Writing J W naming conn) (mid : Inbox (Opening J naming)) → Gives (Some next) old.inbox mid → new.inbox.ring ≡ mid.ring → new.inbox.set_aside ≡ Some next
       → (new.inbox.has_lost ≡ false → old.inbox.has_lost ≡ false) → SameKnown old new
       → ((orders : List (Control (Opening J naming))) (before : Option (List ℕ)) (credit : ℕ) → Runs contents failed old.inbox.has_lost orders before credit old → Runs contents failed new.inbox.has_lost orders before credit new)
       → LeadsOn contents failed old new
@@ -849,7 +829,7 @@ module _ {J W : Type 0} {naming : Ghosts J} (contents : W → Option (List ℕ))
     );
   }
 
-  led-next : (next : Control (Opening J naming)) (old new : Writing J W naming) (mid : Inbox (Opening J naming)) (before : Option (List ℕ)) (credit : ℕ) → Gives (Some next) old.inbox mid
+  led-next : (next : Control (Opening J naming)) (old new : Writing J W naming conn) (mid : Inbox (Opening J naming)) (before : Option (List ℕ)) (credit : ℕ) → Gives (Some next) old.inbox mid
       → new.inbox ≡ record mid { has_lost = new.inbox.has_lost } → (led : Led contents failed before credit old)
       → Runs contents failed new.inbox.has_lost (led.0 ++ next ∷ []) before credit new
       → Knows (orders_of led.0 ++ order_of next ∷ []) new → Led contents failed before credit new
@@ -861,7 +841,7 @@ module _ {J W : Type 0} {naming : Ghosts J} (contents : W → Option (List ℕ))
   )
 
   -- the next order is taken
-  pub leads-taken : (next : Control (Opening J naming)) (old new : Writing J W naming) (mid : Inbox (Opening J naming)) → Gives (Some next) old.inbox mid → mid.has_lost ≡ false
+  pub leads-taken : (next : Control (Opening J naming)) (old new : Writing J W naming conn) (mid : Inbox (Opening J naming)) → Gives (Some next) old.inbox mid → mid.has_lost ≡ false
       → new.inbox ≡ record mid { has_lost = new.inbox.has_lost }
       → ((orders : List (Control (Opening J naming))) (before : Option (List ℕ)) (credit : ℕ) → Runs contents failed false orders before credit old → Runs contents failed new.inbox.has_lost (orders ++ next ∷ []) before credit new)
       → Heeds (order_of next) old new → LeadsOn contents failed old new
@@ -874,7 +854,7 @@ module _ {J W : Type 0} {naming : Ghosts J} (contents : W → Option (List ℕ))
   }
 
   -- it is passed over
-  pub leads-passed : (next : Control (Opening J naming)) (old new : Writing J W naming) (mid : Inbox (Opening J naming)) → Gives (Some next) old.inbox mid → mid.has_lost ≡ true → new.inbox ≡ mid
+  pub leads-passed : (next : Control (Opening J naming)) (old new : Writing J W naming conn) (mid : Inbox (Opening J naming)) → Gives (Some next) old.inbox mid → mid.has_lost ≡ true → new.inbox ≡ mid
       → PassesOver contents failed next old new → new.closed ≡ (closes (order_of next) || old.closed) → LeadsOn contents failed old new
   leads-passed next old new mid gives lost same passes heeds = record {
     name = ap (λ (inbox : Inbox (Opening J naming)). out_name inbox.ring) same ∙ gives.name;
@@ -889,7 +869,7 @@ module _ {J W : Type 0} {naming : Ghosts J} (contents : W → Option (List ℕ))
   }
 
   -- a GOAWAY of the writer's own, where orders were lost
-  pub leads-parting : (old new : Writing J W naming) → old.inbox.has_lost ≡ true → new.inbox ≡ old.inbox → SameKnown old new → Parts contents failed old new → LeadsOn contents failed old new
+  pub leads-parting : (old new : Writing J W naming conn) → old.inbox.has_lost ≡ true → new.inbox ≡ old.inbox → SameKnown old new → Parts contents failed old new → LeadsOn contents failed old new
   leads-parting old new lost same known parts = record {
     name = ap (λ (inbox : Inbox (Opening J naming)). out_name inbox.ring) same;
     on = λ before credit led. (
@@ -902,7 +882,7 @@ module _ {J W : Type 0} {naming : Ghosts J} (contents : W → Option (List ℕ))
   }
 
   -- a warning of the writer's own
-  pub leads-warning : (one : Control OutSender) (last : ℕ) (taking : Taking OutSender) (old new : Writing J W naming) → IsWarning one → old.inbox.has_lost ≡ false → new.inbox ≡ old.inbox → SameKnown old new
+  pub leads-warning : (one : Control OutSender) (last : ℕ) (taking : Taking OutSender) (old new : Writing J W naming conn) → IsWarning one → old.inbox.has_lost ≡ false → new.inbox ≡ old.inbox → SameKnown old new
       → WritesOn got contents failed (steps_of (order_of one) last taking) old.frames new.frames
       → ((before : Option (List ℕ)) (run : List Step) → Wrote got contents failed before run old.frames → Blamed taking one run)
       → ((before : Option (List ℕ)) (run : List Step) → Wrote got contents failed before run old.frames → Warns (order_of one) run)
@@ -920,7 +900,7 @@ module _ {J W : Type 0} {naming : Ghosts J} (contents : W → Option (List ℕ))
   }
 
   -- a writer that has taken nothing
-  pub led-none : (before : Option (List ℕ)) (writer : Writing J W naming) → taken writer.inbox.ring ≡ [] → writer.inbox.set_aside ≡ None → writer.inbox.has_lost ≡ false
+  pub led-none : (before : Option (List ℕ)) (writer : Writing J W naming conn) → taken writer.inbox.ring ≡ [] → writer.inbox.set_aside ≡ None → writer.inbox.has_lost ≡ false
       → writer.sends.calls.items ≡ [] → put_in writer.sends.home ≡ [] → writer.input_ended ≡ false → writer.closed ≡ false → writer.blames ≡ false → Wrote got contents failed before [] writer.frames
       → Led contents failed before 0 writer
   led-none before writer none aside kept empty home going unclosed blameless wrote = (
@@ -939,22 +919,22 @@ module _ {J W : Type 0} {naming : Ghosts J} (contents : W → Option (List ℕ))
     record { input = λ still. going; closed = unclosed },
   )
 
-module _ {J W : Type 0} {naming : Ghosts J} where
+module _ {J W : Type 0} {naming : Ghosts J} {conn : ConnGhosts W} where
   -- a sender that the core gives back is handed home
-  pub goes-returned : (id : ℕ) (sender : OutSender) (old new : Writing J W naming) → HandsHome id sender old.sends.calls.items new.sends.calls.items (put_in old.sends.home) (put_in new.sends.home)
+  pub goes-returned : (id : ℕ) (sender : OutSender) (old new : Writing J W naming conn) → HandsHome id sender old.sends.calls.items new.sends.calls.items (put_in old.sends.home) (put_in new.sends.home)
       → Releases id sender (core_of old) (core_of new) → new.blames ≡ old.blames → GoesOn (Returned id (got sender.rx) ∷ []) old new
   goes-returned id sender old new hands releases blames orders run holds = record {
     senders = has-returned id sender orders run old.sends.calls.items new.sends.calls.items (core_of old) (core_of new) (put_in old.sends.home) (put_in new.sends.home) hands releases holds.senders;
     blamed = λ is. overflow-later 0 (Returned id (got sender.rx) ∷ []) run (holds.blamed (sym blames ∙ is));
   }
 
-module _ {J W : Type 0} {naming : Ghosts J} (contents : W → Option (List ℕ)) (failed : W → Bool) where
-  runs-lost : (writer : Writing J W naming) (orders : List (Control (Opening J naming))) (before : Option (List ℕ)) (credit : ℕ) → Runs contents failed false orders before credit writer
+module _ {J W : Type 0} {naming : Ghosts J} {conn : ConnGhosts W} (contents : W → Option (List ℕ)) (failed : W → Bool) where
+  runs-lost : (writer : Writing J W naming conn) (orders : List (Control (Opening J naming))) (before : Option (List ℕ)) (credit : ℕ) → Runs contents failed false orders before credit writer
       → Runs contents failed true orders before credit writer
   runs-lost writer orders before credit runs = (runs.0, runs.1, obeys-lost false (orders_of orders) runs.0 runs.2, runs.3, runs.4)
 
   -- a call begins, or its order is set aside as lost
-  pub leads-begun : (lost : Bool) (id : ℕ) (opening : Opening J naming) (old new : Writing J W naming) (mid : Inbox (Opening J naming)) → new.inbox.has_lost ≡ lost → Gives (Some (control.Open id opening)) old.inbox mid
+  pub leads-begun : (lost : Bool) (id : ℕ) (opening : Opening J naming) (old new : Writing J W naming conn) (mid : Inbox (Opening J naming)) → new.inbox.has_lost ≡ lost → Gives (Some (control.Open id opening)) old.inbox mid
       → mid.has_lost ≡ false → new.inbox.ring ≡ mid.ring → (new.inbox.has_lost ≡ false → new.inbox ≡ mid) → (new.inbox.has_lost ≡ true → new.inbox.set_aside ≡ Some (control.Open id opening))
       → (new.inbox.has_lost ≡ false → Begins contents failed (control.Open id opening) old new) → (new.inbox.has_lost ≡ true → Parts contents failed old new) → SameKnown old new
       → LeadsOn contents failed old new
@@ -971,7 +951,7 @@ module _ {J W : Type 0} {naming : Ghosts J} (contents : W → Option (List ℕ))
       (runs-lost old orders before credit (subst (λ (lost : Bool). Runs contents failed lost orders before credit old) (sym gives.lost ∙ kept) runs))))
 
   -- an order is passed over, or it is set aside until there is a place for its sender
-  pub leads-over : (result : Took) (next : Control (Opening J naming)) (old new : Writing J W naming) (mid : Inbox (Opening J naming)) → Gives (Some next) old.inbox mid → mid.has_lost ≡ true
+  pub leads-over : (result : Took) (next : Control (Opening J naming)) (old new : Writing J W naming conn) (mid : Inbox (Opening J naming)) → Gives (Some next) old.inbox mid → mid.has_lost ≡ true
       → (result ≡ took.One → PassesOver contents failed next old new) → (result ≡ took.One → new.inbox ≡ mid)
       → (result ≡ took.Early → (new.inbox ≡ record mid { set_aside = Some next }) × (new.frames ≡ old.frames) × SameSent old new × (new.blames ≡ old.blames) × SameKnown old new)
       → (result ≢ took.One → result ≡ took.Early) → new.closed ≡ (closes (order_of next) || old.closed) → LeadsOn contents failed old new
@@ -1018,9 +998,9 @@ module _ {J : Type 0} {naming : Ghosts J} where
   opens-among (control.InputEnded ∷ orders) n id there = inr (opens-among orders n id there)
   opens-among (control.Close ∷ orders) n id there = inr (opens-among orders n id there)
 
-module _ {J W : Type 0} {naming : Ghosts J} (contents : W → Option (List ℕ)) (failed : W → Bool) where
+module _ {J W : Type 0} {naming : Ghosts J} {conn : ConnGhosts W} (contents : W → Option (List ℕ)) (failed : W → Bool) where
   -- an order opened the stream of each sender that the core has
-  opened-core : (orders : List (Control (Opening J naming))) (run : List Step) (writer : Writing J W naming) (id : ℕ) → Holds orders run writer → GaveLeft id (calls got (core_of writer))
+  opened-core : (orders : List (Control (Opening J naming))) (run : List Step) (writer : Writing J W naming conn) (id : ℕ) → Holds orders run writer → GaveLeft id (calls got (core_of writer))
       → IsAmong (control.Open id tt) (orders_of orders)
   opened-core orders run writer id holds (items, there, left) =
       let lane = from-core id items (core_of writer) there in
@@ -1031,7 +1011,7 @@ module _ {J W : Type 0} {naming : Ghosts J} (contents : W → Option (List ℕ))
       (Contains-append_left (numbers writer.sends.calls.items) handed (call.0, id) call.1))
 
   -- a reset of a call that was left, where no order was lost and the input goes on
-  pub leads-reset : (id last : ℕ) (taking : Taking OutSender) (old new : Writing J W naming) → old.inbox.has_lost ≡ false → old.input_ended ≡ false → new.inbox ≡ old.inbox → SameKnown old new
+  pub leads-reset : (id last : ℕ) (taking : Taking OutSender) (old new : Writing J W naming conn) → old.inbox.has_lost ≡ false → old.input_ended ≡ false → new.inbox ≡ old.inbox → SameKnown old new
       → WritesOn got contents failed (steps_of (control.Reset id InternalError true) last taking) old.frames new.frames
       → ((before : Option (List ℕ)) (run : List Step) → Wrote got contents failed before run old.frames → Blamed taking (control.Reset id InternalError true) run)
       → core_of new ≡ core_of old → SameSent old new → new.blames ≡ old.blames → GaveLeft id (calls got (core_of old)) → LeadsOn contents failed old new
@@ -1048,7 +1028,7 @@ module _ {J W : Type 0} {naming : Ghosts J} (contents : W → Option (List ℕ))
   }
 
   -- a sender was asked what it gave last
-  pub leads-looked : (old new : Writing J W naming) → new.inbox ≡ old.inbox → SameKnown old new → WritesOn got contents failed [] old.frames new.frames → calls got (core_of new) ≡ calls got (core_of old)
+  pub leads-looked : (old new : Writing J W naming conn) → new.inbox ≡ old.inbox → SameKnown old new → WritesOn got contents failed [] old.frames new.frames → calls got (core_of new) ≡ calls got (core_of old)
       → SameSent old new → new.blames ≡ old.blames → LeadsOn contents failed old new
   leads-looked old new inbox known on same sent blames =
       leads-still contents failed old new inbox known (λ lost. runs-same contents failed lost old new on

@@ -5,7 +5,7 @@ use Rattle.readerloop.proofs.CallSteps.{call-step}
 use Rattle.readerloop.proofs.call.Call.shut.Goals as goal
 
 pub returns-clause-heard : goal.returns-clause-heard
-returns-clause-heard g c = λ known names carries told step rises closes is.
+returns-clause-heard g c = λ sent told step rises closes is.
     let call = c.args.self.now in
     call-step told step call.id call.method call.number (shown call.half) (shown c.shut.new.self) call.finished call.returning rises
     (λ half. c.shut.ensures.heard call.id (since call.id told) step closes half) is

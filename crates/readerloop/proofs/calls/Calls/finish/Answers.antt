@@ -4,7 +4,7 @@ use Rattle.readerloop.proofs.KeptSteps.{kept-back}
 use Rattle.readerloop.proofs.calls.Calls.finish.Goals as goal
 
 pub returns-clause-stays : goal.returns-clause-stays
-returns-clause-stays g c = λ known names carries is told k.
+returns-clause-stays g c = λ sent is told k.
     let calls = c.args.self.now in
     kept-back told (unsettled calls) (accounts_of calls) calls.last c.in-Some.place c.in-Some-get_mut.call.now c.finish.new.self
-    c.in-Some-get_mut.ensures.item.3.0 c.in-Some-get_mut.ensures.value c.finish.ensures.id c.finish.ensures.place (c.finish.ensures.stays known names carries told is) k
+    c.in-Some-get_mut.ensures.item.3.0 c.in-Some-get_mut.ensures.value c.finish.ensures.id c.finish.ensures.place (c.finish.ensures.stays sent told is) k

@@ -4,7 +4,7 @@ use Rattle.readerloop.proofs.KeptSteps.{kept-as, kept-pass}
 use Rattle.readerloop.proofs.calls.Calls.pass_over.Goals as goal
 
 pub returns-clause-heard : goal.returns-clause-heard
-returns-clause-heard g c = λ known names carries head why told named going k.
+returns-clause-heard g c = λ sent head why told named going k.
     let calls = c.args.self.now in
     kept-as _ _ _ _ _ _ _ refl
     (c.push_reserved-place.ensures.items ∙ ap (λ account. accounts_of calls ++ account ∷ []) c.unserved.ensures) refl

@@ -4,11 +4,16 @@ use Rattle.readerloop.specs.Steps.{ShutAs, closing_at}
 use Rattle.readerloop.proofs.KeptSteps.{found-id, kept-found, kept-unfound, rises-not}
 use Rattle.readerloop.proofs.calls.Calls.shut.Goals as goal
 
+pub returns-in_err-place-clause-heard : goal.returns-in_err-place-clause-heard
+returns-in_err-place-clause-heard g c = λ sent step concerns closes told k.
+    let calls = c.args.self.now in
+    kept-unfound told step (unsettled calls) (accounts_of calls) calls.last c.args.id (sym c.in_err-place.ensures) concerns k
+
 pub returns-clause-heard : goal.returns-clause-heard
-returns-clause-heard g c = λ known names carries step concerns closes told k.
+returns-clause-heard g c = λ sent step concerns closes told k.
     let calls = c.args.self.now in
     let call = c.in_ok-call.call.now in
     let of = found-id (unsettled calls) c.in_ok-place.place c.args.id call (sym c.in_ok-place.ensures) c.in_ok-call.ensures.value in
     kept-found told step (unsettled calls) (accounts_of calls) calls.last c.args.id c.in_ok-place.place call c.shut.new.self
     c.in_ok-call.ensures.item.3.0 c.in_ok-call.ensures.value of c.shut.ensures.id c.shut.ensures.place concerns
-    (λ is. c.shut.ensures.heard known names carries told step (rises-not told step concerns.admits) (subst (λ id. closing_at id step ≡ Some (ShutAs c.args.kind)) (sym of) closes) is) k
+    (λ is. c.shut.ensures.heard sent told step (rises-not told step concerns.admits) (subst (λ id. closing_at id step ≡ Some (ShutAs c.args.kind)) (sym of) closes) is) k

@@ -11,7 +11,7 @@ use Rattle.readerloop.proofs.StepLemmas.{closes-cut, concerns-cut}
 use Rattle.readerloop.proofs.reading.Reading.cut_off.Goals as goal
 
 pub returns-clause-decides : goal.returns-clause-decides
-returns-clause-decides g c = λ carries told reads.
+returns-clause-decides g c = λ sent told reads.
     let id = c.in_ok-id.id in
     let done = c.reset.ensures in
     let cut : Cut = record { id = id; kind = shut.Reset (error_number Cancel) } in

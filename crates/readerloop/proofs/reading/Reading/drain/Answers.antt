@@ -10,7 +10,7 @@ use Rattle.readerloop.proofs.ReadingSteps.{decides-now, one-order, reads-drain}
 use Rattle.readerloop.proofs.reading.Reading.drain.Goals as goal
 
 pub returns-clause-decides : goal.returns-clause-decides
-returns-clause-decides g c = λ carries told reads.
+returns-clause-decides g c = λ sent told reads.
     let done = c.order.ensures in
     let calls = c.args.self.now.calls in
     let last = reads.calls.top in

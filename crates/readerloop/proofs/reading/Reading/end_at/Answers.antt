@@ -3,14 +3,14 @@ use Rattle.h2frame.specs.declared.error_code.ErrorCode.TheVariants.{InternalErro
 use Rattle.outwriter.specs.declared.control.Control.TheVariants.{Goaway}
 use Rattle.readerloop.specs.Orders.{named, named_with}
 use Rattle.readerloop.specs.Steps.{is_draining}
-use Rattle.readerloop.proofs.ReadingSteps.{counts-begun, decides-begun, goaway-order}
+use Rattle.readerloop.proofs.ReadingSteps.{counted, counts-begun, decides-begun, goaway-order}
 use Rattle.readerloop.proofs.reading.Reading.end_at.Goals as goal
 
 pub returns-clause-ends : goal.returns-clause-ends
-returns-clause-ends g c = λ carries told step begins ends orders.
+returns-clause-ends g c = λ sent told step begins ends orders.
     let count = c.count-goaway.ensures in
     let last = named_with c.args.id (is_draining told) (named told) in
     let counts = counts-begun told step c.args.id _ c.args.self.now c.count-goaway.new.self count.counts begins in
     decides-begun told step c.args.id _ (Goaway last InternalError ∷ []) c.args.self.now c.count-goaway.new.self
-    (record { calls = ap (λ r. r.calls) count.rest; draining = ap (λ r. r.is_draining) count.rest; goaway = ap (λ r. r.peer_goaway) count.rest }) count.counts
+    (counted _ _ count.rest) count.counts
     (goaway-order c.goaway.result c.count-goaway.new.self.last last InternalError c.goaway.ensures.order counts.0.last_is) orders (sym ends) refl begins

@@ -5,7 +5,9 @@ use Rattle.readerloop.proofs.ReadingSteps.{quiet, reads-step}
 use Rattle.readerloop.proofs.StepLemmas.{closes-end, concerns-end}
 use Rattle.readerloop.proofs.reading.Reading.end_half.Goals as goal
 
-pub returns-clause-reads : goal.returns-clause-reads
-returns-clause-reads g c = λ carries told reads.
-    reads-step told (Told (events.End c.args.id) Plain) c.args.self.now _ (quiet _ refl refl) refl refl refl refl
-    (c.shut-worker.ensures.heard g.M.Answering.known g.M.Answering.names carries (Told (events.End c.args.id) Plain) (concerns-end c.args.id) (closes-end c.args.id) told) reads
+pub returns : goal.returns
+returns g c = record {
+  reads = λ sent told reads.
+      reads-step told (Told (events.End c.args.id) Plain) c.args.self.now _ (quiet _ refl refl) refl refl refl refl
+      (c.shut-worker.ensures.heard sent (Told (events.End c.args.id) Plain) (concerns-end c.args.id) (closes-end c.args.id) told) reads;
+}

@@ -21,13 +21,13 @@ returns-in_default-clause-refused g c =
     (sym c.if-self.false) (c.refuse_unknown.ensures.decides c.args.head)
 
 pub returns-in-Err-clause-refused : goal.returns-in-Err-clause-refused
-returns-in-Err-clause-refused g c = lacks-as (events.Open c.args.id c.args.head) (refused_by c.args.self.now.is_draining) _ _ _ _ c.lack-in-Err.ensures.memory (λ carries told reads.
-    c.lack-in-Err.ensures.lacking c.args.head carries told
+returns-in-Err-clause-refused g c = lacks-as (events.Open c.args.id c.args.head) (refused_by c.args.self.now.is_draining) _ _ _ _ c.lack-in-Err.ensures.memory (λ sent told reads.
+    c.lack-in-Err.ensures.lacking c.args.head sent told
     (reads-same told c.args.self.now _ refl refl refl refl
     (λ kept. kept-same told c.args.self.now.calls c.reserve_account.new.self c.reserve_account.ensures.calls c.reserve_account.ensures.accounts c.reserve_account.ensures.last kept) reads))
 
 pub returns-clause-stays : goal.returns-clause-stays
-returns-clause-stays g c = λ carries told reads.
+returns-clause-stays g c = λ sent told reads.
     reads-same told c.args.self.now _ refl refl refl refl
     (λ kept. kept-same told c.args.self.now.calls c.reserve_account.new.self c.reserve_account.ensures.calls c.reserve_account.ensures.accounts c.reserve_account.ensures.last kept) reads
 

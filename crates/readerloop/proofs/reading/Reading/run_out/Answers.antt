@@ -9,7 +9,7 @@ use Rattle.readerloop.proofs.ReadingSteps.{decides-now, one-order, quiet, reads-
 use Rattle.readerloop.proofs.reading.Reading.run_out.Goals as goal
 
 pub returns-clause-decides : goal.returns-clause-decides
-returns-clause-decides g c = λ carries told reads.
+returns-clause-decides g c = λ sent told reads.
     let done = c.order.ensures in
     let decided = record c.order.result { ends = Some ending.OutOfMemory } in
     decides-now told Lacks decided c.args.self.now

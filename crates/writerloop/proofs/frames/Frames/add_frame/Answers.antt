@@ -1,6 +1,7 @@
-use Rattle.std.proofs.Common.{◌∙◌, [], Ok, refl, subst, sym}
-use Rattle.outwriter.specs.Cores.{LeadsNext, RestsNext}
+use Rattle.std.proofs.Common.{◌∙◌, [], Ok, ap, refl, subst, sym}
+use Rattle.outwriter.specs.Cores.{LeadsNext, RestsNext, calls}
 use Rattle.outwriter.specs.declared.next.Next.{Next}
+use Rattle.outwriter.specs.LeftCalls.{GaveLeft}
 use Rattle.outwriter.specs.Polls.{coming}
 use Rattle.writerloop.proofs.WroteSteps.{put-fills, still-on}
 use Rattle.writerloop.proofs.frames.Frames.add_frame.Goals as goal
@@ -45,3 +46,11 @@ returns-in-Err-clause-wrote g c = λ before run w. (
       (record c.args.self.now { core = c.next_frame.new.self; buffer = c.make_room.new.buffer; ended = c.make_room.new.ended; streams = c.make_room.new.streams }) c.requires c.in-Err.ensures.leads refl refl c.make_room.ensures.bytes c.make_room.ensures.items before run w),
   c.stop-in-Err.ensures.stops,
 )
+
+pub returns-in-Ok-Frame-clause-gave : goal.returns-in-Ok-Frame-clause-gave
+returns-in-Ok-Frame-clause-gave g c = λ id gave.
+    subst (λ core. GaveLeft id (calls g.L.Lane.got core.sending.senders.items)) (sym c.put.ensures.puts.core) (c.next_frame.ensures.left id gave)
+
+pub returns-in-Err-clause-gave : goal.returns-in-Err-clause-gave
+returns-in-Err-clause-gave g c = λ id gave.
+    subst (λ core. GaveLeft id (calls g.L.Lane.got core.sending.senders.items)) (sym (ap (λ w. w.core) c.stop-in-Err.ensures.rest)) (c.next_frame.ensures.left id gave)

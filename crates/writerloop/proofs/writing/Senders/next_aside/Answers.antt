@@ -10,8 +10,3 @@ pub returns-in-Ok-clause-none : goal.returns-in-Ok-clause-none
 returns-in-Ok-clause-none g c =
     let is : c.args.self.now.aside ≡ Some c.in_ok-order.order = cc in
     subst (λ aside. opens (order_in aside) ≡ []) (sym is) (opens-none c.in_ok-order.order (as-plain c.in_ok-order.order c.in-Ok._plain (sym c.in-Ok.ensures.same) c.in-Ok.ensures.plain))
-
-pub returns-in-Err-clause-some : goal.returns-in-Err-clause-some
-returns-in-Err-clause-some g c =
-    let is : c.args.self.now.aside ≡ Some c.in_ok-order.order = cc in
-    hands-aside c.in-Err._id c.in-Err.opening _ c.args.self.now _ (is ∙ ap (λ order. Some order) c.in-Err.ensures.opens) refl refl refl refl

@@ -10,10 +10,3 @@ returns-in-Open-clause-passes g c = λ one.
 pub returns-in-Close-clause-passes : goal.returns-in-Close-clause-passes
 returns-in-Close-clause-passes g c = λ one.
     subst (λ order. PassesOver g.W.ConnWrite.contents g.W.ConnWrite.failed order c.args.self.now c.close.new.self) (sym c.in-Close.is) c.close.ensures.passes
-
-pub returns-in_default-clause-passes : goal.returns-in_default-clause-passes
-returns-in_default-clause-passes g c = λ one.
-    passes-by g.W.ConnWrite.contents g.W.ConnWrite.failed c.args.order c.args.self.now c.args.self.now (plain-other c.args.order c.in_default.not-Open) refl (sent-here c.args.self.now) refl
-
-pub returns-in_default-clause-heeds : goal.returns-in_default-clause-heeds
-returns-in_default-clause-heeds g c = closes-other c.args.order c.args.self.now.closed c.in_default.not-Close
