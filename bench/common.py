@@ -39,6 +39,14 @@ def build_three_threads():
     build("cargo", "build", "--offline", "--quiet", "--release", "--manifest-path", "bench/three_threads/Cargo.toml", "--target-dir", "bench/out")
 
 
+def serving(pid):
+    """The process that serves: this one, or where this is `./interop`, whose shell heeds signals for it, the one that it started."""
+    while os.path.basename(os.readlink(f"/proc/{pid}/exe")) in ("bash", "dash", "sh"):
+        with open(f"/proc/{pid}/task/{pid}/children", encoding="ascii") as file:
+            pid = int(file.read().split()[0])
+    return pid
+
+
 def printed(*command, **how):
     """What the command prints. Stops where it fails."""
     ran = subprocess.run([*map(str, command)], capture_output=True, text=True, check=False, **how)

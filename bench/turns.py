@@ -28,11 +28,12 @@ def drain(server):
 
 
 def start(program, *options):
+    """The port, the process that serves on it, and the one to kill."""
     port = serve.free_port()
     server = subprocess.Popen([program, "serve", "--port", str(port), *options], stdin=subprocess.DEVNULL, stdout=subprocess.PIPE)
     server.stdout.readline()
     threading.Thread(target=drain, args=(server,), daemon=True).start()
-    return port, server
+    return port, common.serving(server.pid), server
 
 
 def figures(servers, rounds, after=lambda: None):
@@ -43,8 +44,8 @@ def figures(servers, rounds, after=lambda: None):
             continue
         told = []
         for _ in range(rounds):
-            for port, server in servers:
-                told.append(serve.load(port, server.pid, words))
+            for port, pid, _ in servers:
+                told.append(serve.load(port, pid, words))
                 after()
         each = [told[at :: len(servers)] for at in range(len(servers))]
         yield name, serve.UNITS[figure], [
