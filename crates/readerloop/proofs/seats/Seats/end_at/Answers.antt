@@ -1,0 +1,10 @@
+use Rattle.std.proofs.Common.{refl}
+use Rattle.readerloop.proofs.OwedSteps.{rings-as}
+use Rattle.readerloop.proofs.SeatSteps.{rings-told}
+use Rattle.readerloop.proofs.seats.Seats.end_at.Goals as goal
+
+pub returns : goal.returns
+returns g c = record { rings = rings-told c.args.self.now _ c.args.number c.in-Some.seat.now c.end.new.self c.in-Some.ensures.item.3.0 c.in-Some.ensures.value refl c.end.ensures.tasks c.end.ensures.done }
+
+pub returns-in_default : goal.returns-in_default
+returns-in_default g c = record { rings = rings-as _ }

@@ -1,0 +1,6 @@
+use Rattle.readerloop.specs.Owed.{HasSameRings}
+use Rattle.readerloop.proofs.seats.Seats.ring_noted.Given as goal
+
+-- the rings are as they were
+abbrev pub invariant-loop-number : goal.invariant-loop-number
+invariant-loop-number g l = HasSameRings l.fn.self l.self
