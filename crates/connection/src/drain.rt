@@ -1,7 +1,5 @@
 //! How a server ends a connection while its calls go on (RFC 9113, section 6.8).
 
-ghost use Rattle.std.specs.Prelude.{◌≡◌, ◌<◌, IfOk};
-
 use callworker::Shared;
 use connbook::ConnBook;
 use std::alloc::{AllocError, Global};
@@ -29,19 +27,6 @@ impl<A: Ledger, B: Ledger, C: Ledger> Drainer<A, B, C> {
         alloc: Global,
         blanks: (Blank, Blank, Blank),
     ) -> Result<(Drainer<A, B, C>, DrainSeat<A, B, C>), AllocError>
-        requires received { (blanks.0.name ≡ A.name) × (blanks.0.parts ≡ A.parts)
-            × (0 < A.parts) }
-        requires admitted { (blanks.1.name ≡ B.name) × (blanks.1.parts ≡ B.parts)
-            × (0 < B.parts) }
-        requires announced { (blanks.2.name ≡ C.name) × (blanks.2.parts ≡ C.parts)
-            × (0 < C.parts) }
-        // The shares are whole, and nothing was counted in them.
-        ensures came { IfOk result (λ made. (made.1.came.parts ≡ A.parts)
-            × (made.1.came.amount ≡ 0)) }
-        ensures calls { IfOk result (λ made. (made.1.calls.parts ≡ B.parts)
-            × (made.1.calls.amount ≡ 0)) }
-        ensures told { IfOk result (λ made. (made.1.told.parts ≡ C.parts)
-            × (made.1.told.amount ≡ 0)) }
     {
         let (received, came) = blanks.0.open::<A>();
         let (admitted, calls) = blanks.1.open::<B>();

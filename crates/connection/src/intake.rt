@@ -1,13 +1,8 @@
 //! The reader's hold on the credit book.
 
-ghost use Rattle.std.specs.Prelude.{◌≡◌, ◌+◌, ◌<◌, ◌≤◌, true, IfErr, OnErr, OnOk};
-ghost use Rattle.connection.specs.Limits.{MayRefuse, MayTurnAway, Tally, one_more};
-ghost use Rattle.connbook.specs.Receipts.{counted_of};
-
 use callworker::Shared;
 use connbook::{AdmitFault, Receipt};
 use h2frame::StreamId;
-use std::marker::Model;
 use std::sync::ledger::{Ledger, Share};
 use std::sync::{Arc, Wait};
 
@@ -20,25 +15,12 @@ pub(crate) struct Intake<A: Ledger, B: Ledger, C: Ledger> {
     calls: Share<B>,
 }
 
-impl<A: Ledger, B: Ledger, C: Ledger> Model for Intake<A, B, C> {
-    ghost Value = { Tally };
-
-    ghost view = { λ i. record { calls = i.calls.amount; came = i.came.amount } };
-
-    ghost invariant = { λ i. (i.came.parts ≡ A.parts) × (0 < A.parts) × (i.calls.parts ≡ B.parts)
-        × (0 < B.parts) };
-}
-
 impl<A: Ledger, B: Ledger, C: Ledger> Intake<A, B, C> {
     pub(crate) fn new(
         shared: Arc<Shared<A, B, C>>,
         came: Share<A>,
         calls: Share<B>,
     ) -> Intake<A, B, C>
-        requires came { (came.parts ≡ A.parts) × (0 < A.parts) }
-        requires calls { (calls.parts ≡ B.parts) × (0 < B.parts) }
-        ensures came { result.came ≡ came.amount }
-        ensures calls { result.calls ≡ calls.amount }
     {
         Intake {
             shared,
@@ -49,9 +31,6 @@ impl<A: Ledger, B: Ledger, C: Ledger> Intake<A, B, C> {
 
     /// Admits a call.
     pub(crate) fn admit(&mut self, rt: &impl Wait, id: StreamId) -> Result<(), AdmitFault>
-        ensures counted { OnOk result (self.new ≡ one_more self.old) }
-        ensures uncounted { OnErr result (self.new ≡ self.old) }
-        ensures justified { IfErr result (λ fault. MayTurnAway self.old.calls true fault) }
     {
         let Intake { shared, calls, .. } = self;
         shared.book.lock(rt).admit(id, calls)
@@ -65,10 +44,6 @@ impl<A: Ledger, B: Ledger, C: Ledger> Intake<A, B, C> {
         flow: u32,
         padding: u32,
     ) -> Receipt
-        requires padding { padding ≤ flow }
-        ensures calls { self.new.calls ≡ self.old.calls }
-        ensures counted { self.new.came ≡ self.old.came + counted_of flow result }
-        ensures justified { MayRefuse (self.old.came + flow) result }
     {
         let Intake { shared, came, .. } = self;
         shared.book.lock(rt).receive(id, flow, padding, came)
@@ -76,8 +51,6 @@ impl<A: Ledger, B: Ledger, C: Ledger> Intake<A, B, C> {
 
     /// Where the reader meets the writer, which hands in its share: no more was announced on the connection than came.
     pub(crate) fn audit(self, rt: &impl Wait, told: Share<C>)
-        requires told { told.parts ≡ C.parts }
-        ensures within { told.amount ≤ self.came }
     {
         let mut told = told;
         let Intake {

@@ -1,17 +1,13 @@
 //! The writer's hold on the credit book.
 
-ghost use Rattle.std.specs.Prelude.{◌≡◌, ◌<◌, ℕ};
-ghost use Rattle.slotwriter.specs.Written.{LeadsTo};
-
 use callworker::Shared;
 use connbook::ConnBook;
 use device::ConnWrite;
 use flow::MAX_LIVE;
 use h2frame::StreamId;
-use slotwriter::SlotWriter;
-use std::marker::Model;
 use std::sync::ledger::{Ledger, Share};
 use std::sync::{Arc, Wait};
+use writerloop::Writing;
 
 /// The credit book, and the share of the one who announces credit: all parts of its ledger. Its value is how much was announced on the
 /// connection.
@@ -21,26 +17,14 @@ pub(crate) struct Outlet<A: Ledger, B: Ledger, C: Ledger> {
     told: Share<C>,
 }
 
-impl<A: Ledger, B: Ledger, C: Ledger> Model for Outlet<A, B, C> {
-    ghost Value = { ℕ };
-
-    ghost view = { λ o. o.told.amount };
-
-    ghost invariant = { λ o. (o.told.parts ≡ C.parts) × (0 < C.parts) };
-}
-
 impl<A: Ledger, B: Ledger, C: Ledger> Outlet<A, B, C> {
     pub(crate) fn new(shared: Arc<Shared<A, B, C>>, told: Share<C>) -> Outlet<A, B, C>
-        requires { (told.parts ≡ C.parts) × (0 < C.parts) }
-        ensures { result ≡ told.amount }
     {
         Outlet { shared, told }
     }
 
     /// The share of the one who announces credit.
     pub(crate) fn into_share(self) -> Share<C>
-        ensures amount { result.amount ≡ self }
-        ensures parts { result.parts ≡ C.parts }
     {
         let Outlet { told, .. } = self;
         told
@@ -66,9 +50,8 @@ impl<A: Ledger, B: Ledger, C: Ledger> Outlet<A, B, C> {
     pub(crate) fn announce<W: ConnWrite + Drop>(
         &mut self,
         rt: &impl Wait,
-        writing: &mut SlotWriter<W>,
+        writing: &mut Writing<W>,
     ) -> bool
-        ensures { LeadsTo W.contents W.failed self.old writing.old self.new writing.new }
     {
         let Outlet { shared, told, .. } = self;
         let mut book = shared.book.lock(rt);
@@ -88,7 +71,7 @@ impl<A: Ledger, B: Ledger, C: Ledger> Outlet<A, B, C> {
 fn announce_on<A, B, C, W>(
     book: &mut ConnBook<A, B, C>,
     told: &mut Share<C>,
-    writing: &mut SlotWriter<W>,
+    writing: &mut Writing<W>,
     id: StreamId,
 )
 where
@@ -96,10 +79,6 @@ where
     B: Ledger,
     C: Ledger,
     W: ConnWrite + Drop,
-    requires some { 0 < told.old.parts }
-    ensures parts { told.new.parts ≡ told.old.parts }
-    ensures leads { LeadsTo W.contents W.failed told.old.amount writing.old
-        told.new.amount writing.new }
 {
     if !writing.takes_credit(id) {
         return;

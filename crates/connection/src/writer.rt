@@ -1,33 +1,25 @@
-//! The writing thread of a connection: it turns a `SlotWriter`, takes the lock for it, rings and waits.
+//! The writing thread of a connection: it turns a `Writing`, takes the lock for it, rings and waits.
 
-ghost use Rattle.std.specs.Prelude.{◌≡◌, ◌⊎◌, ℕ, List, [], Option, IfErr, IfOk, OnErr, OnOk, true};
-ghost use Rattle.lane.specs.Ring.{out_name, taken};
-ghost use Rattle.connwriter.specs.declared.filled.Filled.TheVariants as filling;
-ghost use Rattle.connection.specs.Heard.{EndsOrders};
-ghost use Rattle.slotwriter.specs.Orders.{orders_of};
-ghost use Rattle.slotwriter.specs.Written.{HasSent, HasWritten, IsFlushed, Led, LeadsOn, LeadsOutTo, LeadsTo, Stays};
-
-use crate::orders::{Orders, Route};
+use crate::orders::Orders;
 use crate::outlet::Outlet;
-use callslot::Order;
+use callparts::{Order, Sending};
 use callworker::{Gate, STACK};
-use connwriter::Filled;
 use device::ConnWrite;
 use h2frame::StreamId;
-use lane::RingOut;
+use lane::{RingIn, RingOut};
 use outwriter::Control;
-use slotwriter::{Rest, SlotWriter, Took, Waiting, Written};
 use std::alloc::Global;
 use std::snapshot::Snapshot;
 use std::sync::ledger::{Ledger, Share};
 use std::sync::{Arc, Wait};
 use std::thread::{Builder, Promise, PromisedHandle, Threads};
 use std::time::Duration;
+use writerloop::{Filled, Rest, Took, Waiting, Writing, Written};
 
 /// How long the writer waits at most before it looks again, in milliseconds.
 const STEP: u64 = 1000;
 
-/// How many turns that write something come at most before it looks for calls that were left, which looks at each slot.
+/// How many turns that write something come at most before it looks for calls that were left, which looks at each call.
 const TURNS: u32 = 16;
 
 /// What the writing thread of a connection has.
@@ -35,7 +27,7 @@ const TURNS: u32 = 16;
 struct Writer<A: Ledger, B: Ledger, C: Ledger, W: ConnWrite, G: Drop> {
     outlet: Outlet<A, B, C>,
     gate: Arc<G>,
-    writing: SlotWriter<W>,
+    writing: Writing<W>,
     /// How many more turns that write something come before it looks for calls that were left.
     turns: u32,
 }
@@ -43,41 +35,33 @@ struct Writer<A: Ledger, B: Ledger, C: Ledger, W: ConnWrite, G: Drop> {
 impl<A: Ledger, B: Ledger, C: Ledger, W: ConnWrite + Drop, G: Gate + Drop> Writer<A, B, C, W, G> {
     /// Writes until no more is to be written.
     fn write(self, rt: &impl Wait) -> Parted<C, W>
-        // The run granted on the connection what the share counts.
-        ensures sent { (before : Option (List ℕ))
-            → Led W.contents W.failed before self.outlet self.writing
-            → HasSent W.contents W.failed before result.told.amount
-            (taken result.written.orders) result.written.senders.places.items
-            result.written.ending result.written.is_faultless result.written.resets.items
-            result.written.blamed.items result.written.device }
-        ensures name { out_name result.written.orders ≡ out_name self.writing.inbox.ring }
-        ensures parts { result.told.parts ≡ C.parts }
     {
         let mut writer = self;
         'turns: for _ in rt.forever() {
             if writer.turn(rt) {
-                let Writer {
-                    outlet,
-                    writing,
-                    ..
-                } = writer;
-                return Parted {
-                    written: writing.into_end(),
-                    told: outlet.into_share(),
-                };
+                return writer.part();
             }
         }
         unreachable!()
     }
 
+    /// What is handed back once no more is to be written.
+    // (kept out of its caller, whose frame is on the stack of each connection that lives)
+    #[inline(never)]
+    fn part(self) -> Parted<C, W> {
+        let Writer {
+            outlet,
+            writing,
+            ..
+        } = self;
+        Parted {
+            written: writing.into_end(),
+            told: outlet.into_share(),
+        }
+    }
+
     /// Writes what can be written, and waits where that is nothing. Whether no more is to be written.
     fn turn(&mut self, rt: &impl Wait) -> bool
-        ensures leads { LeadsTo W.contents W.failed self.old.outlet self.old.writing
-            self.new.outlet self.new.writing }
-        ensures over { result ≡ true → LeadsOutTo W.contents W.failed
-            self.old.outlet self.old.writing
-            self.new.outlet self.new.writing }
-        ensures flushed { result ≡ true → IsFlushed self.new.writing }
     {
         let mark = self.outlet.shared().writer.mark();
         let (filled, is_silent) = self.write_once(rt);
@@ -108,8 +92,6 @@ impl<A: Ledger, B: Ledger, C: Ledger, W: ConnWrite + Drop, G: Gate + Drop> Write
 
     /// Has the calls reset that were left without trailers. Where there is none it waits.
     fn reset_left(&mut self, rt: &impl Wait, mark: u64)
-        ensures outlet { self.new.outlet ≡ self.old.outlet }
-        ensures leads { LeadsOn W.contents W.failed self.old.writing self.new.writing }
     {
         if self.writing.reset_left() {
             return;
@@ -120,8 +102,6 @@ impl<A: Ledger, B: Ledger, C: Ledger, W: ConnWrite + Drop, G: Gate + Drop> Write
     /// Behind a turn that wrote something: once in some turns takes the orders that wait, and has the calls reset that were left without
     /// trailers.
     fn reset_between(&mut self, rt: &impl Wait)
-        ensures outlet { self.new.outlet ≡ self.old.outlet }
-        ensures leads { LeadsOn W.contents W.failed self.old.writing self.new.writing }
     {
         if self.turns > 0 {
             self.turns -= 1;
@@ -143,15 +123,6 @@ impl<A: Ledger, B: Ledger, C: Ledger, W: ConnWrite + Drop, G: Gate + Drop> Write
 
     /// Takes what orders wait, and writes a buffer's worth of frames. Why there aren't more, and whether there was none.
     fn write_once(&mut self, rt: &impl Wait) -> (Filled, bool)
-        ensures leads { LeadsTo W.contents W.failed self.old.outlet self.old.writing
-            self.new.outlet self.new.writing }
-        ensures over { result.0 ≡ filling.Over → LeadsOutTo W.contents W.failed
-            self.old.outlet self.old.writing
-            self.new.outlet self.new.writing }
-        ensures stopped { result.0 ≡ filling.Stopped → LeadsOutTo W.contents W.failed
-            self.old.outlet self.old.writing
-            self.new.outlet self.new.writing }
-        ensures flushed { IsFlushed self.new.writing }
     {
         self.drain(rt);
         self.announce(rt);
@@ -166,8 +137,6 @@ impl<A: Ledger, B: Ledger, C: Ledger, W: ConnWrite + Drop, G: Gate + Drop> Write
 
     /// Takes all orders that wait.
     fn drain(&mut self, rt: &impl Wait)
-        ensures outlet { self.new.outlet ≡ self.old.outlet }
-        ensures leads { LeadsOn W.contents W.failed self.old.writing self.new.writing }
     {
         let mut some = false;
         'orders: for _ in rt.forever() {
@@ -191,8 +160,6 @@ impl<A: Ledger, B: Ledger, C: Ledger, W: ConnWrite + Drop, G: Gate + Drop> Write
 
     /// Takes the next order. None may be taken where none waits, or where one is set aside.
     fn take_next(&mut self, rt: &impl Wait) -> bool
-        ensures outlet { self.new.outlet ≡ self.old.outlet }
-        ensures leads { LeadsOn W.contents W.failed self.old.writing self.new.writing }
     {
         let Some(last) = self.look(rt) else {
             return false;
@@ -213,8 +180,6 @@ impl<A: Ledger, B: Ledger, C: Ledger, W: ConnWrite + Drop, G: Gate + Drop> Write
 
     /// Looks at the next order, where one waits: what a GOAWAY of the writer's own tells, if one comes of it.
     fn look(&mut self, rt: &impl Wait) -> Option<StreamId>
-        ensures outlet { self.new.outlet ≡ self.old.outlet }
-        ensures leads { LeadsOn W.contents W.failed self.old.writing self.new.writing }
     {
         match self.writing.look() {
             Waiting::Nothing => None,
@@ -229,8 +194,6 @@ impl<A: Ledger, B: Ledger, C: Ledger, W: ConnWrite + Drop, G: Gate + Drop> Write
 
     /// Warns the peer before it is told which calls go on, where the server is to stop.
     fn warn(&mut self, rt: &impl Wait)
-        ensures outlet { self.new.outlet ≡ self.old.outlet }
-        ensures leads { LeadsOn W.contents W.failed self.old.writing self.new.writing }
     {
         if self.outlet.is_closing(rt) {
             self.writing.warn();
@@ -245,9 +208,6 @@ impl<A: Ledger, B: Ledger, C: Ledger, W: ConnWrite + Drop, G: Gate + Drop> Write
 
     /// An order was lost for want of memory: nothing more is written but a GOAWAY.
     fn give_up(&mut self, rt: &impl Wait)
-        requires lost { self.old.writing.inbox.has_lost ≡ true }
-        ensures outlet { self.new.outlet ≡ self.old.outlet }
-        ensures leads { LeadsOn W.contents W.failed self.old.writing self.new.writing }
     {
         let last = self.outlet.last(rt);
         self.writing.give_up(last);
@@ -256,8 +216,6 @@ impl<A: Ledger, B: Ledger, C: Ledger, W: ConnWrite + Drop, G: Gate + Drop> Write
 
     /// Owes the peer what credit is due, and warns it where the server is to stop.
     fn announce(&mut self, rt: &impl Wait)
-        ensures leads { LeadsTo W.contents W.failed self.old.outlet self.old.writing
-            self.new.outlet self.new.writing }
     {
         let Writer {
             outlet,
@@ -271,8 +229,6 @@ impl<A: Ledger, B: Ledger, C: Ledger, W: ConnWrite + Drop, G: Gate + Drop> Write
 
     /// Tells the peer that no more frames come, where there was no memory for one.
     fn say_last(&mut self, rt: &impl Wait, filled: Filled)
-        ensures outlet { self.new.outlet ≡ self.old.outlet }
-        ensures stays { Stays W.contents W.failed self.old.writing self.new.writing }
     {
         if filled != Filled::Stopped {
             return;
@@ -283,8 +239,6 @@ impl<A: Ledger, B: Ledger, C: Ledger, W: ConnWrite + Drop, G: Gate + Drop> Write
 
     /// Lets go of the senders of calls that are through.
     fn release_all(&mut self)
-        ensures outlet { self.new.outlet ≡ self.old.outlet }
-        ensures stays { Stays W.contents W.failed self.old.writing self.new.writing }
     {
         if self.writing.release_all() {
             self.outlet.shared().reader.ring();
@@ -293,9 +247,6 @@ impl<A: Ledger, B: Ledger, C: Ledger, W: ConnWrite + Drop, G: Gate + Drop> Write
 
     /// Writes what is in the buffer. The calls whose last frame is in it take no more DATA.
     fn flush(&mut self, rt: &impl Wait)
-        ensures outlet { self.new.outlet ≡ self.old.outlet }
-        ensures stays { Stays W.contents W.failed self.old.writing self.new.writing }
-        ensures flushed { IsFlushed self.new.writing }
     {
         self.end_local(rt);
         match self.writing.flush() {
@@ -328,8 +279,8 @@ impl<A: Ledger, B: Ledger, C: Ledger, W: ConnWrite + Drop, G: Gate + Drop> Write
         }
         let outlet = &self.outlet;
         let mut book = outlet.shared().book.lock(rt);
-        for number in 0..self.writing.slots() {
-            let Some(id) = self.writing.stuck(number) else {
+        for place in 0..self.writing.calls() {
+            let Some(id) = self.writing.stuck(place) else {
                 continue;
             };
             if book.is_live(id) {
@@ -363,53 +314,39 @@ pub(crate) struct Begun<W: ConnWrite> {
 }
 
 impl<C: Ledger, W: ConnWrite + Drop> Promise<Parted<C, W>> for Begun<W> {
-    ghost kept_by = { λ begun r. (out_name r.written.orders ≡ out_name begun.orders.value)
-        × HasSent W.contents W.failed (W.contents begun.device.value) r.told.amount (taken r.written.orders) r.written.senders.places.items
-        r.written.ending r.written.is_faultless r.written.resets.items r.written.blamed.items
-        r.written.device
-        × (r.told.parts ≡ C.parts) };
+    ghost kept_by = { λ begun r. Unit {0} };
 }
 
 /// The thread that writes, and what it comes to.
-pub(crate) type Writing<C, W> = PromisedHandle<Parted<C, W>, Begun<W>>;
+pub(crate) type WriterHand<C, W> = PromisedHandle<Parted<C, W>, Begun<W>>;
 
 /// Starts the thread that writes. Where it can't be made, it is ordered that the input has ended, and no more: this thread writes what is to
 /// be written then. So Close isn't the first order, for which there may be no memory.
-pub(crate) fn start<A, B, C, N, W, G, R>(
+// (kept out of its caller, whose frame is on the stack of each connection that lives)
+#[inline(never)]
+pub(crate) fn start<A, B, C, W, G, R>(
     rt: R,
     alloc: Global,
     taking: RingOut<Order>,
+    home: RingIn<Box<Sending>>,
     outlet: Outlet<A, B, C>,
     gate: Arc<G>,
     device: W,
-    orders: &mut Orders<A, B, C, N>,
-) -> Result<Writing<C, W>, Parted<C, W>>
+    orders: &mut Orders<A, B, C>,
+) -> Result<WriterHand<C, W>, Parted<C, W>>
 where
     A: Ledger + Send + Sync + 'static,
     B: Ledger + Send + Sync + 'static,
     C: Ledger + Send + Sync + 'static,
-    N: Route,
     W: ConnWrite + Send + Drop + 'static,
     G: Gate + Send + Sync + Drop + 'static,
     R: Threads + Wait + Copy + Send + Sync + Drop + 'static,
-    requires none { taken taking ≡ [] }
-    requires untold { outlet ≡ 0 }
-    ensures begun { IfOk result (λ writing. W.contents writing.promise.device.value
-        ≡ W.contents device) }
-    ensures ring { IfOk result (λ writing. writing.promise.orders.value ≡ taking) }
-    ensures same { OnOk result (orders.new ≡ orders.old) }
-    ensures put { OnErr result (EndsOrders [] [] orders.old orders.new) }
-    ensures name { IfErr result (λ parted. out_name parted.written.orders ≡ out_name taking) }
-    ensures written { IfErr result (λ parted. HasWritten W.contents W.failed (W.contents device)
-        parted.told.amount (orders_of (taken parted.written.orders)) parted.written.ending
-        parted.written.is_faultless parted.written.device) }
-    ensures parts { IfErr result (λ parted. parted.told.parts ≡ C.parts) }
 {
     let begun = Begun {
         device: Snapshot::of(&device),
         orders: Snapshot::of(&taking),
     };
-    let writing = SlotWriter::new(alloc, taking, device, &begun.device);
+    let writing = Writing::new(alloc, taking, home, device, &begun.device);
     let writer = Writer {
         outlet,
         gate,
@@ -417,14 +354,6 @@ where
         turns: TURNS,
     };
     let write = move || -> Parted<C, W>
-        ensures name { out_name result.written.orders ≡ out_name writer.writing.inbox.ring }
-        ensures sent { (before : Option (List ℕ))
-            → Led W.contents W.failed before writer.outlet writer.writing
-            → HasSent W.contents W.failed before result.told.amount
-            (taken result.written.orders) result.written.senders.places.items
-            result.written.ending result.written.is_faultless result.written.resets.items
-            result.written.blamed.items result.written.device }
-        ensures parts { result.told.parts ≡ C.parts }
     { writer.write(&rt) };
     match Builder::new()
         .stack_size(STACK)
@@ -432,8 +361,8 @@ where
     {
         Ok(handle) => Ok(handle),
         Err(refused) => {
-            orders.put(&rt, Control::InputEnded);
-            orders.close(&rt);
+            let _ = orders.put(&rt, Control::InputEnded);
+            let _ = orders.close();
             let write_here = refused.value;
             Err(write_here())
         }

@@ -1,5 +1,0 @@
-use Rattle.connection.proofs.Heard.{cuts-then}
-use Rattle.connection.proofs.reader.Reader.cut_all.Goals as goal
-
-pub places-preserved : goal.places-preserved
-places-preserved g c = cuts-then _ _ _ _ _ _ _ c.places.invariant c.cut_at.ensures.cuts

@@ -1,9 +1,0 @@
-use Rattle.connection.proofs.Heard.{with-rung}
-use Rattle.connection.proofs.reader.Reader.take.Goals as goal
-
-pub returns-then-is_none-clause-on : goal.returns-then-is_none-clause-on
-returns-then-is_none-clause-on g c = λ bytes before reached. (
-  c.in_ok-events.events.items,
-  c.in_ok-events.ensures.events bytes before reached,
-  with-rung _ _ _ _ _ _ _ _ _ _ c.ring.ensures.reading c.ring.ensures.same c.heed-end.ensures.reads,
-)

@@ -1,0 +1,6 @@
+use Rattle.std.proofs.Common.{refl}
+use Rattle.writerloop.proofs.WrittenSteps.{stays-with}
+use Rattle.writerloop.proofs.writing.Writing.look.Goals as goal
+
+pub returns-clause-stays : goal.returns-clause-stays
+returns-clause-stays g c = stays-with g.W.ConnWrite.contents g.W.ConnWrite.failed c.args.self.now _ c.look.ensures.keeps (record { input = refl; closed = refl }) (record { numbers = refl; way = refl }) refl refl

@@ -1,0 +1,13 @@
+use Rattle.std.proofs.Common.{ap, refl}
+use Rattle.lane.specs.Ring.{put_in}
+use Rattle.writerloop.specs.Sent.{numbers}
+use Rattle.writerloop.proofs.WrittenSteps.{stays-same, stays-then}
+use Rattle.writerloop.proofs.writing.Writing.release_through.Goals as goal
+
+pub calls-init : goal.calls-init
+calls-init g c =
+    stays-same g.W.ConnWrite.contents g.W.ConnWrite.failed c.args.self.now _ refl (record { input = refl; closed = refl })
+    (record { numbers = ap (λ calls. numbers calls.items) c.look_through.ensures.calls; way = ap put_in c.look_through.ensures.home }) refl refl
+
+pub calls-preserved : goal.calls-preserved
+calls-preserved g c = stays-then g.W.ConnWrite.contents g.W.ConnWrite.failed _ _ _ c.calls.invariant c.release.ensures.stays
