@@ -5,11 +5,11 @@
 
 ghost use Rattle.std.specs.Prelude.{◌≡◌, ◌<◌, ◌≤◌, ◌+◌, ◌^◌, IfSome, IfNone, OnOk, OnErr};
 
-use crate::served::{objects_of, report_of};
+use crate::served::{call_line, call_object, connection_line, connection_object};
 use crate::stopping::Connection;
 use crate::stream;
 use crate::times::{Moment, Times};
-use connection::Ending;
+use connection::{CallAccount, Ending};
 use connlog::{Ended, Line, Observer, json};
 use handlers::Methods;
 use lane::Bell;
@@ -69,7 +69,7 @@ struct Batch {
 #[derive(Drop)]
 enum Told {
     Lines(Vec<Line>),
-    /// The report on it, as it is printed.
+    /// One of the report, as it is printed.
     Report(String),
 }
 
@@ -98,33 +98,59 @@ impl Log {
         }
     }
 
-    /// Leaves the report on a connection to be printed, behind its lines.
-    pub fn report<R: Wait + Clock>(
+    /// Leaves the report on a call that was settled to be printed.
+    pub fn report_call<R: Wait + Clock>(
         &self,
         rt: &R,
         alloc: Global,
+        connection: Connection,
         methods: &Methods,
+        call: &CallAccount,
+    ) {
+        let moment = self.times.now(rt);
+        let line = match self.times.form {
+            LogForm::Text => call_line(alloc, connection.peer, methods, call),
+            LogForm::Json => self.call_object(alloc, moment, connection, methods, call),
+        };
+        self.leave_report(rt, connection, moment, line);
+    }
+
+    /// Leaves the report on a connection to be printed, behind its lines.
+    pub fn report_end<R: Wait + Clock>(
+        &self,
+        rt: &R,
+        alloc: Global,
         connection: Connection,
         ended: &stream::Ended,
         file: &Option<String>,
     ) {
-        let lines = ended.calls.len().saturating_add(1);
         let moment = self.times.now(rt);
-        let report = match self.times.form {
-            LogForm::Text => report_of(alloc, connection.peer, methods, ended, file),
-            LogForm::Json => self.objects(alloc, methods, connection, ended, file, moment),
+        let line = match self.times.form {
+            LogForm::Text => connection_line(alloc, connection.peer, ended, file),
+            LogForm::Json => self.connection_object(alloc, moment, connection, ended, file),
         };
-        match report {
+        self.leave_report(rt, connection, moment, line);
+    }
+
+    /// Leaves a line of a report to be printed. Without memory for it it counts as dropped.
+    fn leave_report(
+        &self,
+        rt: &impl Wait,
+        connection: Connection,
+        moment: Moment,
+        line: Result<String, AllocError>,
+    ) {
+        match line {
             Ok(text) => self.leave(
                 rt,
                 Batch {
                     connection: connection.number,
                     moment,
-                    lines,
+                    lines: 1,
                     told: Told::Report(text),
                 },
             ),
-            Err(AllocError) => self.lose(rt, lines),
+            Err(AllocError) => self.lose(rt, 1),
         }
     }
 
@@ -157,20 +183,28 @@ impl Log {
         self.bell.ring();
     }
 
-    /// Prints what waits, and answers whether that was anything.
+    /// Prints what waits, and answers whether that was anything. Behind lines for which there is no memory none is printed, so that their
+    /// number stands in their place.
     fn print_waiting<R: Print + Wait + Clock>(&self, rt: &R, alloc: Global) -> io::Result<bool> {
         let Some((batches, dropped)) = self.next(rt, alloc) else {
             return Ok(false);
         };
-        let mut lost = dropped;
+        let mut lost = 0usize;
         let (mut text, mut lines) = (String::new(alloc), String::new(alloc));
         for batch in &batches {
-            if self.add_text(alloc, &mut text, &mut lines, batch).is_err() {
+            if lost > 0 || self.add_text(alloc, &mut text, &mut lines, batch).is_err() {
                 lost = lost.saturating_add(batch.lines);
             }
         }
-        if lost > 0 {
-            self.add_dropped(alloc, &mut text, lost, self.times.now(rt))?;
+        lost = lost.saturating_add(dropped);
+        let moment = self.times.now(rt);
+        if lost > 0
+            && self
+                .add_dropped(alloc, &mut text, &mut lines, lost, moment)
+                .is_err()
+        {
+            // (it is told once there is memory for it)
+            self.lose(rt, lost);
         }
         match rt.write_all(text.as_bytes()) {
             Err(error) if error.kind() != ErrorKind::BrokenPipe => Err(error),
@@ -205,40 +239,56 @@ impl Log {
         text.push_str(lines.as_str())
     }
 
-    /// Adds the line that says how many were dropped.
+    /// Adds the whole line that says how many were dropped, or nothing, as `add_text` does.
     fn add_dropped(
         &self,
         alloc: Global,
         text: &mut String,
+        lines: &mut String,
         count: usize,
         moment: Moment,
     ) -> Result<(), AllocError> {
+        lines.clear();
         match self.times.form {
-            LogForm::Text => writeln!(text, "dropped {count}"),
+            LogForm::Text => writeln!(lines, "dropped {count}")?,
             LogForm::Json => {
                 let time = self.times.text(alloc, moment)?;
                 let time = time.as_ref().map_or("null", |time| time.as_str());
-                json::begin(text, time)?;
-                json::string(alloc, text, "event", "dropped")?;
-                json::number(text, "lines", count as u64)?;
-                json::end(text)
+                json::begin(lines, time)?;
+                json::string(alloc, lines, "event", "dropped")?;
+                json::number(lines, "lines", count as u64)?;
+                json::end(lines)?;
             }
         }
+        text.push_str(lines.as_str())
     }
 
-    /// The report on a connection, in objects.
-    fn objects(
+    /// The report on a call, as an object.
+    fn call_object(
         &self,
         alloc: Global,
-        methods: &Methods,
-        connection: Connection,
-        ended: &stream::Ended,
-        file: &Option<String>,
         moment: Moment,
+        connection: Connection,
+        methods: &Methods,
+        call: &CallAccount,
     ) -> Result<String, AllocError> {
         let time = self.times.text(alloc, moment)?;
         let time = time.as_ref().map_or("null", |time| time.as_str());
-        objects_of(alloc, time, connection, methods, ended, file)
+        call_object(alloc, time, connection.number, methods, call)
+    }
+
+    /// The report on a connection, as an object.
+    fn connection_object(
+        &self,
+        alloc: Global,
+        moment: Moment,
+        connection: Connection,
+        ended: &stream::Ended,
+        file: &Option<String>,
+    ) -> Result<String, AllocError> {
+        let time = self.times.text(alloc, moment)?;
+        let time = time.as_ref().map_or("null", |time| time.as_str());
+        connection_object(alloc, time, connection, ended, file)
     }
 
     /// So many lines are lost.

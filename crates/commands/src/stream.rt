@@ -3,8 +3,11 @@
 ghost use Rattle.std.specs.Prelude.{◌≡◌, ◌<◌};
 
 use crate::log::Logged;
+use crate::reporting::Reporting;
 use crate::stopping::{Stop, stand_by};
-use connection::{CallReport, Drainer, Ending, Gate, Served, serve_connection, serve_undrained};
+use connection::{
+    CallAccount, ConnReport, Drainer, Ending, Gate, Served, serve_connection, serve_undrained,
+};
 use device::Marked;
 use h2frame::StreamId;
 use handlers::Methods;
@@ -30,7 +33,7 @@ const PARTING_BLIND: u64 = 200;
 /// How long it is between two reads then.
 const STEP: u64 = 20;
 
-/// A connection to a port, and its gate: each call goes on at once. Who reads and who writes share its one descriptor.
+/// A connection to a port. Who reads and who writes share its one descriptor.
 #[derive(Drop)]
 pub struct Link {
     stream: TcpStream,
@@ -58,6 +61,11 @@ impl Link {
         } else {
             Some(self.writes.load(Ordering::SeqCst))
         }
+    }
+
+    /// Shuts it down. Where its peer has ended it, that is refused, and nothing is left to do.
+    fn shut(&self) {
+        let _ = self.stream.shutdown(Shutdown::Both);
     }
 
     /// Whoever reads it sees the end of the input. What is written goes on.
@@ -119,16 +127,30 @@ fn is_silence(error: &io::Error) -> bool {
     )
 }
 
-impl Gate for Link {
+/// The gate of a connection to a port: each call goes on at once, and is reported on once it was settled, where that is wanted.
+#[derive(Drop)]
+struct Door<R> {
+    rt: R,
+    alloc: Global,
+    link: Arc<Link>,
+    reporting: Option<Reporting>,
+}
+
+impl<R: Wait + Clock> Gate for Door<R> {
     fn may_go(&self, _id: StreamId) -> bool {
         true
     }
 
     fn trailers_written(&self, _id: StreamId) {}
 
-    /// Shuts the connection down. Where its peer has ended it, that is refused, and nothing is left to do.
     fn writing_ended(&self) {
-        let _ = self.stream.shutdown(Shutdown::Both);
+        self.link.shut();
+    }
+
+    fn settled(&self, account: &CallAccount) {
+        if let Some(reporting) = &self.reporting {
+            reporting.call(&self.rt, self.alloc, account);
+        }
     }
 }
 
@@ -182,8 +204,17 @@ impl<R: Wait + Clock> Write for LinkOutput<R> {
 #[derive(Drop)]
 pub struct Ended {
     pub ending: Ending,
-    /// A row for each call that was admitted.
-    pub calls: Vec<CallReport>,
+    /// How many calls were admitted.
+    pub calls: usize,
+}
+
+impl Ended {
+    fn of(report: &ConnReport) -> Ended {
+        Ended {
+            ending: report.ending,
+            calls: report.calls.len(),
+        }
+    }
 }
 
 /// What a connection is served over.
@@ -191,11 +222,11 @@ pub struct Ended {
 struct Ends<R: Wait + Clock + Eprint + Drop> {
     input: Tapped<Marked<LinkInput<R>>, Eye<R>>,
     output: Tapped<Marked<LinkOutput<R>>, Eye<R>>,
-    gate: Arc<Link>,
+    gate: Arc<Door<R>>,
 }
 
-/// Serves a connection to its end, shows it to its log and to whoever looks at it, and has it drained where the server stops. It answers its link
-/// too where it was drained, which is to finish and to part. It fails where nothing was read of it.
+/// Serves a connection to its end, shows it to its log and to whoever looks at it, has its calls reported on, and has it drained where the server
+/// stops. It answers its link too where it was drained, which is to finish and to part. It fails where nothing was read of it.
 pub fn serve_stream<R>(
     rt: R,
     alloc: Global,
@@ -203,6 +234,7 @@ pub fn serve_stream<R>(
     methods: &Arc<Methods>,
     logged: &Option<Logged>,
     eye: Option<Eye<R>>,
+    reporting: &Option<Reporting>,
     stop: &Option<Arc<Stop>>,
 ) -> io::Result<(Ended, Option<Arc<Link>>)>
 where
@@ -211,7 +243,7 @@ where
     // So that a small frame leaves at once.
     stream.set_nodelay(true)?;
     let methods = Arc::try_clone(methods)?;
-    let ends = ends_of(rt, alloc, stream, logged, eye)?;
+    let ends = ends_of(rt, alloc, stream, logged, eye, reporting)?;
     if let Some(stop) = stop {
         let blanks = (Blank::new(1), Blank::new(1), Blank::new(1));
         return serve_until::<Brand, Brand, Brand, R>(rt, alloc, blanks, ends, methods, stop);
@@ -221,10 +253,8 @@ where
         output,
         gate,
     } = ends;
-    let Served { ending, calls, .. } = serve_undrained(
-        rt, alloc, &mut input, output, methods, gate,
-    );
-    Ok((Ended { ending, calls }, None))
+    let Served { report, .. } = serve_undrained(rt, alloc, &mut input, output, methods, gate);
+    Ok((Ended::of(&report), None))
 }
 
 /// The same, over these ledgers, until the server stops.
@@ -246,23 +276,23 @@ where
     requires announced { (blanks.2.name ≡ C.name) × (blanks.2.parts ≡ C.parts) × (0 < C.parts) }
 {
     let (drainer, seat) = Drainer::<A, B, C>::new(alloc, blanks)?;
-    let link = Arc::try_clone(&ends.gate)?;
+    let link = Arc::try_clone(&ends.gate.link)?;
     let standby = stand_by(rt, alloc, stop, drainer, Arc::try_clone(&link)?)?;
     let Ends {
         mut input,
         output,
         gate,
     } = ends;
-    let Served { ending, calls, .. } = serve_connection(
+    let Served { report, .. } = serve_connection(
         rt, alloc, &mut input, output, methods, gate, seat,
     );
     standby.end(&rt);
-    let drained = if ending == Ending::Drained {
+    let drained = if report.ending == Ending::Drained {
         Some(link)
     } else {
         None
     };
-    Ok((Ended { ending, calls }, drained))
+    Ok((Ended::of(&report), drained))
 }
 
 /// Who reads a connection, who writes it, and its gate.
@@ -272,6 +302,7 @@ fn ends_of<R>(
     stream: TcpStream,
     logged: &Option<Logged>,
     eye: Option<Eye<R>>,
+    reporting: &Option<Reporting>,
 ) -> Result<Ends<R>, AllocError>
 where
     R: Wait + Clock + Eprint + Copy + Drop,
@@ -286,7 +317,17 @@ where
         Some(eye) => Some(eye.try_clone()?),
         None => None,
     };
-    let gate = Arc::try_clone(&link)?;
+    let reporting = match reporting {
+        Some(reporting) => Some(reporting.try_clone()?),
+        None => None,
+    };
+    let door = Door {
+        rt,
+        alloc,
+        link: Arc::try_clone(&link)?,
+        reporting,
+    };
+    let gate = Arc::new(alloc, door)?;
     let input = Marked::new(LinkInput {
         rt,
         link,

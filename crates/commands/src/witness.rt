@@ -3,8 +3,8 @@
 ghost use Rattle.std.specs.Prelude.{IsNone};
 
 use crate::log::{Log, Logged};
+use crate::reporting::Reporting;
 use crate::stopping::Connection;
-use crate::stream::Ended;
 use capture::Side;
 use handlers::Methods;
 use recorder::{Eye, Recorder, Sight, look_and_record};
@@ -31,24 +31,19 @@ pub trait Witness {
     where
         R: Files<File = File> + Wait + Clock + Eprint + Copy + Drop;
 
-    /// Leaves the report on a connection to the log, to be printed behind its lines.
-    fn report<R: Wait + Clock>(
-        &self,
-        rt: &R,
-        alloc: Global,
-        methods: &Methods,
-        connection: Connection,
-        ended: &Ended,
-    );
+    /// Where a connection that begins is reported on, if that is wanted.
+    fn reporting(&self, methods: &Arc<Methods>, connection: Connection) -> Option<Reporting>;
 
     /// The file with what passed on a connection, where there is one.
     fn file_of(&self, connection: Connection) -> Option<String>;
 }
 
-/// The log of a server and its recorder, where it has them.
+/// The log of a server, where it is reported on connections, and its recorder, where it has them.
 #[derive(Drop)]
 pub struct Witnesses {
     pub log: Option<Arc<Log>>,
+    /// The log, or one that has no lines but these.
+    pub reports: Option<Arc<Log>>,
     pub recorder: Option<Arc<Recorder>>,
 }
 
@@ -57,6 +52,7 @@ impl Witnesses {
     pub fn none() -> Witnesses {
         Witnesses {
             log: None,
+            reports: None,
             recorder: None,
         }
     }
@@ -108,18 +104,9 @@ impl Witness for Witnesses {
         self.eye(rt, stream, connection)
     }
 
-    fn report<R: Wait + Clock>(
-        &self,
-        rt: &R,
-        alloc: Global,
-        methods: &Methods,
-        connection: Connection,
-        ended: &Ended,
-    ) {
-        if let Some(log) = &self.log {
-            let file = self.file_of(connection);
-            log.report(rt, alloc, methods, connection, ended, &file);
-        }
+    fn reporting(&self, methods: &Arc<Methods>, connection: Connection) -> Option<Reporting> {
+        let log = self.reports.as_ref()?;
+        Reporting::new(log, methods, connection).ok()
     }
 
     fn file_of(&self, connection: Connection) -> Option<String> {
