@@ -2,7 +2,7 @@
 // environment as REFUSE, counted from 1, or as many in a row as stand there as IN_A_ROW. Where there is none it refuses
 // nothing. At the program's end it writes how many there were to the file that is named there as COUNT. Where the
 // environment has LEAST, only those of so many bytes and more count. While there is a file that is named there as
-// NEW_THREADS, the first allocation of each thread is refused, too.
+// NEW_THREADS, the first FEW allocations of each thread are refused, too.
 #include <errno.h>
 #include <stdatomic.h>
 #include <stddef.h>
@@ -20,7 +20,8 @@ static atomic_ulong seen;
 static unsigned long refused, in_a_row;
 static size_t least;
 static const char *new_threads;
-static __thread int has_allocated __attribute__((tls_model("initial-exec")));
+static __thread int allocated __attribute__((tls_model("initial-exec")));
+enum { FEW = 4 };
 
 __attribute__((constructor)) static void begin(void) {
   const char *number = getenv("REFUSE");
@@ -55,8 +56,8 @@ void _exit(int status) {
 }
 
 static int is_first_refused(void) {
-  const int is_first = !has_allocated;
-  has_allocated = 1;
+  const int is_first = allocated < FEW;
+  allocated += is_first;
   return is_first && new_threads && access(new_threads, F_OK) == 0;
 }
 

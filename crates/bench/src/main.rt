@@ -3,7 +3,7 @@
 //! The first word chooses one, and the numbers after it its size: it prints how long it took, in nanoseconds. Without
 //! words each runs once, small, and prints what it did but no time.
 //!
-//! Each module measures one library: `lane_bench` and `lane_segments`, `slot_calls`, `h2frame_feed`, `hpack_blocks`, `hpack_writing`, `flow_halves`, `protobuf_messages`,
+//! Each module measures one library: `lane_bench` and `lane_opened`, `h2frame_feed`, `hpack_blocks`, `hpack_writing`, `flow_halves`, `protobuf_messages`,
 //! `handlers_calls`, `session_reading` and `outbound_frames`; `sizes` reads the numbers.
 #![tactic(auto)]
 
@@ -13,12 +13,11 @@ mod handlers_calls;
 mod hpack_blocks;
 mod hpack_writing;
 mod lane_bench;
-mod lane_segments;
+mod lane_opened;
 mod outbound_frames;
 mod protobuf_messages;
 mod session_reading;
 mod sizes;
-mod slot_calls;
 
 use anyhow::{Result, bail};
 use std::env;
@@ -37,8 +36,7 @@ fn main(rt: HostRuntime) -> Result<()> {
 /// Each measurement once, small.
 fn run_all<R: Threads + Wait + Sync + AllocGlobal + Print + Clock>(rt: &R) -> Result<()> {
     lane_bench::run_all(rt, rt.alloc())?;
-    lane_segments::small(rt)?;
-    slot_calls::small(rt)?;
+    lane_opened::small(rt)?;
     h2frame_feed::small(rt)?;
     hpack_blocks::small(rt)?;
     hpack_writing::small(rt)?;
@@ -64,18 +62,16 @@ fn run_one<R: Threads + Wait + Sync + AllocGlobal + Print + Clock>(
         "hpack-evictions" => hpack_blocks::evictions(rt, sizes),
         "hpack-heads" => hpack_writing::heads(rt, sizes),
         "hpack-random" => hpack_writing::random(rt, sizes),
-        "lane-opened" => lane_segments::opened(rt, sizes),
+        "lane-opened" => lane_opened::opened(rt, sizes),
         "lane-relay" => lane_bench::relayed(rt, rt.alloc(), sizes),
         "lane-ring" => lane_bench::rings(rt, sizes),
         "lane-ring-awaited" => lane_bench::rings_awaited(rt, sizes),
-        "lane-segments" => lane_segments::segments(rt, sizes),
         "outwriter-each" => outbound_frames::each(rt, sizes),
         "outwriter-long" => outbound_frames::long(rt, sizes),
         "outwriter-one" => outbound_frames::one(rt, sizes),
         "outwriter-small" => outbound_frames::small_replies(rt, sizes),
         "session-calls" => session_reading::calls(rt, sizes),
         "session-data" => session_reading::data(rt, sizes),
-        "slot-calls" => slot_calls::counted(rt, sizes),
         "testproto-body" => protobuf_messages::one_body(rt, sizes),
         "testproto-many" => protobuf_messages::many(rt, sizes),
         _ => bail!("there is no such measurement"),

@@ -5,7 +5,7 @@ use crate::sizes::number;
 use account::OutItem;
 use anyhow::{Context, Result};
 use bytes::Bytes;
-use callbox::{Giver, Sender, open_out};
+use callbox::{Giver, InPiece, Sender, open_call};
 use flow::{INITIAL_WINDOW, MAX_WINDOW};
 use h2frame::{Frame, FrameKind, PeerSetting, PeerSettings, write_frame};
 use lane::RingLane;
@@ -56,9 +56,17 @@ fn field(alloc: Global, name: &str, value: &str) -> Result<Sequence<Field>> {
     Ok(Sequence::from(fields))
 }
 
+/// The two ends of a call's response.
+fn open_response(alloc: Global, id: u32) -> Result<(Giver<Ring>, Sender<Ring>)> {
+    let (_feeder, _taker, giver, sender) = open_call::<RingLane<InPiece>, Ring>(
+        alloc, id, 1, ROOM,
+    )?;
+    Ok((giver, sender))
+}
+
 /// The sender of a call that gave a head, so many replies of a length, and trailers.
 fn sender(alloc: Global, id: u32, replies: usize, len: usize) -> Result<Sender<Ring>> {
-    let (giver, sender) = open_out::<Ring>(alloc, id, ROOM)?;
+    let (giver, sender) = open_response(alloc, id)?;
     give_all(alloc, giver, replies, len)?;
     Ok(sender)
 }
@@ -238,7 +246,7 @@ fn stand(
 
 /// Opens a call that gives its head.
 fn opened(alloc: Global, core: &mut OutCore<Ring>, id: u32) -> Result<Giver<Ring>> {
-    let (mut giver, sender) = open_out::<Ring>(alloc, id, ROOM)?;
+    let (mut giver, sender) = open_response(alloc, id)?;
     tell(core, Control::Open(id, sender))?;
     give_head(alloc, &mut giver)?;
     Ok(giver)

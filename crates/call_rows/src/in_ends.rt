@@ -3,11 +3,11 @@
 ghost use Rattle.std.specs.Prelude.{◌≡◌, IfOk, OnOk};
 ghost use Rattle.lane.specs.End.{of_end};
 
-use account::{CallEvent, Shut, Told};
+use account::{CallEvent, OutItem, Shut, Told};
 use anyhow::{Context, Result, bail, ensure};
 use bytes::Bytes;
-use callbox::{FedShut, Feeder, InAccount, InPiece, Taken, Taker, open_in, settle_in};
-use lane::{End, Lane};
+use callbox::{FedShut, Feeder, InAccount, InPiece, Taken, Taker, open_call, settle_in};
+use lane::{End, Lane, RingLane};
 use lpm::LpmFault;
 use std::alloc::Global;
 
@@ -94,7 +94,7 @@ fn settled<L: Lane<Item = InPiece>>(
 
 /// Runs the in side's events of a row, in order.
 pub fn run_in<L: Lane<Item = InPiece>>(alloc: Global, events: &[CallEvent]) -> Result<Heard> {
-    let (feeder, mut taker) = open_in::<L>(alloc, ROOM)?;
+    let (feeder, mut taker, _, _) = open_call::<L, RingLane<OutItem>>(alloc, 1, ROOM, 0)?;
     let mut end = End::Open(feeder);
     let mut fed = Vec::new(alloc);
     let mut taken = Vec::new(alloc);

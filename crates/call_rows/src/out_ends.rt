@@ -6,8 +6,8 @@ ghost use Rattle.lane.specs.End.{of_end};
 use account::{CallEvent, OutItem};
 use anyhow::{Context, Result, ensure};
 use bytes::Bytes;
-use callbox::{GivenShut, Giver, Sender, open_out, settle_out};
-use lane::{End, Lane};
+use callbox::{GivenShut, Giver, InPiece, Sender, open_call, settle_out};
+use lane::{End, Lane, RingLane};
 use lists::{Field, Sequence};
 use lpm::{MAX_MESSAGE_LEN, is_frame};
 use std::alloc::Global;
@@ -133,7 +133,7 @@ pub fn run_out<L: Lane<Item = OutItem>>(
     alloc: Global,
     events: &[CallEvent],
 ) -> Result<(Vec<OutItem>, Vec<OutItem>)> {
-    let (giver, mut sender) = open_out::<L>(alloc, STREAM, ROOM)?;
+    let (_, _, giver, mut sender) = open_call::<RingLane<InPiece>, L>(alloc, STREAM, 0, ROOM)?;
     let mut end = End::Open(giver);
     let mut given = Vec::new(alloc);
     let mut sent = Vec::new(alloc);

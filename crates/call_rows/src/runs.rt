@@ -7,7 +7,9 @@ use std::sync::Wait;
 use std::thread::Threads;
 
 mod bells;
+mod borders;
 mod devices;
+mod four_threads;
 mod in_ends;
 mod lanes;
 mod messages;
@@ -15,7 +17,6 @@ mod methods;
 mod out_ends;
 mod protobuf;
 mod rings;
-mod slots;
 mod threads;
 mod values;
 
@@ -86,11 +87,28 @@ fn run_queues<R: Print + AllocGlobal>(rt: &R) -> Result<()> {
         rings::meeting_keeps(alloc)?,
     )?;
     tell(rt, "a ring moves its items", rings::moves(alloc)?)?;
+    run_borders(rt)?;
     tell(
         rt,
         "faults of queues have texts",
         lanes::fault_texts(alloc)?,
     )
+}
+
+fn run_borders<R: Print + AllocGlobal>(rt: &R) -> Result<()> {
+    let alloc = rt.alloc();
+    tell(rt, "a full lane is read back", borders::wait_all(alloc)?)?;
+    tell(
+        rt,
+        "a lane is read as it is filled",
+        borders::come_one_by_one(alloc)?,
+    )?;
+    tell(
+        rt,
+        "a reader follows over each border",
+        borders::follow(alloc)?,
+    )?;
+    tell(rt, "ends meet at each border", borders::meet(alloc)?)
 }
 
 fn run_ends<R: Print + AllocGlobal>(rt: &R) -> Result<()> {
@@ -139,15 +157,5 @@ fn run_threads<R: Threads + Wait + Sync + Clock + Print + AllocGlobal>(rt: &R) -
         rt,
         "a call's four ends settle in threads",
         threads::four_ends(rt, alloc)?,
-    )?;
-    tell(
-        rt,
-        "a sender goes to another thread",
-        threads::sender_elsewhere(rt, alloc)?,
-    )?;
-    tell(
-        rt,
-        "one slot serves three calls",
-        slots::one_after_another(rt, alloc)?,
     )
 }

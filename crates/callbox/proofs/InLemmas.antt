@@ -1,6 +1,6 @@
 -- What went through the in side, item by item, and the run of its events.
 use Rattle.std.proofs.Common.{◌≡◌, ℕ, ◌+◌, min, Bool, true, false, List, [], ◌∷◌, ◌++◌, length, Option, Some, None, refl, sym, ap, subst, ◌∙◌, append_assoc, arith, MatchBool}
-use Rattle.std.specs.Prelude.{◌&&◌, All, is_none, map, fold}
+use Rattle.std.specs.Prelude.{All, is_none, map, fold}
 use Rattle.std.specs.List.{concat}
 use Rattle.std.proofs.lemmas.List.{append-nil, length-append}
 use Rattle.std.proofs.lemmas.List.Elements.{All-nil, All-cons, All-head, All-tail}
@@ -12,8 +12,7 @@ use Rattle.lpm.proofs.WholeMessages.{reading_of-frames}
 use Rattle.lpm.proofs.Readings.{frames-cons}
 use Rattle.std.proofs.lemmas.Grind.{flat_map-append, fold-append}
 use Rattle.callbox.specs.declared.taker.Progress.{Progress}
-use Rattle.callbox.specs.InAccounts.{CountsIn, IsFed, RunsIn}
-use Rattle.callbox.specs.declared.in_side.InAccount.{InAccount}
+use Rattle.callbox.specs.InAccounts.{CountsIn}
 use Rattle.account.specs.declared.call.Account.{Account}
 use Rattle.account.specs.declared.call.CallEvent.TheVariants as event
 use Rattle.account.specs.declared.call.Shut.{Shut}
@@ -24,7 +23,7 @@ use Rattle.callbox.specs.declared.piece.InPiece.{InPiece}
 use Rattle.callbox.specs.declared.piece.InPiece.TheVariants as piece
 use Rattle.account.specs.Accounts.{MayTell}
 use Rattle.account.specs.Runs.{after, run, opened, telling}
-use Rattle.callbox.specs.InSides.{pieces_of, bytes_of, shut_of, ends_at_shut, all_end_at_shut, shut_if, once, in_account, in_events, Took}
+use Rattle.callbox.specs.InSides.{pieces_of, bytes_of, shut_of, ends_at_shut, shut_if, once, in_account, in_events, Took}
 use Rattle.account.proofs.SerialLemmas.{MayTell-longer, MayTell-shut, after-feed, after-shut, after-take_message, after-take_more, after-take_fault}
 
 -- ---- one item more
@@ -44,14 +43,6 @@ pub ends_at_shut-open : (items : List InPiece) → shut_of items ≡ None → en
 ends_at_shut-open [] e = refl
 ends_at_shut-open (piece.Bytes bytes ∷ items) e = ends_at_shut-open items e
 ends_at_shut-open (piece.Shut closed ∷ items) e = absurd cc
-
-and_both : (a b c : Bool) → a && b ≡ true → (b ≡ true → c ≡ true) → a && c ≡ true
-and_both true b c e next = next e
-and_both false b c e next = absurd cc
-
-pub all_end-push : (calls : List (List InPiece)) (items : List InPiece) → all_end_at_shut calls ≡ true → ends_at_shut items ≡ true → all_end_at_shut (calls ++ items ∷ []) ≡ true
-all_end-push [] items e last = ap (λ (b : Bool). b && true) last
-all_end-push (first ∷ calls) items e last = and_both (ends_at_shut first) (all_end_at_shut calls) (all_end_at_shut (calls ++ items ∷ [])) e (λ before. all_end-push calls items before last)
 
 pub bytes_of-append : (items more : List InPiece) → bytes_of (items ++ more) ≡ bytes_of items ++ bytes_of more
 bytes_of-append [] more = refl
@@ -238,25 +229,4 @@ counts_in got put rest progress closed fed messages is last fits counted t =
       shut = refl;
       taken = t.count;
       told = refl;
-    }
-
--- ---- a call in four threads
-
-whole_end : (pieces : List (List ℕ)) (kind : Shut) (fed : List (List ℕ)) (closed : Option Shut) (messages : List (List ℕ)) → IsFed pieces kind fed closed → MayTell (Some told.End) (concat fed) closed messages
-    → (kind ≡ shut.End) × (concat pieces ≡ frames messages)
-whole_end pieces kind fed None messages asked may = let e = may.0 in absurd cc
-whole_end pieces kind fed (Some closed) messages asked may =
-    let ended = may.0 in
-    let as_kind = asked.1 in
-    (cc, ap concat (sym asked.0) ∙ may.1)
-
-pub runs_in : (pieces : List (List ℕ)) (kind : Shut) (fed : List (List ℕ)) (closed : Option Shut) (messages : List (List ℕ)) (said : Option Told) (r : InAccount) → IsFed pieces kind fed closed → CountsIn fed closed messages said r
-    → RunsIn pieces kind messages r
-runs_in pieces kind fed closed messages said r asked counts =
-    let same = subst (λ (s : Option Told). CountsIn fed closed messages s r) (sym counts.told) counts in
-    record {
-      fed = fed;
-      as_asked = subst (IsFed pieces kind fed) (sym counts.shut) asked;
-      counts = subst (λ (c : Option Shut). CountsIn fed c messages r.told r) (sym counts.shut) same;
-      whole = λ ended. whole_end pieces kind fed closed messages asked (subst (λ (t : Option Told). MayTell t (concat fed) closed messages) (sym counts.told ∙ ended) counts.lawful.told);
     }

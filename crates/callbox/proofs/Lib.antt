@@ -1,6 +1,3 @@
 pub mod InLemmas
 pub mod TakerLemmas
 pub mod OutLemmas
-pub mod SlotLemmas
-pub mod RunLemmas
-mod CountLemmas

@@ -1,28 +1,22 @@
 -- What went through the out side, item by item, and the run of its events.
-use Rattle.std.proofs.Common.{◌≡◌, ◌≢◌, ℕ, ◌+◌, Bool, true, false, List, [], ◌∷◌, ◌++◌, length, take, drop, Option, Some, Result, Ok, Err, refl, sym, ap, subst, ◌∙◌, append_assoc, arith, inl, inr, eqb, MatchBool}
+use Rattle.std.proofs.Common.{◌≡◌, ◌≢◌, ℕ, ◌+◌, Bool, true, false, List, [], ◌∷◌, ◌++◌, length, Option, Some, Result, Ok, Err, refl, sym, ap, subst, ◌∙◌, append_assoc, arith, inl, inr, eqb, MatchBool}
 use Rattle.std.specs.Prelude.{◌&&◌, map, fold, slice_get, OnOk, OnErr}
 use Rattle.std.proofs.lemmas.Bool.{cases_eq, eq-eqb, ne_eqb}
-use Rattle.std.proofs.lemmas.List.{append-nil, length-append, map-append, take-append-drop}
+use Rattle.std.proofs.lemmas.List.{append-nil, length-append}
 use Rattle.std.proofs.lemmas.Grind.{fold-append}
 use mathlib.Core.List.{IsPrefix}
 use Rattle.lists.specs.declared.field.Field.{Field}
 use Rattle.lane.specs.Lawful.{count_of}
-use Rattle.lane.proofs.Prefixes.{IsPrefix-take}
-use Rattle.lpm.specs.Messages.{frame, IsFrame}
+use Rattle.lpm.specs.Messages.{IsFrame}
 use Rattle.lpm.specs.Reading.{messages_of}
 use Rattle.lpm.proofs.OneMessage.{is_frame-IsFrame}
 use Rattle.account.specs.declared.call.Account.{Account}
 use Rattle.account.specs.declared.call.CallEvent.TheVariants as event
 use Rattle.account.specs.declared.call.OutItem.{OutItem}
 use Rattle.account.specs.declared.call.OutItem.TheVariants.{Head, Message, Trailers, Left}
-use Rattle.account.specs.declared.call.Shut.{Shut}
-use Rattle.callbox.specs.declared.piece.InPiece.{InPiece}
-use Rattle.callbox.specs.declared.piece.InPiece.TheVariants as piece
-use Rattle.callbox.specs.InSides.{pieces_of}
 use Rattle.account.specs.Accounts.{IsBody, IsResponse}
 use Rattle.callbox.specs.OutAccounts.{CountsOut}
-use Rattle.callbox.specs.declared.out_side.OutAccount.{OutAccount}
-use Rattle.callbox.specs.OutSides.{EachResponse, answer_items, has_end, has_head, has_trailers, message_items, out_account, out_events}
+use Rattle.callbox.specs.OutSides.{has_end, has_head, has_trailers, out_account, out_events}
 use Rattle.account.specs.Runs.{after, run, opened, may_follow, last_of}
 use Rattle.account.proofs.SerialLemmas.{last, last_of-last, slice_get-behind, after-give, after-send}
 
@@ -99,10 +93,6 @@ not_begun (Left ∷ items) response going e = absurd cc
 pub put_or_kept : {A E : Type 0} (P : List OutItem → Type 0) (r : Result A E) (put new : List OutItem) (item : OutItem) → OnOk r (new ≡ put ++ item ∷ []) → OnErr r (new ≡ put) → P put → P (put ++ item ∷ []) → P new
 put_or_kept P (Ok x) put new item ok kept before behind = subst P (sym ok) behind
 put_or_kept P (Err e) put new item ok kept before behind = subst P (sym kept) before
-
-pub each_response-push : (calls : List (List OutItem)) (items : List OutItem) → EachResponse calls → IsResponse items → EachResponse (calls ++ items ∷ [])
-each_response-push [] items each response = (response, tt)
-each_response-push (first ∷ calls) items each response = (each.0, each_response-push calls items each.1 response)
 
 -- ---- the trailers
 
@@ -270,60 +260,3 @@ counts_out given sent put got trailers_given trailers_sent response begins put_i
   trailers_given = given_is;
   trailers_sent = sent_is;
 }
-
-pub counts_same : (given got items : List OutItem) (r : OutAccount) → got ≡ items → CountsOut given got r → CountsOut given items r
-counts_same given got items r same counts = subst (λ (xs : List OutItem). CountsOut given xs r) same counts
-
--- ---- an answer, as far as it was given
-
-pub pieces_of-map : (pieces : List (List ℕ)) → pieces_of (map piece.Bytes pieces) ≡ pieces
-pieces_of-map [] = refl
-pieces_of-map (bytes ∷ pieces) = ap (λ (rest : List (List ℕ)). bytes ∷ rest) (pieces_of-map pieces)
-
-pieces_of-shut : (items : List InPiece) (kind : Shut) → pieces_of (items ++ piece.Shut kind ∷ []) ≡ pieces_of items
-pieces_of-shut [] kind = refl
-pieces_of-shut (piece.Bytes bytes ∷ items) kind = ap (λ (rest : List (List ℕ)). bytes ∷ rest) (pieces_of-shut items kind)
-pieces_of-shut (piece.Shut closed ∷ items) kind = pieces_of-shut items kind
-
-pieces_shut : (placed : Bool) (put new : List InPiece) (kind : Shut) → MatchBool placed (new ≡ put ++ piece.Shut kind ∷ []) (new ≡ put) → pieces_of new ≡ pieces_of put
-pieces_shut true put new kind is = ap pieces_of is ∙ pieces_of-shut put kind
-pieces_shut false put new kind is = ap pieces_of is
-
-pub fed_front : (put : List InPiece) (pieces : List (List ℕ)) (count : ℕ) → put ≡ map piece.Bytes (take count pieces) → IsPrefix (pieces_of put) pieces
-fed_front put pieces count fed = IsPrefix-take (pieces_of put) pieces count (ap pieces_of fed ∙ pieces_of-map (take count pieces))
-
-pub fed_all : (placed : Bool) (put new : List InPiece) (kind : Shut) (pieces : List (List ℕ)) → MatchBool placed (new ≡ put ++ piece.Shut kind ∷ []) (new ≡ put) → put ≡ map piece.Bytes pieces → pieces_of new ≡ pieces
-fed_all placed put new kind pieces shut fed = pieces_shut placed put new kind shut ∙ ap pieces_of fed ∙ pieces_of-map pieces
-
-pub front_none : (put : List OutItem) (head trailers : List Field) (messages : List (List ℕ)) → put ≡ [] → IsPrefix put (answer_items head messages trailers)
-front_none put head trailers messages none = (answer_items head messages trailers, ap (λ (items : List OutItem). items ++ answer_items head messages trailers) none)
-
-pub front_some : (put old : List OutItem) (head trailers : List Field) (messages : List (List ℕ)) (count : ℕ) → old ≡ [] ++ Head head ∷ [] → put ≡ old ++ message_items (take count messages)
-    → IsPrefix put (answer_items head messages trailers)
-front_some put old head trailers messages count begun given =
-    let some = message_items (take count messages) in
-    let rest = message_items (drop count messages) ++ Trailers trailers ∷ [] in
-    let whole : some ++ message_items (drop count messages) ≡ message_items messages =
-    sym (map-append (λ message. Message (frame message)) (take count messages) (drop count messages)) ∙ ap message_items (take-append-drop count messages) in (
-      rest,
-      ap (λ (items : List OutItem). items ++ rest) (given ∙ ap (λ (items : List OutItem). items ++ some) begun)
-          ∙ ap (λ (items : List OutItem). Head head ∷ items) (sym (append_assoc some (message_items (drop count messages)) (Trailers trailers ∷ [])) ∙ ap (λ (items : List OutItem). items ++ Trailers trailers ∷ []) whole),
-    )
-
-pub front_all : (placed : Bool) (new put old : List OutItem) (head trailers : List Field) (messages : List (List ℕ)) → old ≡ [] ++ Head head ∷ [] → put ≡ old ++ message_items messages → Placed placed put new trailers
-    → IsPrefix new (answer_items head messages trailers)
-front_all true new put old head trailers messages begun given shut =
-    ([], append-nil new ∙ shut ∙ ap (λ (items : List OutItem). items ++ Trailers trailers ∷ []) (given ∙ ap (λ (items : List OutItem). items ++ message_items messages) begun))
-front_all false new put old head trailers messages begun given shut =
-    (Trailers trailers ∷ [], ap (λ (items : List OutItem). items ++ Trailers trailers ∷ []) (shut ∙ given ∙ ap (λ (items : List OutItem). items ++ message_items messages) begun))
-
--- ---- what came out of a ring
-
--- of a list with one item in a ring at most that item is taken
-pub one_taken : {A B : Type 0} (f : A → B) (took ahead put rest : List A) (x : A) (y : B) → took ++ ahead ≡ put → put ++ rest ≡ x ∷ [] → map f took ≡ y ∷ [] → y ≡ f x
-one_taken f [] ahead put rest x y whole all one = absurd cc
-one_taken {A} f (first ∷ took) ahead put rest x y whole all one =
-    let is : first ∷ ((took ++ ahead) ++ rest) ≡ x ∷ [] = ap (λ (xs : List A). xs ++ rest) whole ∙ all in
-    let same : first ≡ x = cc in
-    let shown : f first ≡ y = cc in
-    sym shown ∙ ap f same

@@ -1,5 +1,5 @@
 -- What went through the in side of a call: pieces, and then at most one shut.
-use Rattle.std.specs.Prelude.{◌≡◌, ◌&&◌, ℕ, Bool, true, false, List, [], ◌∷◌, ◌++◌, length, map, Option, Some, None, All}
+use Rattle.std.specs.Prelude.{◌≡◌, ℕ, Bool, true, false, List, [], ◌∷◌, ◌++◌, length, map, Option, Some, None, All}
 use Rattle.std.specs.List.{concat}
 use Rattle.lane.specs.Lawful.{count_of, last_of}
 use Rattle.lpm.specs.declared.fault.LpmFault.{LpmFault}
@@ -42,11 +42,6 @@ ends_at_shut [] = true
 ends_at_shut (piece.Bytes bytes ∷ items) = ends_at_shut items
 ends_at_shut (piece.Shut closed ∷ []) = true
 ends_at_shut (piece.Shut closed ∷ item ∷ items) = false
-
--- each of the calls before ends at its shut
-abbrev pub all_end_at_shut : List (List InPiece) → Bool
-all_end_at_shut [] = true
-all_end_at_shut (items ∷ calls) = ends_at_shut items && all_end_at_shut calls
 
 abbrev pub is_piece : InPiece → Bool
 is_piece (piece.Bytes bytes) = true

@@ -1,9 +1,8 @@
 -- What went through the out side of a call: the items of a response.
-use Rattle.std.specs.Prelude.{◌≡◌, ℕ, ◌+◌, ◌≤◌, Bool, true, false, List, [], ◌∷◌, ◌++◌, map, None, refl}
+use Rattle.std.specs.Prelude.{◌≡◌, ℕ, ◌+◌, ◌≤◌, Bool, true, false, List, [], ◌∷◌, ◌++◌, map, Option, None, Some, refl}
 use Rattle.std.specs.Coded.{le_prop, coded_list, coded_ℕ, Coded-set, ×_prop, Unit-prop}
 use Rattle.std.proofs.Common.{sym, ap, subst, ◌∙◌}
 use Rattle.std.proofs.Math.Path.{path_j, path_j'}
-use Rattle.lists.specs.declared.field.Field.{Field}
 use Rattle.lane.specs.PutFault.{item_of, MayRefuse}
 use Rattle.lane.specs.declared.fault.PutFault.{PutFault}
 use Rattle.lane.specs.declared.fault.PutFault.TheVariants.{Full, OutOfMemory, NotTaken}
@@ -43,6 +42,14 @@ has_end (Message bytes ∷ items) = has_end items
 has_end (Trailers fields ∷ items) = true
 has_end (Left ∷ items) = true
 
+-- whether an item says that its call was left without trailers
+abbrev pub is_left : Option OutItem → Bool
+is_left None = false
+is_left (Some (Head fields)) = false
+is_left (Some (Message bytes)) = false
+is_left (Some (Trailers fields)) = false
+is_left (Some Left) = true
+
 abbrev pub is_head : OutItem → Bool
 is_head (Head fields) = true
 is_head (Message bytes) = false
@@ -56,23 +63,15 @@ is_message (Trailers fields) = false
 is_message Left = false
 
 -- Why a message is handed back: as the lane refuses an item, or for want of memory for the message with its prefix.
-abbrev pub MayRefuseMessage : Bool → ℕ → ℕ → ℕ → PutFault (List ℕ) → Type 0
-MayRefuseMessage only_fills room put seen_taken (Full message waiting) = (waiting + seen_taken ≡ put) × (room ≤ waiting)
-MayRefuseMessage only_fills room put seen_taken (OutOfMemory message) = Unit {0}
-MayRefuseMessage only_fills room put seen_taken (NotTaken message) = only_fills ≡ false
+abbrev pub MayRefuseMessage : Type 0 → ℕ → ℕ → ℕ → PutFault (List ℕ) → Type 0
+MayRefuseMessage MayMiss room put seen_taken (Full message waiting) = (waiting + seen_taken ≡ put) × (room ≤ waiting)
+MayRefuseMessage MayMiss room put seen_taken (OutOfMemory message) = Unit {0}
+MayRefuseMessage MayMiss room put seen_taken (NotTaken message) = MayMiss
 
 -- Why bytes with their prefix are handed back: they aren't one message, or they are, and the lane refuses them.
-abbrev pub RefusesFramed : Bool → ℕ → ℕ → ℕ → List ℕ → FramedFault → Type 0
-RefusesFramed only_fills room put seen_taken framed (NotAFrame bytes) = (bytes ≡ framed) × (IsFrame framed → ⊥)
-RefusesFramed only_fills room put seen_taken framed (Refused fault) = (item_of fault ≡ framed) × IsFrame framed × MayRefuse only_fills room put seen_taken fault
-
--- messages with their prefixes
-abbrev pub message_items : List (List ℕ) → List OutItem
-message_items messages = map (λ message. Message (frame message)) messages
-
--- a head, messages with their prefixes, and trailers
-abbrev pub answer_items : List Field → List (List ℕ) → List Field → List OutItem
-answer_items head messages trailers = Head head ∷ (message_items messages ++ Trailers trailers ∷ [])
+abbrev pub RefusesFramed : (ℕ → Type 0) → Type 0 → ℕ → ℕ → ℕ → List ℕ → FramedFault → Type 0
+RefusesFramed WantsMemory MayMiss room put seen_taken framed (NotAFrame bytes) = (bytes ≡ framed) × (IsFrame framed → ⊥)
+RefusesFramed WantsMemory MayMiss room put seen_taken framed (Refused fault) = (item_of fault ≡ framed) × IsFrame framed × MayRefuse WantsMemory MayMiss room put seen_taken fault
 
 -- the out side of an account
 abbrev pub out_account : List OutItem → List OutItem → Account
@@ -143,12 +142,3 @@ IsResponse-prop (Head fields ∷ items) = IsBody-prop items
 IsResponse-prop (Message bytes ∷ items) = λ p q. absurd p
 IsResponse-prop (Trailers fields ∷ items) = IsEmpty-prop items
 IsResponse-prop (Left ∷ items) = IsEmpty-prop items
-
--- each of the calls before was given a response
-abbrev pub EachResponse : List (List OutItem) → Type 0
-EachResponse [] = Unit {0}
-EachResponse (items ∷ calls) = IsResponse items × EachResponse calls
-
-pub EachResponse-prop : (calls : List (List OutItem)) → IsProp (EachResponse calls)
-EachResponse-prop [] = Unit-prop
-EachResponse-prop (items ∷ calls) = ×_prop (IsResponse-prop items) (EachResponse-prop calls)

@@ -1,9 +1,9 @@
 //! The end of a call that is fed what comes in.
 
-ghost use Rattle.std.specs.Prelude.{◌≡◌, true, None, [], ◌∷◌, ◌++◌, length, IfErr, IfOk, OnErr, OnOk, MatchBool};
+ghost use Rattle.std.specs.Prelude.{◌≡◌, true, None, [], ◌∷◌, ◌++◌, length, IfErr, OnErr, OnOk, MatchBool};
 ghost use Rattle.lane.specs.Lawful.{count_of};
 ghost use Rattle.lane.specs.PutFault.{item_of, MayRefuse};
-ghost use Rattle.callbox.specs.InSides.{all_end_at_shut, bytes_of, ends_at_shut, shut_if, shut_of};
+ghost use Rattle.callbox.specs.InSides.{bytes_of, ends_at_shut, shut_if, shut_of};
 ghost use Rattle.callbox.specs.declared.piece.InPiece.TheVariants as in_piece;
 ghost use Rattle.account.specs.declared.call.Shut.TheVariants as shut;
 
@@ -23,7 +23,6 @@ pub struct Feeder<L: Lane<Item = InPiece>> {
     pub(crate) fed: u64,
     ghost counted: { fed ≡ count_of (bytes_of (L.put_in tx)) },
     ghost unshut: { shut_of (L.put_in tx) ≡ None },
-    ghost past: { all_end_at_shut (L.past_in tx) ≡ true },
 }
 
 /// What is left of a `Feeder` once the half was shut.
@@ -35,13 +34,12 @@ pub struct FedShut<L: Lane<Item = InPiece>> {
     ghost counted: { fed ≡ count_of (bytes_of (L.put_shut shut)) },
     ghost last: { ends_at_shut (L.put_shut shut) ≡ true },
     ghost put: { shut_of (L.put_shut shut) ≡ shut_if (L.was_placed shut) kind },
-    ghost past: { all_end_at_shut (L.past_shut shut) ≡ true },
 }
 
 impl<L: Lane<Item = InPiece>> Feeder<L> {
     /// An end of this lane.
     pub(crate) fn new(tx: L::In) -> Feeder<L>
-        requires { (L.put_in tx ≡ []) × (L.past_in tx ≡ []) }
+        requires { L.put_in tx ≡ [] }
         ensures { result.tx ≡ tx }
     {
         Feeder { tx, fed: 0 }
@@ -50,13 +48,12 @@ impl<L: Lane<Item = InPiece>> Feeder<L> {
     /// Feeds the next piece, or hands it back and changes nothing.
     pub fn feed(&mut self, piece: Bytes) -> Result<(), FeedFault>
         ensures name { L.in_name self.new.tx ≡ L.in_name self.old.tx }
-        ensures past { L.past_in self.new.tx ≡ L.past_in self.old.tx }
         ensures ok { OnOk result (L.put_in self.new.tx
             ≡ L.put_in self.old.tx ++ in_piece.Bytes piece ∷ []) }
         ensures unchanged { OnErr result (L.put_in self.new.tx ≡ L.put_in self.old.tx) }
         ensures handed_back { IfErr result (λ e. item_of e ≡ piece) }
         ensures fault { IfErr result
-            (MayRefuse L.only_fills (L.room_of (L.in_name self.old.tx))
+            (MayRefuse L.WantsMemory L.MayMiss (L.room_of (L.in_name self.old.tx))
             (length (L.put_in self.old.tx)) (L.seen_taken self.new.tx)) }
     {
         let len = piece.len() as u64;
@@ -77,7 +74,6 @@ impl<L: Lane<Item = InPiece>> Feeder<L> {
     /// Ends the half: the client has sent all that it will.
     pub fn end(self) -> FedShut<L>
         ensures name { L.shut_name result.shut ≡ L.in_name self.tx }
-        ensures past { L.past_shut result.shut ≡ L.past_in self.tx }
         ensures kind { result.kind ≡ shut.End }
         ensures put { MatchBool (L.was_placed result.shut)
             (L.put_shut result.shut ≡ L.put_in self.tx ++ in_piece.Shut shut.End ∷ [])
@@ -89,7 +85,6 @@ impl<L: Lane<Item = InPiece>> Feeder<L> {
     /// Resets the half, with this error code.
     pub fn reset(self, code: u32) -> FedShut<L>
         ensures name { L.shut_name result.shut ≡ L.in_name self.tx }
-        ensures past { L.past_shut result.shut ≡ L.past_in self.tx }
         ensures kind { result.kind ≡ shut.Reset code }
         ensures put { MatchBool (L.was_placed result.shut)
             (L.put_shut result.shut ≡ L.put_in self.tx ++ in_piece.Shut (shut.Reset code) ∷ [])
@@ -101,7 +96,6 @@ impl<L: Lane<Item = InPiece>> Feeder<L> {
     /// Shuts the half in this way.
     pub(crate) fn shut(self, kind: Shut) -> FedShut<L>
         ensures name { L.shut_name result.shut ≡ L.in_name self.tx }
-        ensures past { L.past_shut result.shut ≡ L.past_in self.tx }
         ensures kind { result.kind ≡ kind }
         ensures put { MatchBool (L.was_placed result.shut)
             (L.put_shut result.shut ≡ L.put_in self.tx ++ in_piece.Shut kind ∷ [])
@@ -114,31 +108,10 @@ impl<L: Lane<Item = InPiece>> Feeder<L> {
 }
 
 impl<L: Lane<Item = InPiece>> FedShut<L> {
-    /// Whether the shut was put behind the pieces.
+    /// Whether the shut was put after the pieces.
     pub fn placed(&self) -> bool
         ensures { result ≡ L.was_placed self.now.shut }
     {
         L::placed(&self.shut)
-    }
-    /// Goes on to the next call over the same lane, where the shut was put and all of this call is seen taken.
-    ///
-    /// Where all was taken it may still answer `Err` for a moment.
-    pub fn begin(self) -> Result<Feeder<L>, FedShut<L>>
-        ensures placed { OnOk result (L.was_placed self.shut ≡ true) }
-        ensures name { IfOk result (λ f. L.in_name f.tx ≡ L.next_name (L.shut_name self.shut)) }
-        ensures past { IfOk result (λ f. L.past_in f.tx
-            ≡ L.past_shut self.shut ++ L.put_shut self.shut ∷ []) }
-        ensures empty { IfOk result (λ f. (L.put_in f.tx ≡ []) × (L.seen_taken f.tx ≡ 0)) }
-        ensures err { IfErr result (λ s. (L.shut_name s.shut ≡ L.shut_name self.shut)
-            × (s.kind ≡ self.kind)
-            × (L.past_shut s.shut ≡ L.past_shut self.shut)
-            × (L.put_shut s.shut ≡ L.put_shut self.shut)
-            × (L.was_placed s.shut ≡ L.was_placed self.shut)) }
-    {
-        let FedShut { shut, kind, fed } = self;
-        match L::begin(shut) {
-            Ok(tx) => Ok(Feeder { tx, fed: 0 }),
-            Err(shut) => Err(FedShut { shut, kind, fed }),
-        }
     }
 }

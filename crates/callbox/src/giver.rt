@@ -10,7 +10,7 @@ ghost use Rattle.std.specs.Prelude.{◌≡◌, ◌+◌, ◌<◌, ◌≤◌, ◌&
 ghost use Rattle.lane.specs.PutFault.{item_of, MayRefuse};
 ghost use Rattle.lpm.specs.Messages.{frame, IsFrame};
 ghost use Rattle.account.specs.Accounts.{IsResponse};
-ghost use Rattle.callbox.specs.OutSides.{EachResponse, EachResponse-prop, has_end, has_head, has_trailers, is_head, is_message, IsResponse-prop, MayRefuseMessage, RefusesFramed};
+ghost use Rattle.callbox.specs.OutSides.{has_end, has_head, has_trailers, is_head, is_message, IsResponse-prop, MayRefuseMessage, RefusesFramed};
 ghost use Rattle.account.specs.declared.call.OutItem.TheVariants as out_item;
 
 use account::OutItem;
@@ -42,7 +42,6 @@ pub struct Giver<L: Lane<Item = OutItem>> {
     ghost begins: { begun ≡ has_head (L.put_in tx) },
     ghost response: { IsResponse (L.put_in tx) } by { IsResponse-prop (L.put_in tx) },
     ghost unshut: { has_end (L.put_in tx) ≡ false },
-    ghost past: { EachResponse (L.past_in tx) } by { EachResponse-prop (L.past_in tx) },
 }
 
 /// What is left of a `Giver` once the trailers were given, or the call was left.
@@ -53,13 +52,12 @@ pub struct GivenShut<L: Lane<Item = OutItem>> {
     pub(crate) answered: bool,
     ghost response: { IsResponse (L.put_shut shut) } by { IsResponse-prop (L.put_shut shut) },
     ghost closed: { has_trailers (L.put_shut shut) ≡ (answered && L.was_placed shut) },
-    ghost past: { EachResponse (L.past_shut shut) } by { EachResponse-prop (L.past_shut shut) },
 }
 
 impl<L: Lane<Item = OutItem>> Giver<L> {
     /// An end of this lane.
     pub(crate) fn new(alloc: Global, tx: L::In) -> Giver<L>
-        requires { (L.put_in tx ≡ []) × (L.past_in tx ≡ []) }
+        requires { L.put_in tx ≡ [] }
         ensures { result.tx ≡ tx }
     {
         Giver {
@@ -81,13 +79,12 @@ impl<L: Lane<Item = OutItem>> Giver<L> {
     pub fn head(&mut self, fields: Sequence<Field>) -> Result<(), GiveFault<Sequence<Field>>>
         requires first { L.put_in self.old.tx ≡ [] }
         ensures name { L.in_name self.new.tx ≡ L.in_name self.old.tx }
-        ensures past { L.past_in self.new.tx ≡ L.past_in self.old.tx }
         ensures ok { OnOk result (L.put_in self.new.tx
             ≡ L.put_in self.old.tx ++ out_item.Head fields ∷ []) }
         ensures unchanged { OnErr result (L.put_in self.new.tx ≡ L.put_in self.old.tx) }
         ensures handed_back { IfErr result (λ e. item_of e ≡ fields) }
         ensures fault { IfErr result
-            (MayRefuse L.only_fills (L.room_of (L.in_name self.old.tx))
+            (MayRefuse L.WantsMemory L.MayMiss (L.room_of (L.in_name self.old.tx))
             (length (L.put_in self.old.tx)) (L.seen_taken self.new.tx)) }
     {
         match L::put(&mut self.tx, OutItem::Head(fields)) {
@@ -108,7 +105,6 @@ impl<L: Lane<Item = OutItem>> Giver<L> {
     /// sent, in this call. After `Ok` the next `head`, `give` or `give_framed` isn't `Full`. It takes no memory.
     pub fn check_room(&mut self) -> Result<(), u64>
         ensures name { L.in_name self.new.tx ≡ L.in_name self.old.tx }
-        ensures past { L.past_in self.new.tx ≡ L.past_in self.old.tx }
         ensures seen { L.seen_taken self.old.tx ≤ L.seen_taken self.new.tx }
         ensures unchanged { L.put_in self.new.tx ≡ L.put_in self.old.tx }
         ensures room { OnOk result (length (L.put_in self.new.tx)
@@ -122,18 +118,17 @@ impl<L: Lane<Item = OutItem>> Giver<L> {
 
     /// Gives a message with its prefix, or hands the message back and changes nothing.
     ///
-    /// The bytes of the message are copied once, behind the prefix, and only where there is room.
+    /// The bytes of the message are copied once, after the prefix, and only where there is room.
     pub fn give(&mut self, message: Bytes) -> Result<(), GiveFault<Bytes>>
         requires head { has_head (L.put_in self.old.tx) ≡ true }
         requires len { length message ≤ 4194304 }
         ensures name { L.in_name self.new.tx ≡ L.in_name self.old.tx }
-        ensures past { L.past_in self.new.tx ≡ L.past_in self.old.tx }
         ensures ok { OnOk result (L.put_in self.new.tx
             ≡ L.put_in self.old.tx ++ out_item.Message (frame message) ∷ []) }
         ensures unchanged { OnErr result (L.put_in self.new.tx ≡ L.put_in self.old.tx) }
         ensures handed_back { IfErr result (λ e. item_of e ≡ message) }
         ensures fault { IfErr result
-            (MayRefuseMessage L.only_fills (L.room_of (L.in_name self.old.tx))
+            (MayRefuseMessage L.MayMiss (L.room_of (L.in_name self.old.tx))
             (length (L.put_in self.old.tx)) (L.seen_taken self.new.tx)) }
     {
         if let Err(waiting) = self.check_room() {
@@ -162,13 +157,12 @@ impl<L: Lane<Item = OutItem>> Giver<L> {
     pub fn give_framed(&mut self, framed: Bytes) -> Result<(), FramedFault>
         requires { has_head (L.put_in self.old.tx) ≡ true }
         ensures name { L.in_name self.new.tx ≡ L.in_name self.old.tx }
-        ensures past { L.past_in self.new.tx ≡ L.past_in self.old.tx }
         ensures frame { OnOk result (IsFrame framed) }
         ensures ok { OnOk result (L.put_in self.new.tx
             ≡ L.put_in self.old.tx ++ out_item.Message framed ∷ []) }
         ensures unchanged { OnErr result (L.put_in self.new.tx ≡ L.put_in self.old.tx) }
         ensures fault { IfErr result
-            (RefusesFramed L.only_fills (L.room_of (L.in_name self.old.tx))
+            (RefusesFramed L.WantsMemory L.MayMiss (L.room_of (L.in_name self.old.tx))
             (length (L.put_in self.old.tx)) (L.seen_taken self.new.tx) framed) }
     {
         if !is_frame(framed.as_slice()) {
@@ -185,13 +179,12 @@ impl<L: Lane<Item = OutItem>> Giver<L> {
         requires head { has_head (L.put_in self.old.tx) ≡ true }
         requires frame { IsFrame framed }
         ensures name { L.in_name self.new.tx ≡ L.in_name self.old.tx }
-        ensures past { L.past_in self.new.tx ≡ L.past_in self.old.tx }
         ensures ok { OnOk result (L.put_in self.new.tx
             ≡ L.put_in self.old.tx ++ out_item.Message framed ∷ []) }
         ensures unchanged { OnErr result (L.put_in self.new.tx ≡ L.put_in self.old.tx) }
         ensures handed_back { IfErr result (λ e. item_of e ≡ framed) }
         ensures fault { IfErr result
-            (MayRefuse L.only_fills (L.room_of (L.in_name self.old.tx))
+            (MayRefuse L.WantsMemory L.MayMiss (L.room_of (L.in_name self.old.tx))
             (length (L.put_in self.old.tx)) (L.seen_taken self.new.tx)) }
     {
         match L::put(&mut self.tx, OutItem::Message(framed)) {
@@ -208,7 +201,6 @@ impl<L: Lane<Item = OutItem>> Giver<L> {
     /// Gives the trailers, where `placed` then says so. It takes no memory.
     pub fn trailers(self, fields: Sequence<Field>) -> GivenShut<L>
         ensures name { L.shut_name result.shut ≡ L.in_name self.tx }
-        ensures past { L.past_shut result.shut ≡ L.past_in self.tx }
         ensures put { MatchBool (L.was_placed result.shut)
             (L.put_shut result.shut ≡ L.put_in self.tx ++ out_item.Trailers fields ∷ [])
             (L.put_shut result.shut ≡ L.put_in self.tx) }
@@ -226,7 +218,6 @@ impl<L: Lane<Item = OutItem>> Giver<L> {
     /// Nothing is sent for it. It is for a call that needs no answer any more, as one that was reset.
     pub fn leave(self) -> GivenShut<L>
         ensures name { L.shut_name result.shut ≡ L.in_name self.tx }
-        ensures past { L.past_shut result.shut ≡ L.past_in self.tx }
         ensures put { MatchBool (L.was_placed result.shut)
             (L.put_shut result.shut ≡ L.put_in self.tx ++ out_item.Left ∷ [])
             (L.put_shut result.shut ≡ L.put_in self.tx) }
@@ -240,7 +231,7 @@ impl<L: Lane<Item = OutItem>> Giver<L> {
 }
 
 impl<L: Lane<Item = OutItem>> GivenShut<L> {
-    /// Whether the trailers, or that the call was left, were put behind the other items.
+    /// Whether the trailers, or that the call was left, were put after the other items.
     pub fn placed(&self) -> bool
         ensures { result ≡ L.was_placed self.now.shut }
     {
@@ -252,32 +243,6 @@ impl<L: Lane<Item = OutItem>> GivenShut<L> {
         ensures { result ≡ has_trailers (L.put_shut self.now.shut) }
     {
         self.answered && self.placed()
-    }
-
-    /// Goes on to the next call over the same lane, where the last item was put and all of this call is seen sent.
-    ///
-    /// Where all was sent it may still answer `Err` for a moment.
-    pub fn begin(self, alloc: Global) -> Result<Giver<L>, GivenShut<L>>
-        ensures placed { OnOk result (L.was_placed self.shut ≡ true) }
-        ensures name { IfOk result (λ g. L.in_name g.tx ≡ L.next_name (L.shut_name self.shut)) }
-        ensures past { IfOk result (λ g. L.past_in g.tx
-            ≡ L.past_shut self.shut ++ L.put_shut self.shut ∷ []) }
-        ensures empty { IfOk result (λ g. (L.put_in g.tx ≡ []) × (L.seen_taken g.tx ≡ 0)) }
-        ensures err { IfErr result (λ s. (L.shut_name s.shut ≡ L.shut_name self.shut)
-            × (s.answered ≡ self.answered)
-            × (L.past_shut s.shut ≡ L.past_shut self.shut)
-            × (L.put_shut s.shut ≡ L.put_shut self.shut)
-            × (L.was_placed s.shut ≡ L.was_placed self.shut)) }
-    {
-        let GivenShut { shut, answered } = self;
-        match L::begin(shut) {
-            Ok(tx) => Ok(Giver {
-                tx,
-                begun: false,
-                alloc,
-            }),
-            Err(shut) => Err(GivenShut { shut, answered }),
-        }
     }
 }
 

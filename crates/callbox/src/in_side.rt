@@ -75,15 +75,14 @@ fn settle_shut<L: Lane<Item = InPiece>>(shut: FedShut<L>, taker: Taker<L>) -> In
 }
 
 /// The two ends of a call's in side, over one lane with this room.
-pub fn open_in<L: Lane<Item = InPiece>>(
+pub(crate) fn open_in<L: Lane<Item = InPiece>>(
     alloc: Global,
     room: usize,
 ) -> Result<(Feeder<L>, Taker<L>), AllocError>
     ensures one_call { IfOk result (λ r. L.in_name r.0.tx ≡ L.out_name r.1.rx) }
     ensures room { IfOk result (λ r. L.room_of (L.in_name r.0.tx) ≡ room) }
     ensures unfed { IfOk result (λ r. L.put_in r.0.tx ≡ []) }
-    ensures first { IfOk result (λ r. (L.past_in r.0.tx ≡ []) × (L.past_out r.1.rx ≡ [])
-        × (L.got r.1.rx ≡ [])) }
+    ensures ungot { IfOk result (λ r. L.got r.1.rx ≡ []) }
     ensures took { IfOk result (λ r. Took (L.got r.1.rx) r.1.progress []) }
     ensures owed { IfOk result (λ r. r.1.progress.owed ≡ 0) }
     ensures told { IfOk result (λ r. r.1.progress.told ≡ None) }

@@ -69,7 +69,7 @@ fn settle_shut<L: Lane<Item = OutItem>>(shut: GivenShut<L>, sender: Sender<L>) -
 }
 
 /// The two ends of a call's out side, over one lane with this room.
-pub fn open_out<L: Lane<Item = OutItem>>(
+pub(crate) fn open_out<L: Lane<Item = OutItem>>(
     alloc: Global,
     id: u32,
     room: usize,
@@ -77,7 +77,6 @@ pub fn open_out<L: Lane<Item = OutItem>>(
     ensures one_call { IfOk result (λ r. L.in_name r.0.tx ≡ L.out_name r.1.rx) }
     ensures room { IfOk result (λ r. L.room_of (L.in_name r.0.tx) ≡ room) }
     ensures nothing { IfOk result (λ r. (L.put_in r.0.tx ≡ []) × (L.got r.1.rx ≡ [])) }
-    ensures first { IfOk result (λ r. (L.past_in r.0.tx ≡ []) × (L.past_out r.1.rx ≡ [])) }
     ensures id { IfOk result (λ r. r.1.id ≡ id) }
 {
     let (tx, rx) = L::open(alloc, room)?;

@@ -1,11 +1,11 @@
 //! The end of a call that takes what was given, to send it.
 
-ghost use Rattle.std.specs.Prelude.{◌≡◌, true, false, ◌<◌, [], ◌∷◌, ◌++◌, length, ⊤, MatchOption};
+ghost use Rattle.std.specs.Prelude.{◌≡◌, ◌<◌, [], ◌∷◌, ◌++◌, length, ⊤, MatchOption};
 ghost use Rattle.std.specs.Borrow.{sem};
 ghost use denote.Follow.{follows_so};
 ghost use mathlib.Core.Option.{none};
 ghost use Rattle.lane.specs.Lawful.{last_of};
-ghost use Rattle.callbox.specs.Counts.{is_left};
+ghost use Rattle.callbox.specs.OutSides.{is_left};
 
 use account::OutItem;
 use lane::Lane;
@@ -45,7 +45,7 @@ impl<L: Lane<Item = OutItem>> Sender<L> {
             (follows_so (the_row L.row L.In.row L.Out.row L.Shut.row)
             (the_row L.row L.In.row L.Out.row L.Shut.row) self.entry.ghost_name none (λ _ _. ⊤)
             (λ n. (L.out_name n.rx ≡ L.out_name self.old.rx)
-            × (L.past_out n.rx ≡ L.past_out self.old.rx) × (n.id ≡ self.old.id) × MatchOption result
+            × (n.id ≡ self.old.id) × MatchOption result
             ((L.got n.rx ≡ L.got self.old.rx) × (L.ahead self.old.rx ≡ []) × (L.ahead n.rx ≡ []))
             (λ item. (L.got n.rx ≡ L.got self.old.rx ++ item.now ∷ [])
             × (0 < length (L.ahead self.old.rx)
@@ -58,28 +58,10 @@ impl<L: Lane<Item = OutItem>> Sender<L> {
     pub fn was_left(&mut self) -> bool
         ensures left { result ≡ is_left (last_of (L.got self.old.rx)) }
         ensures name { L.out_name self.new.rx ≡ L.out_name self.old.rx }
-        ensures past { L.past_out self.new.rx ≡ L.past_out self.old.rx }
         ensures got { L.got self.new.rx ≡ L.got self.old.rx }
         ensures ahead { L.ahead self.new.rx ≡ L.ahead self.old.rx }
         ensures id { self.new.id ≡ self.old.id }
     {
-        matches!(L::again(&mut self.rx), Some(OutItem::Left))
-    }
-
-    /// Goes on to the next call over the same lane, that of this stream, where the last item of this call was got.
-    pub fn begin(&mut self, id: u32) -> bool
-        ensures name { result ≡ true → L.out_name self.new.rx
-            ≡ L.next_name (L.out_name self.old.rx) }
-        ensures past { result ≡ true → L.past_out self.new.rx
-            ≡ L.past_out self.old.rx ++ L.got self.old.rx ∷ [] }
-        ensures empty { result ≡ true → L.got self.new.rx ≡ [] }
-        ensures id { result ≡ true → self.new.id ≡ id }
-        ensures stays { result ≡ false → (self.new.rx ≡ self.old.rx) × (self.new.id ≡ self.old.id) }
-    {
-        if !L::go_on(&mut self.rx) {
-            return false;
-        }
-        self.id = id;
-        true
+        matches!(L::polled(&mut self.rx), Some(OutItem::Left))
     }
 }

@@ -5,15 +5,14 @@
 //!
 //! A piece whose sharing is refused stays unread. A lane lends its item until the next poll, and `Bytes::clone` can be
 //! refused; so the taker counts the piece for `credit` once, marks it unread, still takes the messages and tells the
-//! faults that were whole before it, then answers Fault(OutOfMemory), and reads it again (`Lane::again`) at its next
+//! faults that were whole before it, then answers Fault(OutOfMemory), and reads it again (`Lane::polled`) at its next
 //! `take`.
 //!
 //! `Taker::look`: it polls at most 2^64 - 1 times, since it has to return and a writer may put pieces without bytes
 //! for good.
 
-ghost use Rattle.std.specs.Prelude.{◌≡◌, ℕ, ◌+◌, ◌-◌, min, true, false, None, Some, List, [], ◌∷◌, ◌++◌, length, All, IfNone, IfSome, MatchBool, MatchOption, is_some};
+ghost use Rattle.std.specs.Prelude.{◌≡◌, ℕ, ◌+◌, ◌-◌, min, true, false, None, Some, List, [], ◌∷◌, ◌++◌, length, All, IfNone, IfSome, MatchOption, is_some};
 ghost use Rattle.lpm.specs.Messages.{IsUnfinished};
-ghost use mathlib.Core.List.{IsPrefix};
 ghost use Rattle.lane.specs.Lawful.{last_of};
 ghost use Rattle.callbox.specs.InSides.{EachNeeded, IsPolled, Took, Tells, bytes_of, grown, length_of, telling};
 ghost use Rattle.callbox.specs.declared.piece.InPiece.{InPiece};
@@ -223,7 +222,6 @@ impl InPiece {
 /// What the next item of the lane is, if there is one.
 fn poll<L: Lane<Item = InPiece>>(rx: &mut L::Out) -> Option<Polled>
     ensures name { L.out_name rx.new ≡ L.out_name rx.old }
-    ensures past { L.past_out rx.new ≡ L.past_out rx.old }
     ensures got { MatchOption result
         ((L.got rx.new ≡ L.got rx.old) × (L.ahead rx.new ≡ []))
         (λ p. (item : InPiece) × (L.got rx.new ≡ L.got rx.old ++ item ∷ []) × IsPolled item p) }
@@ -237,26 +235,14 @@ fn poll<L: Lane<Item = InPiece>>(rx: &mut L::Out) -> Option<Polled>
 /// What the item that was got last is, once more.
 fn poll_again<L: Lane<Item = InPiece>>(rx: &mut L::Out) -> Option<Polled>
     ensures name { L.out_name rx.new ≡ L.out_name rx.old }
-    ensures past { L.past_out rx.new ≡ L.past_out rx.old }
     ensures got { L.got rx.new ≡ L.got rx.old }
     ensures item { IfSome result (λ p. (item : InPiece) × (last_of (L.got rx.old) ≡ Some item)
         × IsPolled item p) }
 {
-    match L::again(rx) {
+    match L::polled(rx) {
         Some(item) => Some(item.share()),
         None => None,
     }
-}
-
-/// Gets the next item of the lane and reads nothing of it, if there is one.
-fn pass<L: Lane<Item = InPiece>>(rx: &mut L::Out) -> bool
-    ensures name { L.out_name rx.new ≡ L.out_name rx.old }
-    ensures past { L.past_out rx.new ≡ L.past_out rx.old }
-    ensures got { MatchBool result
-        ((item : InPiece) × (L.got rx.new ≡ L.got rx.old ++ item ∷ []))
-        (L.got rx.new ≡ L.got rx.old) }
-{
-    L::poll(rx).is_some()
 }
 
 /// Takes the messages of what was fed, and is told how the half was shut.
@@ -285,7 +271,6 @@ impl<L: Lane<Item = InPiece>> Taker<L> {
     /// and it may be called again.
     pub fn take(&mut self) -> Taken
         ensures name { L.out_name self.new.rx ≡ L.out_name self.old.rx }
-        ensures past { L.past_out self.new.rx ≡ L.past_out self.old.rx }
         // Of all messages that were taken so far.
         ensures took { (messages : List (List ℕ))
             → Took (L.got self.old.rx) self.old.progress messages
@@ -321,7 +306,6 @@ impl<L: Lane<Item = InPiece>> Taker<L> {
         requires told { self.old.progress.told ≡ None }
         requires unread { self.old.progress.unread ≡ true }
         ensures name { L.out_name self.new.rx ≡ L.out_name self.old.rx }
-        ensures past { L.past_out self.new.rx ≡ L.past_out self.old.rx }
         ensures got { L.got self.new.rx ≡ L.got self.old.rx }
         ensures took { (messages : List (List ℕ))
             → Took (L.got self.old.rx) self.old.progress messages
@@ -338,7 +322,6 @@ impl<L: Lane<Item = InPiece>> Taker<L> {
     fn look(&mut self) -> Taken
         requires { self.old.progress.told ≡ None }
         ensures name { L.out_name self.new.rx ≡ L.out_name self.old.rx }
-        ensures past { L.past_out self.new.rx ≡ L.past_out self.old.rx }
         ensures took { (messages : List (List ℕ))
             → Took (L.got self.old.rx) self.old.progress messages
             → Took (L.got self.new.rx) self.new.progress (grown messages result) }
@@ -366,41 +349,6 @@ impl<L: Lane<Item = InPiece>> Taker<L> {
             }
         }
         Taken::Fault(LpmFault::OutOfMemory)
-    }
-
-    /// Gets what there is of this call without taking it, so that a call that was left may end.
-    pub fn drain(&mut self)
-        ensures name { L.out_name self.new.rx ≡ L.out_name self.old.rx }
-        ensures past { L.past_out self.new.rx ≡ L.past_out self.old.rx }
-        ensures got { IsPrefix (L.got self.old.rx) (L.got self.new.rx) }
-        ensures progress { self.new.progress ≡ self.old.progress }
-    {
-        for _ in 0..u64::MAX {
-            if !pass::<L>(&mut self.rx) {
-                return;
-            }
-        }
-    }
-
-    /// Goes on to the next call over the same lane, where the shut of this one was got.
-    pub fn begin(&mut self, alloc: Global) -> bool
-        ensures name { result ≡ true → L.out_name self.new.rx
-            ≡ L.next_name (L.out_name self.old.rx) }
-        ensures past { result ≡ true → L.past_out self.new.rx
-            ≡ L.past_out self.old.rx ++ L.got self.old.rx ∷ [] }
-        ensures empty { result ≡ true → L.got self.new.rx ≡ [] }
-        ensures took { result ≡ true → Took [] self.new.progress [] }
-        ensures owed { result ≡ true → self.new.progress.owed ≡ 0 }
-        ensures told { result ≡ true → self.new.progress.told ≡ None }
-        ensures stays { result ≡ false
-            → (self.new.rx ≡ self.old.rx) × (self.new.progress ≡ self.old.progress) }
-    {
-        let Taker { rx, progress } = self;
-        if !L::go_on(rx) {
-            return false;
-        }
-        *progress = Progress::new(alloc);
-        true
     }
 
     /// How many bytes were polled since the last credit, or the greatest `u32` where they are more.

@@ -183,14 +183,14 @@ runs_shut call given after flag fields code ends ending trailers has empty short
 }
 
 -- nothing was given
-kept : (why : Refused) (only_fills : Bool) (room seen : ℕ) (given after : List OutItem) → Refuses why only_fills room seen given after → given ≡ after
-kept refused.Full only_fills room seen given after is = sym is.0
-kept refused.OutOfMemory only_fills room seen given after is = sym is
-kept refused.NotTaken only_fills room seen given after is = sym is.0
+kept : (why : Refused) (MayMiss : Type 0) (room seen : ℕ) (given after : List OutItem) → Refuses why MayMiss room seen given after → given ≡ after
+kept refused.Full MayMiss room seen given after is = sym is.0
+kept refused.OutOfMemory MayMiss room seen given after is = sym is
+kept refused.NotTaken MayMiss room seen given after is = sym is.0
 
-pub runs_kept : (call : Call) (why : Refused) (only_fills : Bool) (room seen : ℕ) (given after : List OutItem) → Refuses why only_fills room seen given after → RunsOn call (live given) call (live after)
-runs_kept call why only_fills room seen given after is =
-    subst (λ (items : List OutItem). RunsOn call (live given) call (live items)) (kept why only_fills room seen given after is) (runs_same call (live given))
+pub runs_kept : (call : Call) (why : Refused) (MayMiss : Type 0) (room seen : ℕ) (given after : List OutItem) → Refuses why MayMiss room seen given after → RunsOn call (live given) call (live after)
+runs_kept call why MayMiss room seen given after is =
+    subst (λ (items : List OutItem). RunsOn call (live given) call (live items)) (kept why MayMiss room seen given after is) (runs_same call (live given))
 
 pub runs_to : (old new : Call) (before : Shown) (given after : List OutItem) → after ≡ given → RunsOn old before new (live given) → RunsOn old before new (live after)
 runs_to old new before given after is runs = subst (λ (items : List OutItem). RunsOn old before new (live items)) (sym is) runs

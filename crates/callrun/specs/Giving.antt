@@ -1,5 +1,5 @@
 -- What comes of giving an item.
-use Rattle.std.specs.Prelude.{◌≡◌, Bool, false, ℕ, ◌+◌, ◌≤◌, List, [], ◌∷◌, ◌++◌, length, Result, Ok, Err}
+use Rattle.std.specs.Prelude.{◌≡◌, ℕ, ◌+◌, ◌≤◌, List, [], ◌∷◌, ◌++◌, length, Result, Ok, Err}
 use Rattle.lane.specs.declared.fault.PutFault.{PutFault}
 use Rattle.lane.specs.declared.fault.PutFault.TheVariants as put_fault
 use Rattle.account.specs.declared.call.OutItem.{OutItem}
@@ -16,12 +16,12 @@ without_item (Err (put_fault.NotTaken item)) = Err NotTaken
 abbrev pub IsFull : ℕ → ℕ → ℕ → Type 0
 IsFull room given seen_taken = (waiting : ℕ) × (waiting + seen_taken ≡ given) × (room ≤ waiting)
 
--- Nothing was given. A place is taken only in a lane that has other faults than that it is full.
-abbrev pub Refuses : Refused → Bool → ℕ → ℕ → List OutItem → List OutItem → Type 0
-Refuses Full only_fills room seen_taken old new = (new ≡ old) × IsFull room (length old) seen_taken
-Refuses OutOfMemory only_fills room seen_taken old new = new ≡ old
-Refuses NotTaken only_fills room seen_taken old new = (new ≡ old) × (only_fills ≡ false)
+-- Nothing was given. A place is taken already only in a lane where that may be.
+abbrev pub Refuses : Refused → Type 0 → ℕ → ℕ → List OutItem → List OutItem → Type 0
+Refuses Full MayMiss room seen_taken old new = (new ≡ old) × IsFull room (length old) seen_taken
+Refuses OutOfMemory MayMiss room seen_taken old new = new ≡ old
+Refuses NotTaken MayMiss room seen_taken old new = (new ≡ old) × MayMiss
 
-abbrev pub Gives : Result (Unit {0}) Refused → Bool → ℕ → ℕ → List OutItem → OutItem → List OutItem → Type 0
-Gives (Ok done) only_fills room seen_taken old item new = new ≡ old ++ item ∷ []
-Gives (Err refused) only_fills room seen_taken old item new = Refuses refused only_fills room seen_taken old new
+abbrev pub Gives : Result (Unit {0}) Refused → Type 0 → ℕ → ℕ → List OutItem → OutItem → List OutItem → Type 0
+Gives (Ok done) MayMiss room seen_taken old item new = new ≡ old ++ item ∷ []
+Gives (Err refused) MayMiss room seen_taken old item new = Refuses refused MayMiss room seen_taken old new

@@ -50,7 +50,7 @@ IsWhy most had Over = (0 < had) × (had ≤ most)
 IsWhy most had Left = had < most
 IsWhy most had Spent = had ≡ most
 
--- A call that is over was given its trailers, unless memory was wanting, or its lane has other faults than that it is full.
-pub record HadTurns (most had : ℕ) (reason : Why) (is_shut ran_out only_fills : Bool) : Type 0 where
+-- A call that is over was given its trailers, unless memory was wanting, or a place of its lane may be taken already.
+pub record HadTurns (most had : ℕ) (reason : Why) (is_shut ran_out : Bool) (MayMiss : Type 0) : Type 0 where
   pub why : IsWhy most had reason
-  pub over : reason ≡ Over → (is_shut ≡ true) ⊎ (ran_out ≡ true) ⊎ (only_fills ≡ false)
+  pub over : reason ≡ Over → (is_shut ≡ true) ⊎ (ran_out ≡ true) ⊎ MayMiss

@@ -78,12 +78,9 @@ module _ {L In Out Shut : Type 0} {lane : Ghosts L OutItem In Out Shut} where
   abbrev pub given_over : Response (Giver L In Out Shut lane) (GivenShut L In Out Shut lane) → Shown
   given_over response = shown (λ g. lane.put_in g.tx) (λ s. lane.put_shut s.shut) (λ s. lane.was_placed s.shut) response
 
-  -- which lane it is, and what was given over it for the calls before
+  -- which lane it is
   abbrev pub lane_of : Response (Giver L In Out Shut lane) (GivenShut L In Out Shut lane) → Option lane.Name
   lane_of response = name_by (λ g. lane.in_name g.tx) (λ s. lane.shut_name s.shut) response
-
-  abbrev pub past_of : Response (Giver L In Out Shut lane) (GivenShut L In Out Shut lane) → Option (List (List OutItem))
-  past_of response = name_by (λ g. lane.past_in g.tx) (λ s. lane.past_shut s.shut) response
 
   -- more may be given, but the lane has no room
   abbrev pub HasNoRoom : Response (Giver L In Out Shut lane) (GivenShut L In Out Shut lane) → Type 0

@@ -49,7 +49,7 @@ impl Call {
     ghost use Rattle.callrun.specs.declared.giving.Refused.TheVariants as refused_kind;
     ghost use Rattle.callrun.specs.Handlings.{HeadIsDue, IsReady, lacks_memory};
     ghost use Rattle.callrun.specs.Runs.{GivesOne, HasCome, HasRun, RunsOn, RunsOut, SameCall, IsDueReply, IsEnding, HasTrailers, ends_short};
-    ghost use Rattle.callrun.specs.Sides.{HasNoRoom, IsOpenTo, Shown, given_over, is_gone, is_left, is_open, lane_of, left, past_of, shown};
+    ghost use Rattle.callrun.specs.Sides.{HasNoRoom, IsOpenTo, Shown, given_over, is_gone, is_left, is_open, lane_of, left, shown};
 
     /// Ends the call where the deadline has come.
     pub(crate) fn look_at(&mut self, now: u64)
@@ -132,7 +132,6 @@ impl Call {
         requires { IsDueReply reply self.old }
         ensures run { RunsOn self.old (given_over response.old) self.new (given_over response.new) }
         ensures name { lane_of response.new ≡ lane_of response.old }
-        ensures past { past_of response.new ≡ past_of response.old }
         ensures there { is_gone response.new ≡ is_gone response.old }
         ensures same { SameCall self.old self.new }
         ensures turn { result ≢ turn.Nothing }
@@ -142,7 +141,7 @@ impl Call {
         ensures over { result ≡ turn.Over → is_open response.new ≡ false }
         ensures left { is_left response.new ≡ true
             → (is_left response.old ≡ true) ⊎ (lacks_memory self.new.handling.ending ≡ true)
-            ⊎ (O.only_fills ≡ false) }
+            ⊎ O.MayMiss }
         ensures full { result ≡ turn.Full → HasNoRoom response.new }
     {
         let Response::Open(giver) = response else {
@@ -169,7 +168,6 @@ impl Call {
         requires empty { IsOpenTo (λ g. O.put_in g.tx ≡ []) response.old }
         ensures run { RunsOn self.old (given_over response.old) self.new (given_over response.new) }
         ensures name { lane_of response.new ≡ lane_of response.old }
-        ensures past { past_of response.new ≡ past_of response.old }
         ensures there { is_gone response.new ≡ is_gone response.old }
         ensures same { SameCall self.old self.new }
         ensures turn { result ≢ turn.Nothing }
@@ -179,7 +177,7 @@ impl Call {
         ensures over { result ≡ turn.Over → is_open response.new ≡ false }
         ensures left { is_left response.new ≡ true
             → (is_left response.old ≡ true) ⊎ (lacks_memory self.new.handling.ending ≡ true)
-            ⊎ (O.only_fills ≡ false) }
+            ⊎ O.MayMiss }
         ensures full { result ≡ turn.Full → HasNoRoom response.new }
     {
         let Response::Open(giver) = response else {
@@ -244,7 +242,6 @@ impl Call {
         requires { IsEnding self.old.handling }
         ensures run { RunsOn self.old (given_over response.old) self.new (given_over response.new) }
         ensures name { lane_of response.new ≡ lane_of response.old }
-        ensures past { past_of response.new ≡ past_of response.old }
         ensures there { is_gone response.new ≡ is_gone response.old }
         ensures same { SameCall self.old self.new }
         ensures turn { result ≢ turn.Nothing }
@@ -254,7 +251,7 @@ impl Call {
         ensures over { result ≡ turn.Over → is_open response.new ≡ false }
         ensures left { is_left response.new ≡ true
             → (is_left response.old ≡ true) ⊎ (lacks_memory self.new.handling.ending ≡ true)
-            ⊎ (O.only_fills ≡ false) }
+            ⊎ O.MayMiss }
         ensures full { result ≡ turn.Full → HasNoRoom response.new }
     {
         let Response::Open(giver) = response else {

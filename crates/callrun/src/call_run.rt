@@ -11,7 +11,7 @@ ghost use Rattle.callrun.specs.declared.call.Turn.TheVariants as turn;
 ghost use Rattle.callrun.specs.Outcomes.{IsOutcome};
 ghost use Rattle.callrun.specs.Handlings.{IsReady, lacks_memory};
 ghost use Rattle.callrun.specs.Runs.{GivesOf, GivesOne, HasCome, HasRun, Leaves, MayTake, RunsOut, SameCall, TakesAhead, TakesOne, deadline_of};
-ghost use Rattle.callrun.specs.Sides.{HasNoRoom, given_over, is_gone, is_left, is_open, is_shut, lane_of, past_of};
+ghost use Rattle.callrun.specs.Sides.{HasNoRoom, given_over, is_gone, is_left, is_open, is_shut, lane_of};
 
 use crate::call::{Call, Turn};
 use crate::handling::Handling;
@@ -57,7 +57,6 @@ impl<I: Lane<Item = InPiece>, O: Lane<Item = OutItem>> CallRun<I, O> {
             (given_over result.response)) }
         ensures taker { result.taker ≡ taker }
         ensures name { lane_of result.response ≡ Some (O.in_name giver.tx) }
-        ensures past { past_of result.response ≡ Some (O.past_in giver.tx) }
         ensures index_is { result.index ≡ index }
         ensures hand { result.in_hand ≡ None }
         ensures head { result.call.head ≡ head }
@@ -106,9 +105,7 @@ impl<I: Lane<Item = InPiece>, O: Lane<Item = OutItem>> CallRun<I, O> {
             self.new.taker.progress.told (messages ++ more) self.new.call self.new.in_hand
             (given_over self.new.response)) }
         ensures in_name { I.out_name self.new.taker.rx ≡ I.out_name self.old.taker.rx }
-        ensures in_past { I.past_out self.new.taker.rx ≡ I.past_out self.old.taker.rx }
         ensures name { lane_of self.new.response ≡ lane_of self.old.response }
-        ensures past { past_of self.new.response ≡ past_of self.old.response }
         ensures same { (self.new.index ≡ self.old.index) × (self.new.call.head ≡ self.old.call.head)
             × (self.new.call.deadline ≡ self.old.call.deadline) }
         // The deadline counts as come only where a moment was not before it.
@@ -120,10 +117,10 @@ impl<I: Lane<Item = InPiece>, O: Lane<Item = OutItem>> CallRun<I, O> {
             → IsSomeAnd self.old.call.deadline (λ deadline. deadline ≤ now)
             → self.new.call.overdue ≡ true }
         ensures over { result ≡ turn.Over → is_open self.new.response ≡ false }
-        // A call is left without trailers only for want of memory, or by a lane that has other faults than that it is full.
+        // A call is left without trailers only for want of memory, or by a lane in which the place of an item may be taken already.
         ensures left { is_left self.new.response ≡ true
             → (is_left self.old.response ≡ true)
-            ⊎ (lacks_memory self.new.call.handling.ending ≡ true) ⊎ (O.only_fills ≡ false) }
+            ⊎ (lacks_memory self.new.call.handling.ending ≡ true) ⊎ O.MayMiss }
         ensures stays_over { is_open self.old.response ≡ false
             → (result ≡ turn.Over) × (self.new ≡ self.old) }
         // Something was done: an item was given, or one thing was taken, or memory was wanting, by which the call ends.
@@ -171,7 +168,6 @@ impl<I: Lane<Item = InPiece>, O: Lane<Item = OutItem>> CallRun<I, O> {
         ensures may { (self.new.in_hand ≡ self.old.in_hand)
             ⊎ MayTake self.old.in_hand self.new.call (given_over self.new.response) }
         ensures in_name { I.out_name self.new.taker.rx ≡ I.out_name self.old.taker.rx }
-        ensures in_past { I.past_out self.new.taker.rx ≡ I.past_out self.old.taker.rx }
         ensures same { (self.new.index ≡ self.old.index) × (self.new.call ≡ self.old.call)
             × (self.new.response ≡ self.old.response) }
     {
@@ -191,7 +187,6 @@ impl<I: Lane<Item = InPiece>, O: Lane<Item = OutItem>> CallRun<I, O> {
             self.old.in_hand self.old.taker.progress.told self.new.in_hand
             self.new.taker.progress.told }
         ensures in_name { I.out_name self.new.taker.rx ≡ I.out_name self.old.taker.rx }
-        ensures in_past { I.past_out self.new.taker.rx ≡ I.past_out self.old.taker.rx }
         ensures same { (self.new.index ≡ self.old.index) × (self.new.call ≡ self.old.call)
             × (self.new.response ≡ self.old.response) }
     {
@@ -217,7 +212,6 @@ impl<I: Lane<Item = InPiece>, O: Lane<Item = OutItem>> CallRun<I, O> {
         // What was given stays.
         ensures leaves { Leaves (given_over self.old.response) (given_over self.new.response) }
         ensures name { lane_of self.new.response ≡ lane_of self.old.response }
-        ensures past { past_of self.new.response ≡ past_of self.old.response }
         ensures over { is_open self.new.response ≡ false }
         ensures shut { is_shut self.new.response ≡ is_shut self.old.response }
         ensures same { (self.new.index ≡ self.old.index) × (self.new.taker ≡ self.old.taker)
@@ -281,8 +275,6 @@ impl<I: Lane<Item = InPiece>, O: Lane<Item = OutItem>> CallRun<I, O> {
         ensures shut { of_end (λ g. false) (λ s. true) result.1 ≡ is_shut self.response }
         ensures name { Some (of_end (λ g. O.in_name g.tx) (λ s. O.shut_name s.shut) result.1)
             ≡ lane_of self.response }
-        ensures past { Some (of_end (λ g. O.past_in g.tx) (λ s. O.past_shut s.shut) result.1)
-            ≡ past_of self.response }
     {
         let CallRun {
             taker,
@@ -313,7 +305,6 @@ impl<I: Lane<Item = InPiece>, O: Lane<Item = OutItem>> CallRun<I, O> {
             × HasRun (answers method.now) (stands method.now) self.new.taker.progress.told
             (messages ++ more) self.new.call (given_over self.new.response) }
         ensures in_name { I.out_name self.new.taker.rx ≡ I.out_name self.old.taker.rx }
-        ensures in_past { I.past_out self.new.taker.rx ≡ I.past_out self.old.taker.rx }
         ensures same { (self.new.index ≡ self.old.index) × (self.new.in_hand ≡ self.old.in_hand)
             × (self.new.response ≡ self.old.response) × SameCall self.old.call self.new.call }
         ensures turn { (result ≡ turn.Went) ⊎ (result ≡ turn.Nothing) }

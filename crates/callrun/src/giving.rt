@@ -50,8 +50,7 @@ pub(crate) fn give_head<O: Lane<Item = OutItem>>(
 ) -> Result<(), Refused>
     requires { O.put_in giver.old.tx ≡ [] }
     ensures name { O.in_name giver.new.tx ≡ O.in_name giver.old.tx }
-    ensures past { O.past_in giver.new.tx ≡ O.past_in giver.old.tx }
-    ensures gives { Gives result O.only_fills (O.room_of (O.in_name giver.old.tx))
+    ensures gives { Gives result O.MayMiss (O.room_of (O.in_name giver.old.tx))
         (O.seen_taken giver.new.tx) (O.put_in giver.old.tx) (head_item head.now)
         (O.put_in giver.new.tx) }
 {
@@ -75,8 +74,7 @@ pub(crate) fn give_reply<O: Lane<Item = OutItem>>(
     requires { has_head (O.put_in giver.old.tx) ≡ true }
     ensures waiting { waiting.new ≡ waiting.old }
     ensures name { O.in_name giver.new.tx ≡ O.in_name giver.old.tx }
-    ensures past { O.past_in giver.new.tx ≡ O.past_in giver.old.tx }
-    ensures gives { Gives result O.only_fills (O.room_of (O.in_name giver.old.tx))
+    ensures gives { Gives result O.MayMiss (O.room_of (O.in_name giver.old.tx))
         (O.seen_taken giver.new.tx) (O.put_in giver.old.tx) (reply_item reply)
         (O.put_in giver.new.tx) }
 {

@@ -3,7 +3,7 @@
 ghost use Rattle.std.specs.Prelude.{◌≡◌, true, false};
 ghost use Rattle.account.specs.declared.call.OutItem.TheVariants as out_item;
 ghost use Rattle.callrun.specs.Runs.{EndsWith};
-ghost use Rattle.callrun.specs.Sides.{given_over, is_gone, is_left, is_open, lane_of, past_of};
+ghost use Rattle.callrun.specs.Sides.{given_over, is_gone, is_left, is_open, lane_of};
 
 use crate::response::Response;
 use account::OutItem;
@@ -19,7 +19,6 @@ pub(crate) fn shut<O: Lane<Item = OutItem>>(
     code: u32,
 )
     ensures name { lane_of response.new ≡ lane_of response.old }
-    ensures past { past_of response.new ≡ past_of response.old }
     ensures there { is_gone response.new ≡ is_gone response.old }
     ensures ends { is_open response.old ≡ true → EndsWith
         (given_over response.old) (out_item.Trailers fields) code

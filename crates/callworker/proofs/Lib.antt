@@ -1,2 +1,2 @@
-pub mod SlotRows
 pub mod Turns
+pub mod Handing

@@ -1,11 +1,8 @@
 -- The turns of a call, and what stands at its end.
 use Rattle.std.proofs.Common.{◌≡◌, ◌∙◌, ◌⊎◌, inl, inr, ap, refl, subst, sym, ℕ, ◌≤◌, Bool, true, false, List, [], ◌∷◌, ◌++◌, Option, None, Some, append-nil, append_assoc}
-use Rattle.std.specs.Prelude.{IfSome, IsSome, IsSomeAnd, MatchBool, slice_get}
-use Rattle.lane.specs.RingLane.{got, out_name, past_out, put_in, put_shut}
-use Rattle.lane.specs.Lawful.{count_of}
+use Rattle.std.specs.Prelude.{IfSome, IsSome, IsSomeAnd, option_map, slice_get}
+use Rattle.lane.specs.RingLane.{got, out_name, put_in, put_shut}
 use Rattle.account.specs.declared.call.OutItem.{OutItem}
-use Rattle.callbox.specs.OutSides.{has_trailers}
-use Rattle.callbox.proofs.OutLemmas.{has_trailers-push}
 use Rattle.account.specs.declared.call.OutItem.TheVariants.{Left}
 use Rattle.account.specs.declared.call.Told.{Told}
 use Rattle.callbox.specs.InSides.{Took}
@@ -22,12 +19,11 @@ use Rattle.callrun.specs.Runs.{GivesOf, HasCome, HasRun, SameCall, deadline_of}
 use Rattle.callrun.specs.Sides.{is_open}
 use Rattle.callrun.proofs.Ahead.{with_none}
 use Rattle.callrun.proofs.Listing.{closed_run}
-use Rattle.callslot.specs.declared.report.CallReport.{CallReport}
-use Rattle.callslot.specs.declared.slot.Job.{Job}
-use Rattle.callslot.specs.Accounts.{IsGivenAs, answers_by, unanswered}
-use Rattle.callslot.specs.Workers.{Answers, SlotGiven, SlotGiver}
-use Rattle.callworker.proofs.SlotRows.{no-trailers}
-use Rattle.callworker.specs.Runs.{EndsAs, GoesOn, IsOneCall, IsRowOf, LeadsOn, SlotRun, given_past, giver_name, shown_by, shows}
+use Rattle.callparts.specs.declared.work.Request.{Request}
+use Rattle.callparts.specs.declared.work.Work.{Work}
+use Rattle.callparts.specs.Lanes.{OutGiven, OutGiver}
+use Rattle.callparts.specs.Workers.{Answers, AnswersAt, IsAnswered, IsGivenAs, IsWithin, answers_by}
+use Rattle.callworker.specs.Runs.{EndsAs, GoesOn, IsOneCall, LeadsOn, LaneRun, giver_name, shown_by, shows}
 
 owes_less : (items : List InPiece) (p q : Progress) (messages : List (List ℕ)) → q ≡ record p { owed = 0 } → Took items p messages → Took items q messages
 owes_less items p q messages less took = subst (λ (r : Progress). Took items r messages) (sym less) (record {
@@ -46,33 +42,29 @@ some_of : {A : Type 0} (P : A → Type 0) (found : Option A) → IsSomeAnd found
 some_of P None has = absurd has
 some_of P (Some a) has = refl
 
-pub one_call_none : (a : SlotRun) → IsOneCall a a
-one_call_none a = (refl, refl, refl, refl, refl, refl, refl, λ late. inl late)
+pub one_call_none : (a : LaneRun) → IsOneCall a a
+one_call_none a = (refl, refl, refl, refl, refl, λ late. inl late)
 
-pub one_call_then : (a b c : SlotRun) → IsOneCall a b → IsOneCall b c → IsOneCall a c
+pub one_call_then : (a b c : LaneRun) → IsOneCall a b → IsOneCall b c → IsOneCall a c
 one_call_then a b c first second = (
   second.0 ∙ first.0,
   second.1 ∙ first.1,
   second.2 ∙ first.2,
   second.3 ∙ first.3,
   second.4 ∙ first.4,
-  second.5 ∙ first.5,
-  second.6 ∙ first.6,
-  λ late. elim (second.7 late) [
-    | inl before ↦ first.7 before
-    | inr timed ↦ inr (subst (λ (d : Option ℕ). IsSome d) first.6 timed)
+  λ late. elim (second.5 late) [
+    | inl before ↦ first.5 before
+    | inr timed ↦ inr (subst (λ (d : Option ℕ). IsSome d) first.4 timed)
   ],
 )
 
 -- a turn
-pub one_call_turned : (a b : SlotRun) (now : ℕ) → out_name b.taker.rx ≡ out_name a.taker.rx → past_out b.taker.rx ≡ past_out a.taker.rx → giver_name b.response ≡ giver_name a.response → given_past b.response ≡ given_past a.response
+pub one_call_turned : (a b : LaneRun) (now : ℕ) → out_name b.taker.rx ≡ out_name a.taker.rx → giver_name b.response ≡ giver_name a.response
     → (b.index ≡ a.index) × (b.call.head ≡ a.call.head) × (b.call.deadline ≡ a.call.deadline)
     → (b.call.overdue ≡ true → (a.call.overdue ≡ true) ⊎ IsSomeAnd a.call.deadline (λ deadline. deadline ≤ now)) → IsOneCall a b
-one_call_turned a b now in_name in_past name past same overdue = (
+one_call_turned a b now in_name name same overdue = (
   in_name,
-  in_past,
   name,
-  past,
   same.0,
   same.1,
   same.2,
@@ -83,12 +75,10 @@ one_call_turned a b now in_name in_past name past same overdue = (
 )
 
 -- what came was returned
-pub one_call_credited : (a b : SlotRun) → b.taker.rx ≡ a.taker.rx → (b.index ≡ a.index) × (b.call ≡ a.call) × (b.in_hand ≡ a.in_hand) × (b.response ≡ a.response) → IsOneCall a b
+pub one_call_credited : (a b : LaneRun) → b.taker.rx ≡ a.taker.rx → (b.index ≡ a.index) × (b.call ≡ a.call) × (b.in_hand ≡ a.in_hand) × (b.response ≡ a.response) → IsOneCall a b
 one_call_credited a b rx same = (
   ap out_name rx,
-  ap past_out rx,
   ap giver_name same.3,
-  ap given_past same.3,
   same.0,
   ap (λ (call : Call). call.head) same.1,
   ap (λ (call : Call). call.deadline) same.1,
@@ -96,12 +86,10 @@ one_call_credited a b rx same = (
 )
 
 -- it was left
-pub one_call_left : (a b : SlotRun) → giver_name b.response ≡ giver_name a.response → given_past b.response ≡ given_past a.response → (b.index ≡ a.index) × (b.taker ≡ a.taker) × SameCall a.call b.call → IsOneCall a b
-one_call_left a b name past same = (
+pub one_call_left : (a b : LaneRun) → giver_name b.response ≡ giver_name a.response → (b.index ≡ a.index) × (b.taker ≡ a.taker) × SameCall a.call b.call → IsOneCall a b
+one_call_left a b name same = (
   ap (λ t. out_name t.rx) same.1,
-  ap (λ t. past_out t.rx) same.1,
   name,
-  past,
   same.0,
   same.2.0,
   same.2.1,
@@ -111,7 +99,7 @@ one_call_left a b name past same = (
 -- ---- what leads to it
 
 module _ {A : Type 0} (answers : A → List (List ℕ) → Bool → Step → Type 0) (stands : A → MethodState → List (List ℕ) → Step → Type 0) (methods : List A) where
-  stays : (found : Option A) (a : SlotRun) → IfSome found (λ m. LeadsOn (answers m) (stands m) a a)
+  stays : (found : Option A) (a : LaneRun) → IfSome found (λ m. LeadsOn (answers m) (stands m) a a)
   stays None a = tt
   stays (Some m) a = λ messages took come. (
     [],
@@ -119,10 +107,10 @@ module _ {A : Type 0} (answers : A → List (List ℕ) → Bool → Step → Typ
     subst (λ (ms : List (List ℕ)). HasCome (answers m) (stands m) a.taker.progress.told ms a.call a.in_hand (shows a)) (sym (append-nil messages)) come,
   )
 
-  pub goes_none : (a : SlotRun) → GoesOn answers stands methods a a
+  pub goes_none : (a : LaneRun) → GoesOn answers stands methods a a
   goes_none a = stays (slice_get methods a.index) a
 
-  follows : (found after : Option A) (a b c : SlotRun) → after ≡ found → IfSome found (λ m. LeadsOn (answers m) (stands m) a b) → IfSome after (λ m. LeadsOn (answers m) (stands m) b c)
+  follows : (found after : Option A) (a b c : LaneRun) → after ≡ found → IfSome found (λ m. LeadsOn (answers m) (stands m) a b) → IfSome after (λ m. LeadsOn (answers m) (stands m) b c)
       → IfSome found (λ m. LeadsOn (answers m) (stands m) a c)
   follows None after a b c same first second = tt
   follows (Some m) after a b c same first second = λ messages took come.
@@ -134,10 +122,10 @@ module _ {A : Type 0} (answers : A → List (List ℕ) → Bool → Step → Typ
         subst (λ (ms : List (List ℕ)). HasCome (answers m) (stands m) c.taker.progress.told ms c.call c.in_hand (shows c)) (append_assoc messages one.0 two.0) two.2,
       )
 
-  pub goes_then : (a b c : SlotRun) → b.index ≡ a.index → GoesOn answers stands methods a b → GoesOn answers stands methods b c → GoesOn answers stands methods a c
+  pub goes_then : (a b c : LaneRun) → b.index ≡ a.index → GoesOn answers stands methods a b → GoesOn answers stands methods b c → GoesOn answers stands methods a c
   goes_then a b c same first second = follows (slice_get methods a.index) (slice_get methods b.index) a b c (ap (λ (i : ℕ). slice_get methods i) same) first second
 
-  credited : (found : Option A) (a b : SlotRun) → b.taker.rx ≡ a.taker.rx → b.taker.progress ≡ record a.taker.progress { owed = 0 }
+  credited : (found : Option A) (a b : LaneRun) → b.taker.rx ≡ a.taker.rx → b.taker.progress ≡ record a.taker.progress { owed = 0 }
       → (b.index ≡ a.index) × (b.call ≡ a.call) × (b.in_hand ≡ a.in_hand) × (b.response ≡ a.response) → IfSome found (λ m. LeadsOn (answers m) (stands m) a b)
   credited None a b rx less same = tt
   credited (Some m) a b rx less same = λ messages took come. (
@@ -148,15 +136,15 @@ module _ {A : Type 0} (answers : A → List (List ℕ) → Bool → Step → Typ
         (subst (λ (t : Option Told). HasCome (answers m) (stands m) t messages b.call b.in_hand (shows b)) (sym (ap (λ (p : Progress). p.told) less))
         (subst (λ (call : Call). HasCome (answers m) (stands m) a.taker.progress.told messages call b.in_hand (shows b)) (sym same.1)
         (subst (λ (hand : Option Taken). HasCome (answers m) (stands m) a.taker.progress.told messages a.call hand (shows b)) (sym same.2)
-        (subst (λ (r : Response SlotGiver SlotGiven). HasCome (answers m) (stands m) a.taker.progress.told messages a.call a.in_hand (shown_by r)) (sym same.3) come)))),
+        (subst (λ (r : Response OutGiver OutGiven). HasCome (answers m) (stands m) a.taker.progress.told messages a.call a.in_hand (shown_by r)) (sym same.3) come)))),
   )
 
   -- what came was returned
-  pub goes_credited : (a b : SlotRun) → b.taker.rx ≡ a.taker.rx → b.taker.progress ≡ record a.taker.progress { owed = 0 }
+  pub goes_credited : (a b : LaneRun) → b.taker.rx ≡ a.taker.rx → b.taker.progress ≡ record a.taker.progress { owed = 0 }
       → (b.index ≡ a.index) × (b.call ≡ a.call) × (b.in_hand ≡ a.in_hand) × (b.response ≡ a.response) → GoesOn answers stands methods a b
   goes_credited a b rx less same = credited (slice_get methods a.index) a b rx less same
 
-  leaves : (found : Option A) (a b : SlotRun) → b.taker ≡ a.taker
+  leaves : (found : Option A) (a b : LaneRun) → b.taker ≡ a.taker
       → IfSome found (λ m. (messages : List (List ℕ)) → HasCome (answers m) (stands m) a.taker.progress.told messages a.call a.in_hand (shows a) → HasCome (answers m) (stands m) b.taker.progress.told messages b.call b.in_hand (shows b))
       → IfSome found (λ m. LeadsOn (answers m) (stands m) a b)
   leaves None a b same left = tt
@@ -167,14 +155,14 @@ module _ {A : Type 0} (answers : A → List (List ℕ) → Bool → Step → Typ
   )
 
   -- it was left
-  pub goes_left : (a b : SlotRun) → b.taker ≡ a.taker
+  pub goes_left : (a b : LaneRun) → b.taker ≡ a.taker
       → IfSome (slice_get methods a.index) (λ m. (messages : List (List ℕ)) → HasCome (answers m) (stands m) a.taker.progress.told messages a.call a.in_hand (shows a) → HasCome (answers m) (stands m) b.taker.progress.told messages b.call b.in_hand (shows b))
       → GoesOn answers stands methods a b
   goes_left a b same left = leaves (slice_get methods a.index) a b same left
 
   -- ---- all of it
 
-  all_of : (found after : Option A) (a b : SlotRun) (said : Option Told) (put : List OutItem) → after ≡ found → Took (got a.taker.rx) a.taker.progress [] → a.taker.progress.told ≡ None
+  all_of : (found after : Option A) (a b : LaneRun) (said : Option Told) (put : List OutItem) → after ≡ found → Took (got a.taker.rx) a.taker.progress [] → a.taker.progress.told ≡ None
       → said ≡ None → put ≡ [] → a.in_hand ≡ None → is_open b.response ≡ false
       → IfSome found (λ m. said ≡ None → put ≡ [] → HasRun (answers m) (stands m) None [] a.call (shows a))
       → IfSome after (λ m. LeadsOn (answers m) (stands m) a b)
@@ -188,7 +176,7 @@ module _ {A : Type 0} (answers : A → List (List ℕ) → Bool → Step → Typ
       ([] ++ all.0, all.1, closed_run (λ g. put_in g.tx) (λ s. put_shut s.shut) (λ s. true) b.response b.taker.progress.told ([] ++ all.0) b.call b.in_hand closed all.2)
 
   -- from a call of which nothing was taken yet to one that gives nothing more: the messages that were taken, and what stands of them
-  pub run_all : (index : ℕ) (a b : SlotRun) (said : Option Told) (put : List OutItem) → a.index ≡ index → Took (got a.taker.rx) a.taker.progress [] → a.taker.progress.told ≡ None
+  pub run_all : (index : ℕ) (a b : LaneRun) (said : Option Told) (put : List OutItem) → a.index ≡ index → Took (got a.taker.rx) a.taker.progress [] → a.taker.progress.told ≡ None
       → said ≡ None → put ≡ [] → a.in_hand ≡ None → is_open b.response ≡ false
       → IfSome (slice_get methods index) (λ m. said ≡ None → put ≡ [] → HasRun (answers m) (stands m) None [] a.call (shows a))
       → GoesOn answers stands methods a b
@@ -207,86 +195,90 @@ true_of true is other = absurd (cc)
 true_of false is other = absurd (cc)
 
 -- a call that ends by its deadline has a timeout
-pub overdue_timed : (a b : SlotRun) (head : CallHead) (opened : ℕ) → a.call.overdue ≡ false → a.call.deadline ≡ deadline_of head.timeout opened → IsOneCall a b → b.call.overdue ≡ true → IsSome head.timeout
-overdue_timed a b head opened early due one late = elim (one.7 late) [
+pub overdue_timed : (a b : LaneRun) (head : CallHead) (opened : ℕ) → a.call.overdue ≡ false → a.call.deadline ≡ deadline_of head.timeout opened → IsOneCall a b → b.call.overdue ≡ true → IsSome head.timeout
+overdue_timed a b head opened early due one late = elim (one.5 late) [
   | inl before ↦ true_of a.call.overdue early before
   | inr timed ↦ timed_head head.timeout opened (subst (λ (d : Option ℕ). IsSome d) due timed)
 ]
 
--- ---- its row
+-- ---- what was answered
 
--- what stands of a call whose method is there, as its row says
-pub row_answers : {A : Type 0} (answers : A → List (List ℕ) → Bool → Step → Type 0) (stands : A → MethodState → List (List ℕ) → Step → Type 0)
-    (methods : List A) (found : Option A) (job : Job) (run : SlotRun) (items : List InPiece) (given : List OutItem) (row : CallReport)
-    → found ≡ slice_get methods job.index → (found ≡ None → ⊥) → run.call.head ≡ job.head → items ≡ got run.taker.rx → (run.call.overdue ≡ true → IsSome job.head.timeout)
+-- what stands of a call whose method is there
+pub call_answers : {A : Type 0} (answers : A → List (List ℕ) → Bool → Step → Type 0) (stands : A → MethodState → List (List ℕ) → Step → Type 0)
+    (methods : List A) (found : Option A) (request : Request) (run : LaneRun) (items : List InPiece) (p : Progress) (given : List OutItem) (status : Option ℕ)
+    → found ≡ slice_get methods request.index → (found ≡ None → ⊥) → run.call.head ≡ request.head → items ≡ got run.taker.rx → p ≡ record run.taker.progress { owed = 0 }
+    → (run.call.overdue ≡ true → IsSome request.head.timeout)
     → IfSome found (λ m. (messages : List (List ℕ)) × Took (got run.taker.rx) run.taker.progress messages × HasRun (answers m) (stands m) run.taker.progress.told messages run.call (shows run))
-    → EndsAs run given row.given row.trailers_given row.status → IsRowOf job.id job.index run.taker.progress row
-    → Answers (answers_by answers methods) items given job row
-row_answers answers stands methods None job run items given row is some same_head same_got timed has ends says = absurd (some refl)
-row_answers {A} answers stands methods (Some m) job run items given row is some same_head same_got timed has ends says = record {
-  messages = has.0;
-  said = run.taker.progress.told;
-  took = record { front = got run.taker.rx; progress = run.taker.progress; begins = ([], append-nil (got run.taker.rx) ∙ sym same_got); took = has.1; told = refl };
-  id = says.0;
-  method = says.1;
-  answered = record {
-    overdue = run.call.overdue;
-    timed = timed;
-    items = ends.0;
-    outcome = λ answer answered. subst (λ (head : CallHead). IsOutcome head run.call.overdue run.taker.progress.told answer ends.0 row.status) same_head (ends.4 answer (has.2.each answer
-        (subst (λ (o : Option A). IsSomeAnd o (λ n. answers n has.0 (is_end run.taker.progress.told) answer)) (ap (λ (i : ℕ). slice_get methods i) says.1 ∙ sym is) answered)));
-    ends = ends.1;
-    taken = says.2 ∙ has.1.count;
-    told = says.3;
-    count = ends.2;
-    trailers = ends.3;
-  };
-  unsent = says.4;
-}
+    → EndsAs run given status
+    → Answers (answers_by answers methods) request items p given status
+call_answers answers stands methods None request run items p given status is some same_head same_got less timed has ends = absurd (some refl)
+call_answers {A} answers stands methods (Some m) request run items p given status is some same_head same_got less timed has ends =
+    let told : p.told ≡ run.taker.progress.told = ap (λ (q : Progress). q.told) less in
+    record {
+      messages = has.0;
+      took = subst (λ (xs : List InPiece). Took xs p has.0) (sym same_got) (owes_less (got run.taker.rx) run.taker.progress p has.0 less has.1);
+      answered = subst (λ (said : Option Told). IsAnswered (answers_by answers methods request.index) request.head has.0 said given status) (sym told) (record {
+        overdue = run.call.overdue;
+        timed = timed;
+        items = ends.0;
+        outcome = λ answer answered. subst (λ (head : CallHead). IsOutcome head run.call.overdue run.taker.progress.told answer ends.0 status) same_head (ends.2 answer (has.2.each answer
+            (subst (λ (o : Option A). IsSomeAnd o (λ n. answers n has.0 (is_end run.taker.progress.told) answer)) (sym is) answered)));
+        ends = ends.1;
+      });
+    }
 
--- the row of a call whose method isn't there
-pub row_without : {A : Type 0} (answers : A → List (List ℕ) → Bool → Step → Type 0) (methods : List A) (job : Job) (items : List InPiece) (p : Progress) (given : List OutItem) (row : CallReport)
-    → slice_get methods job.index ≡ None → Took items p [] → p.told ≡ None → row ≡ unanswered job.id job.index → IsGivenAs [] given
-    → Answers (answers_by answers methods) items given job row
-row_without {A} answers methods job items p given row none took untold is nothing = subst (λ (r : CallReport). Answers (answers_by answers methods) items given job r) (sym is) (record {
+-- of a call whose method isn't there
+pub none_answers : {A : Type 0} (answers : A → List (List ℕ) → Bool → Step → Type 0) (methods : List A) (request : Request) (items : List InPiece) (p : Progress) (given : List OutItem)
+    → slice_get methods request.index ≡ None → Took items p [] → IsGivenAs [] given
+    → Answers (answers_by answers methods) request items p given None
+none_answers {A} answers methods request items p given none took nothing = record {
   messages = [];
-  said = None;
-  took = record { front = items; progress = p; begins = ([], append-nil items); took = took; told = untold };
-  id = refl;
-  method = refl;
+  took = took;
   answered = record {
     overdue = false;
     timed = λ late. absurd (cc);
     items = [];
-    outcome = λ answer answered. absurd (subst (λ (o : Option A). IsSomeAnd o (λ n. answers n [] false answer)) none answered);
+    outcome = λ answer answered. absurd (subst (λ (o : Option A). IsSomeAnd o (λ n. answers n [] (is_end p.told) answer)) none answered);
     ends = nothing;
-    taken = refl;
-    told = refl;
-    count = refl;
-    trailers = no-trailers given nothing;
   };
-  unsent = (refl, refl);
-})
+}
+
+-- what is so of more answers is so of these
+pub of_fewer : (wide narrow : ℕ → List (List ℕ) → Bool → Step → Type 0) (request : Request) (items : List InPiece) (p : Progress) (given : List OutItem) (status : Option ℕ)
+    → IsWithin narrow wide → Answers wide request items p given status → Answers narrow request items p given status
+of_fewer wide narrow request items p given status within has = record {
+  messages = has.messages;
+  took = has.took;
+  answered = record {
+    overdue = has.answered.overdue;
+    timed = has.answered.timed;
+    items = has.answered.items;
+    outcome = λ answer is. has.answered.outcome answer (within request.index has.messages (is_end p.told) answer is);
+    ends = has.answered.ends;
+  };
+}
 
 -- what stands of a call stands of the same, of which what came was returned
-pub same_ends : (a b : SlotRun) (items given : List OutItem) (number : ℕ) (has : Bool) (status : Option ℕ) → b.taker.progress ≡ record a.taker.progress { owed = 0 } → (b.index ≡ a.index) × (b.call ≡ a.call) × (b.in_hand ≡ a.in_hand) × (b.response ≡ a.response)
-    → IsGivenAs items given → number ≡ count_of items → has ≡ has_trailers given
+pub same_ends : (a b : LaneRun) (items given : List OutItem) (status : Option ℕ) → b.taker.progress ≡ record a.taker.progress { owed = 0 } → (b.index ≡ a.index) × (b.call ≡ a.call) × (b.in_hand ≡ a.in_hand) × (b.response ≡ a.response)
+    → IsGivenAs items given
     → ((answer : Step) → GivesOf b.taker.progress.told answer b.call (shows b) → IsOutcome b.call.head b.call.overdue b.taker.progress.told answer items status)
-    → EndsAs a given number has status
-same_ends a b items given number has status less same ends count trailers outcome = (
+    → EndsAs a given status
+same_ends a b items given status less same ends outcome = (
   items,
   ends,
-  count,
-  trailers,
   subst (λ (t : Option Told). (answer : Step) → GivesOf t answer a.call (shows a) → IsOutcome a.call.head a.call.overdue t answer items status) (ap (λ (p : Progress). p.told) less)
       (subst (λ (c : Call). (answer : Step) → GivesOf b.taker.progress.told answer c (shows a) → IsOutcome c.head c.overdue b.taker.progress.told answer items status) same.1
-      (subst (λ (r : Response SlotGiver SlotGiven). (answer : Step) → GivesOf b.taker.progress.told answer b.call (shown_by r) → IsOutcome b.call.head b.call.overdue b.taker.progress.told answer items status) same.3 outcome)),
+      (subst (λ (r : Response OutGiver OutGiven). (answer : Step) → GivesOf b.taker.progress.told answer b.call (shown_by r) → IsOutcome b.call.head b.call.overdue b.taker.progress.told answer items status) same.3 outcome)),
 )
-
--- trailers aren't among what was given of a call that is left
-pub left_trailers : (items given : List OutItem) → given ≡ items ++ Left ∷ [] → has_trailers items ≡ false → false ≡ has_trailers given
-left_trailers items given is none = sym (ap (λ (all : List OutItem). has_trailers all) is ∙ has_trailers-push items Left none)
 
 -- the item of a call that is left, where it was placed
 pub left_as : (items given : List OutItem) → given ≡ items ++ Left ∷ [] → IsGivenAs items given
 left_as items given is = inr is
+
+-- ---- the call of a number
+
+-- what stands of a call stands of the number at which it is
+pub answers_at : (known : ℕ → List (List ℕ) → Bool → Step → Type 0) (log : List Work) (number : ℕ) (work : Work) (items : List InPiece) (p : Progress) (given : List OutItem) (status : Option ℕ)
+    → slice_get log number ≡ Some work → Answers known work.request items p given status → AnswersAt known log number items p given status
+answers_at known log number work items p given status stands has =
+    subst (λ (found : Option Work). IsSomeAnd (option_map (λ (w : Work). w.request) found) (λ request. Answers known request items p given status)) (sym stands) has

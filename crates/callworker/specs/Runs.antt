@@ -1,19 +1,16 @@
--- How a call goes on from turn to turn, over the lanes of its slot.
+-- How a call goes on from turn to turn, over its two lanes.
 use Rattle.std.specs.Prelude.{◌≡◌, ◌⊎◌, ℕ, Bool, true, List, ◌++◌, Option, IfSome, IsSome, slice_get}
-use Rattle.lane.specs.Lawful.{count_of}
 use Rattle.lane.specs.contracts.ring_lane.RingLaneLane.TheImpl.{ghosts, no_dict}
 use Rattle.lane.specs.declared.ring_lane.RingLane.{RingLane}
 use Rattle.lane.specs.declared.ring_lane.RingLaneIn.{RingLaneIn}
 use Rattle.lane.specs.declared.ring_lane.RingLaneOut.{RingLaneOut}
 use Rattle.lane.specs.declared.ring_lane.RingLaneShut.{RingLaneShut}
-use Rattle.lane.specs.RingLane.{LaneName, got, in_name, out_name, past_in, past_out, past_shut, put_in, put_shut, shut_name}
+use Rattle.lane.specs.RingLane.{LaneName, got, in_name, out_name, put_in, put_shut, shut_name}
 use Rattle.account.specs.contracts.call.OutItem as out_item
 use Rattle.account.specs.declared.call.OutItem.{OutItem}
 use Rattle.callbox.specs.contracts.piece.InPiece as in_piece
 use Rattle.callbox.specs.declared.piece.InPiece.{InPiece}
-use Rattle.callbox.specs.declared.taker.Progress.{Progress}
 use Rattle.callbox.specs.InSides.{Took}
-use Rattle.callbox.specs.OutSides.{has_trailers}
 use Rattle.handlers.specs.declared.state.MethodState.{MethodState}
 use Rattle.handlers.specs.declared.step.Step.{Step}
 use Rattle.callrun.specs.declared.call_run.CallRun.{CallRun}
@@ -21,35 +18,31 @@ use Rattle.callrun.specs.declared.response.Response.{Response}
 use Rattle.callrun.specs.Outcomes.{IsOutcome}
 use Rattle.callrun.specs.Runs.{GivesOf, HasCome}
 use Rattle.callrun.specs.Sides.{Shown, name_by, shown}
-use Rattle.callslot.specs.declared.report.CallReport.{CallReport}
-use Rattle.callslot.specs.Accounts.{HasSentNone, IsGivenAs}
-use Rattle.callslot.specs.Workers.{SlotGiven, SlotGiver}
+use Rattle.callparts.specs.Lanes.{OutGiven, OutGiver}
+use Rattle.callparts.specs.Workers.{IsGivenAs}
 
--- a call over the two lanes of a slot
-abbrev pub SlotRun : Type 0
-SlotRun = CallRun (RingLane InPiece) (RingLane OutItem)
+-- a call over its two lanes
+abbrev pub LaneRun : Type 0
+LaneRun = CallRun (RingLane InPiece) (RingLane OutItem)
     (RingLaneIn InPiece) (RingLaneOut InPiece) (RingLaneShut InPiece)
     (RingLaneIn OutItem) (RingLaneOut OutItem) (RingLaneShut OutItem)
     (ghosts in_piece.the_row no_dict) (ghosts out_item.the_row no_dict)
 
 -- ---- what a call shows
 
--- what its giving end shows: what was given of the call, by which end, and what was given by that for the calls before
-abbrev pub shown_by : Response SlotGiver SlotGiven → Shown
+-- what its giving end shows: what was given of the call
+abbrev pub shown_by : Response OutGiver OutGiven → Shown
 shown_by response = shown (λ g. put_in g.tx) (λ s. put_shut s.shut) (λ s. true) response
 
-abbrev pub shows : SlotRun → Shown
+abbrev pub shows : LaneRun → Shown
 shows run = shown_by run.response
 
-abbrev pub giver_name : Response SlotGiver SlotGiven → Option LaneName
+abbrev pub giver_name : Response OutGiver OutGiven → Option LaneName
 giver_name response = name_by (λ g. in_name g.tx) (λ s. shut_name s.shut) response
-
-abbrev pub given_past : Response SlotGiver SlotGiven → Option (List (List OutItem))
-given_past response = name_by (λ g. past_in g.tx) (λ s. past_shut s.shut) response
 
 -- Whatever messages led to the call before, they and those that were taken since lead to it after.
 abbrev pub LeadsOn : (List (List ℕ) → Bool → Step → Type 0) → (MethodState → List (List ℕ) → Step → Type 0)
-    → SlotRun → SlotRun → Type 0
+    → LaneRun → LaneRun → Type 0
 LeadsOn answers stands before after = (messages : List (List ℕ))
     → Took (got before.taker.rx) before.taker.progress messages
     → HasCome answers stands before.taker.progress.told messages before.call before.in_hand (shows before)
@@ -58,25 +51,19 @@ LeadsOn answers stands before after = (messages : List (List ℕ))
 
 -- the same, by the method that the call names
 abbrev pub GoesOn : {A : Type 0} → (A → List (List ℕ) → Bool → Step → Type 0)
-    → (A → MethodState → List (List ℕ) → Step → Type 0) → List A → SlotRun → SlotRun → Type 0
+    → (A → MethodState → List (List ℕ) → Step → Type 0) → List A → LaneRun → LaneRun → Type 0
 GoesOn answers stands methods before after =
     IfSome (slice_get methods before.index) (λ m. LeadsOn (answers m) (stands m) before after)
 
 -- It is one call: over the same ends, of one method, head and deadline. The deadline counts as come only where it has one.
-abbrev pub IsOneCall : SlotRun → SlotRun → Type 0
+abbrev pub IsOneCall : LaneRun → LaneRun → Type 0
 IsOneCall before after = (out_name after.taker.rx ≡ out_name before.taker.rx)
-    × (past_out after.taker.rx ≡ past_out before.taker.rx)
-    × (giver_name after.response ≡ giver_name before.response) × (given_past after.response ≡ given_past before.response)
+    × (giver_name after.response ≡ giver_name before.response)
     × (after.index ≡ before.index) × (after.call.head ≡ before.call.head) × (after.call.deadline ≡ before.call.deadline)
     × (after.call.overdue ≡ true → (before.call.overdue ≡ true) ⊎ IsSome before.call.deadline)
 
--- What was given is an outcome of whatever answer led to the call, of so many items, maybe with trailers and a status, and behind it at most that
--- the call was left.
-abbrev pub EndsAs : SlotRun → List OutItem → ℕ → Bool → Option ℕ → Type 0
-EndsAs run given count trailers status = (items : List OutItem) × IsGivenAs items given × (count ≡ count_of items) × (trailers ≡ has_trailers given)
+-- What was given is an outcome of whatever answer led to the call, maybe with a status, and behind it at most that the call was left.
+abbrev pub EndsAs : LaneRun → List OutItem → Option ℕ → Type 0
+EndsAs run given status = (items : List OutItem) × IsGivenAs items given
     × ((answer : Step) → GivesOf run.taker.progress.told answer run.call (shows run)
     → IsOutcome run.call.head run.call.overdue run.taker.progress.told answer items status)
-
--- a row of the call of this stream and method, by what was taken of it, of which nothing is known to be sent
-abbrev pub IsRowOf : ℕ → ℕ → Progress → CallReport → Type 0
-IsRowOf id index progress row = (row.id ≡ id) × (row.method ≡ index) × (row.messages ≡ progress.taken) × (row.told ≡ progress.told) × HasSentNone row

@@ -1,5 +1,6 @@
 //! Who says when a call goes on, and closes a connection behind the last byte that is written.
 
+use callparts::CallAccount;
 use h2frame::StreamId;
 
 /// Says when a call goes on, and is told when one was answered. A server's calls go on at once (`OpenGate`); a test holds some
@@ -15,6 +16,9 @@ pub trait Gate {
     /// The writer has ended the connection, and writes nothing more: whoever reads it is to read its end, so that it can be closed
     /// (RFC 9113, section 5.4.1). The thread that writes tells so, maybe again and again.
     fn writing_ended(&self);
+
+    /// A call was settled, with this account. The thread that reads tells so: behind a read, before a call that begins, or at the end.
+    fn settled(&self, _account: &CallAccount) {}
 }
 
 /// Each call goes on at once.
@@ -22,11 +26,7 @@ pub trait Gate {
 pub struct OpenGate;
 
 impl Gate for OpenGate {
-    ghost use Rattle.std.specs.Prelude.{◌≡◌, true};
-
-    fn may_go(&self, _id: StreamId) -> bool
-        ensures { result ≡ true }
-    {
+    fn may_go(&self, _id: StreamId) -> bool {
         true
     }
 

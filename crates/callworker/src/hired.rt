@@ -2,15 +2,16 @@
 
 ghost use Rattle.std.specs.Prelude.{◌≡◌, IfSome};
 ghost use Rattle.handlers.specs.Listed.{listed};
-ghost use Rattle.callworker.specs.Works.{HasWorked, IsKnown, IsUnused};
+ghost use Rattle.lane.specs.RingEnds.{consumer_name, producer_name};
+ghost use Rattle.rtrb.specs.Ring.{received, sent};
+ghost use Rattle.callparts.specs.Workers.{IsKnown};
+ghost use Rattle.callworker.specs.Works.{HasHandedBack, IsUnused};
 
-use crate::answering::Answering;
-use crate::ends::Ends;
 use crate::gate::Gate;
+use crate::ways::Ways;
 use crate::worker::Worker;
-use callslot::Seen;
+use callparts::{Answering, Naming};
 use handlers::Methods;
-use std::marker::PhantomData;
 use std::snapshot::Snapshot;
 use std::sync::ledger::Ledger;
 use std::sync::{Arc, Wait};
@@ -21,46 +22,58 @@ use std::time::Clock;
 /// usual size, 8 MiB, take address space, and longer to make.
 pub const STACK: usize = 262_144;
 
-/// What a worker was given. It promises that the ends that it hands back are of the same lanes and ring, and that each job that it took
-/// has its row, as these ends say, and as is known of what methods answer.
+/// What a worker was given. It promises that the ends that it hands back are of the same rings, and that it handed back each call that it
+/// took, in their order.
 #[derive(Drop)]
-pub struct Hired<M: Answering> {
-    pub ends: Snapshot<Ends>,
-    known: PhantomData<M>,
+pub struct Hired<J: Naming, M: Answering> {
+    pub ways: Snapshot<Ways<J, M>>,
 }
 
-impl<M: Answering> Promise<Seen> for Hired<M> {
-    ghost kept_by = { λ hired seen. HasWorked M.known hired.ends.value seen };
+impl<J: Naming, M: Answering> Promise<Ways<J, M>> for Hired<J, M> {
+    ghost kept_by = { λ hired ways.
+        (consumer_name ways.tasks ≡ consumer_name hired.ways.value.tasks)
+        × (producer_name ways.done ≡ producer_name hired.ways.value.done)
+        × HasHandedBack (λ job. job.number.value) (λ finished. finished.number.value)
+        (received ways.tasks) (sent ways.done) };
 }
 
-/// Starts a worker with these ends. None where no thread can be had: then the ends are dropped.
-pub fn hire<A, B, C, G, M, R>(
+/// The thread of a worker.
+pub type Hand<J, M> = PromisedHandle<Ways<J, M>, Hired<J, M>>;
+
+/// Starts a worker. None where no thread can be had: then the ends are dropped.
+pub fn hire<A, B, C, G, J, M, R>(
     rt: R,
     worker: Worker<A, B, C, G>,
     methods: Arc<Methods>,
-    ends: Ends,
-) -> Option<PromisedHandle<Seen, Hired<M>>>
+    ways: Ways<J, M>,
+) -> Option<Hand<J, M>>
 where
     A: Ledger + Send + Sync + 'static,
     B: Ledger + Send + Sync + 'static,
     C: Ledger + Send + Sync + 'static,
     G: Gate + Send + Sync + Drop + 'static,
+    J: Naming + Send + Sync + 'static,
     M: Answering + Send + Sync + 'static,
     R: Threads + Wait + Clock + Copy + Send + Sync + Drop + 'static,
     requires known { IsKnown M.known (λ m. answers (m.vtable, m.value)) (listed methods.value) }
-    requires unused { IsUnused ends }
-    ensures ends { IfSome result (λ handle. handle.promise.ends.value ≡ ends) }
+    requires unused { IsUnused (received ways.tasks) (sent ways.done) }
+    ensures ways { IfSome result (λ handle. handle.promise.ways.value ≡ ways) }
 {
-    let hired: Hired<M> = Hired {
-        ends: Snapshot::of(&ends),
-        known: PhantomData,
+    let hired: Hired<J, M> = Hired {
+        ways: Snapshot::of(&ways),
     };
-    let job = move || -> Seen
+    let work = move || -> Ways<J, M>
         requires known { IsKnown M.known (λ m. answers (m.vtable, m.value)) (listed methods.value) }
-        requires unused { IsUnused ends }
-        ensures { HasWorked M.known ends result }
-    { worker.work::<M, R>(&rt, &methods, ends) };
-    match Builder::new().stack_size(STACK).spawn_with(&rt, hired, job) {
+        requires unused { IsUnused (received ways.tasks) (sent ways.done) }
+        ensures tasks { consumer_name result.tasks ≡ consumer_name ways.tasks }
+        ensures done { producer_name result.done ≡ producer_name ways.done }
+        ensures handed_back { HasHandedBack (λ job. job.number.value)
+            (λ finished. finished.number.value) (received result.tasks) (sent result.done) }
+    { worker.work::<J, M, R>(&rt, &methods, ways) };
+    match Builder::new()
+        .stack_size(STACK)
+        .spawn_with(&rt, hired, work)
+    {
         Ok(handle) => Some(handle),
         Err(_refused) => None,
     }

@@ -1,30 +1,28 @@
 //! Where a worker waits for its calls.
 
-ghost use Rattle.std.specs.Prelude.{◌≡◌, [], ◌∷◌, ◌++◌, MatchOption};
-ghost use Rattle.lane.specs.Ring.{out_name, taken};
+ghost use Rattle.std.specs.Prelude.{◌≡◌, [], ◌∷◌, ◌++◌, IfSome};
+ghost use Rattle.rtrb.specs.Ring.{received};
+ghost use Rattle.lane.specs.RingEnds.{consumer_name};
+ghost use Rattle.callparts.specs.Workers.{IsFreshWork};
 
 use crate::pace::IDLE;
-use callslot::{Job, Slot};
-use lane::RingOut;
+use callparts::{Job, Line, Naming, TasksOut};
 use std::sync::Wait;
 use std::time::Duration;
 
-/// Waits for the slot's next call. None where no more calls come.
-pub fn next_call<R: Wait>(rt: &R, slot: &Slot, jobs: &mut RingOut<Job>) -> Option<Job>
-    ensures name { out_name jobs.new ≡ out_name jobs.old }
-    ensures taken { MatchOption result (taken jobs.new ≡ taken jobs.old)
-        (λ job. taken jobs.new ≡ taken jobs.old ++ job ∷ []) }
+/// Waits for the next call. None where no more calls come.
+pub fn next_job<R: Wait, J: Naming>(rt: &R, line: &Line, tasks: &mut TasksOut<J>) -> Option<Job<J>>
+    ensures name { consumer_name tasks.new ≡ consumer_name tasks.old }
+    ensures taken { received tasks.new ≡ received tasks.old ++ result ∷ [] }
+    ensures fresh { IfSome result (λ job. IsFreshWork job.work) }
 {
     'looks: for _ in rt.forever() {
-        let mark = slot.bell.mark();
-        let job = jobs.take();
-        if job.is_some() {
-            return job;
+        let mark = line.bell.mark();
+        match tasks.pop() {
+            Ok(task) => return task,
+            Err(_empty) => {}
         }
-        if slot.is_over() {
-            return None;
-        }
-        slot.bell.wait_past(rt, mark, Duration::from_secs(IDLE));
+        line.bell.wait_past(rt, mark, Duration::from_secs(IDLE));
     }
     unreachable!()
 }

@@ -1,31 +1,25 @@
-//! What a worker of a connection does with the calls of its slot: one thread, which answers one call after another over the slot's
-//! two lanes.
+//! What a worker of a connection does: one thread, which answers one call after another.
 //!
 //! - `worker`: the loops, which wait: from call to call, and from turn to turn of a call.
-//! - `pace`: how long a call waits, and when the writer is rung for it; `rows`: the row that stays of a call.
-//! - `ends`: what a worker is given of its slot; `hired`: a worker in a thread of its own, and its promise.
+//! - `pace`: how long a call waits, and when the writer is rung for it.
+//! - `ways`: how a worker is handed its calls, and hands them back; `hired`: a worker in a thread of its own, and its promise.
 //! - `jobs`: where a worker waits for its next call.
 //! - `shared`: the connection's lock and bells; `gate`: who says when a call goes on.
-//! - `answering`: what is known of what methods answer, as a word for clauses.
 //!
-//! What a call is answered is decided by `callrun`, a turn at a time, without waiting. `specs/Runs.antt` says how a call goes on from
-//! turn to turn, `specs/Works.antt` what a worker has between two calls.
+//! What a call is answered is decided by `callrun`, a turn at a time, without waiting.
 #![tactic(auto)]
 
-pub mod answering;
-pub mod ends;
 pub mod gate;
 pub mod hired;
 pub mod jobs;
 mod pace;
-mod rows;
 pub mod shared;
+pub mod ways;
 pub mod worker;
 
-pub use answering::Answering;
-pub use ends::Ends;
 pub use gate::{Gate, OpenGate};
-pub use hired::{Hired, STACK, hire};
-pub use jobs::next_call;
+pub use hired::{Hand, Hired, STACK, hire};
+pub use jobs::next_job;
 pub use shared::Shared;
+pub use ways::Ways;
 pub use worker::{Worker, moment};

@@ -1,33 +1,33 @@
 //! What a worker does with its calls.
 //!
-//! `Worker::work` answers one call after another, and hands back the ends of its slot's lanes and of its ring with the rows of the
-//! calls; `callslot`'s `specs/Workers.antt` has what the rows say of them.
+//! `Worker::work` answers one call after another, and hands each back as soon as it is over: with its ends, and what is known of it.
 
-ghost use Rattle.std.specs.Prelude.{◌≡◌, ◌<◌, List, [], ◌∷◌, ◌++◌, true, false, length, IfOk, IfErr, Some};
-ghost use mathlib.Core.List.{IsPrefix};
-ghost use Rattle.lane.specs.RingLane.{got, in_name, next_name, out_name, past_in, past_out, past_shut, put_in, put_shut, ring_of, shut_name};
-ghost use Rattle.callbox.specs.declared.piece.InPiece.{InPiece};
+ghost use Rattle.std.specs.Prelude.{◌≡◌, ◌<◌, [], ◌∷◌, ◌++◌, false, length, None, Some};
+ghost use Rattle.lane.specs.End.{of_end};
+ghost use Rattle.lane.specs.RingEnds.{consumer_name, producer_name};
+ghost use Rattle.lane.specs.RingLane.{got, in_name, out_name, put_in, put_shut, shut_name};
+ghost use Rattle.rtrb.specs.Ring.{received, sent};
 ghost use Rattle.handlers.specs.Listed.{listed};
 ghost use Rattle.callrun.specs.declared.call.Turn.TheVariants as turn;
 ghost use Rattle.callrun.specs.Sides.{is_open};
-ghost use Rattle.callslot.specs.Accounts.{IsGivenAs, answers_by, unanswered};
-ghost use Rattle.callslot.specs.Workers.{Answers, HasRows, IsFresh, giving_ring};
-ghost use Rattle.callworker.specs.Runs.{EndsAs, GoesOn, IsOneCall, IsRowOf, given_past, giver_name};
-ghost use Rattle.callworker.specs.Works.{AreEndsOf, AreSameEnds, IsIdle, IsKnown, IsUnused, given_before, given_now};
+ghost use Rattle.callparts.specs.Workers.{Answers, AnswersAt, IsFreshWork, IsGivenAs, IsKnown, answers_by};
+ghost use Rattle.callworker.specs.Runs.{EndsAs, GoesOn, IsOneCall, giver_name};
+ghost use Rattle.callworker.specs.Works.{HasHandedBack, IsUnused};
 
-use crate::answering::Answering;
-use crate::ends::Ends;
 use crate::gate::Gate;
-use crate::jobs::next_call;
-use crate::pace::{IDLE, Pace, STEP, limit};
-use crate::rows::{Finished, has_room, shut_of, with_row};
+use crate::jobs::next_job;
+use crate::pace::{Pace, STEP, limit};
 use crate::shared::Shared;
+use crate::ways::Ways;
 use callbox::{GivenShut, Giver, Taker};
+use callparts::{
+    Answering, DoneIn, Finished, InLane, Job, Line, Naming, OutLane, Request, Traffic, Work,
+};
 use callrun::{CallRun, Turn};
-use callslot::{CallReport, InLane, Job, OutLane, Seen, Slot};
 use h2frame::StreamId;
 use handlers::{Method, Methods};
 use lane::End;
+use rtrb::PushError;
 use std::alloc::Global;
 use std::sync::ledger::Ledger;
 use std::sync::{Arc, Wait};
@@ -37,199 +37,137 @@ use std::time::{Clock, Duration, Instant};
 #[derive(Drop)]
 pub struct Worker<A: Ledger, B: Ledger, C: Ledger, G: Drop> {
     pub alloc: Global,
-    /// Where it is handed its calls.
-    pub slot: Arc<Slot>,
+    /// By which it is woken.
+    pub line: Arc<Line>,
     pub shared: Arc<Shared<A, B, C>>,
     pub gate: Arc<G>,
     /// When the connection began.
     pub start: Instant,
 }
 
+/// What is left of a call that was answered.
+#[derive(Drop)]
+struct Served {
+    taker: Taker<InLane>,
+    given: GivenShut<OutLane>,
+    status: Option<u32>,
+    traffic: Traffic,
+}
+
 impl<A: Ledger, B: Ledger, C: Ledger, G: Gate + Drop> Worker<A, B, C, G> {
-    /// Answers one call after another, until no more come.
-    pub fn work<M, R>(&self, rt: &R, methods: &Methods, ends: Ends) -> Seen
+    /// Answers one call after another, until no more come, and hands each back.
+    pub fn work<J, M, R>(&self, rt: &R, methods: &Methods, ways: Ways<J, M>) -> Ways<J, M>
     where
+        J: Naming,
         M: Answering,
         R: Wait + Clock,
         requires known { IsKnown M.known (λ m. answers (m.vtable, m.value)) (listed methods.now) }
-        requires unused { IsUnused ends }
-        ensures ends { AreEndsOf ends result }
-        ensures rows { HasRows M.known result }
+        requires unused { IsUnused (received ways.tasks) (sent ways.done) }
+        ensures tasks { consumer_name result.tasks ≡ consumer_name ways.tasks }
+        ensures done { producer_name result.done ≡ producer_name ways.done }
+        ensures handed_back { HasHandedBack (λ job. job.number.value)
+            (λ finished. finished.number.value) (received result.tasks) (sent result.done) }
     {
-        let Ends { taker, giver, jobs } = ends;
-        let mut seen = Seen {
-            taker,
-            end: End::Open(giver),
-            jobs,
-            calls: Vec::new(self.alloc),
-        };
+        let mut ways = ways;
         'calls: for _ in rt.forever() {
-            match self.serve::<M, R>(rt, methods, seen) {
-                Ok(idle) => seen = idle,
-                Err(last) => return last,
-            }
+            let Some(job) = next_job(rt, &self.line, &mut ways.tasks) else {
+                return ways;
+            };
+            let finished = self.answer::<J, M, R>(rt, methods, job);
+            self.hand_back(rt, &mut ways.done, finished);
         }
         unreachable!()
     }
 
-    /// Answers the next call, and gets all of it. `Err` where no more calls are answered.
-    fn serve<M, R>(&self, rt: &R, methods: &Methods, seen: Seen) -> Result<Seen, Seen>
-    where
-        M: Answering,
-        R: Wait + Clock,
-        requires known { IsKnown M.known (λ m. answers (m.vtable, m.value)) (listed methods.now) }
-        requires idle { IsIdle M.known seen }
-        ensures same_on { IfOk result (λ r. AreSameEnds seen r) }
-        ensures same { IfErr result (λ r. AreSameEnds seen r) }
-        ensures idle { IfOk result (λ r. IsIdle M.known r) }
-        ensures rows { IfErr result (λ r. HasRows M.known r) }
-    {
-        let mut seen = seen;
-        // Behind the call's end its row takes no memory.
-        let has_room = has_room(&mut seen.calls);
-        let Some(job) = next_call(rt, &self.slot, &mut seen.jobs) else {
-            return Err(seen);
-        };
-        let Seen {
-            taker,
-            end,
-            jobs,
-            calls,
-        } = seen;
-        let giver = match self.begin(rt, job.id, end) {
-            Ok(giver) => giver,
-            Err(shut) => {
-                return Err(Seen {
-                    taker,
-                    end: End::Shut(shut),
-                    jobs,
-                    calls,
-                });
-            }
-        };
-        let mut finished = self.answer_or_leave(rt, methods, job, taker, giver, has_room);
-        let goes_on = self.rest(rt, &mut finished.taker);
-        let seen = Seen {
-            taker: finished.taker,
-            end: End::Shut(finished.shut),
-            jobs,
-            calls: with_row(calls, finished.row),
-        };
-        if goes_on { Ok(seen) } else { Err(seen) }
-    }
-
-    /// The giver of the next call. All of the last was sent, or the slot wasn't free: where that isn't seen yet the worker looks
-    /// again while the call is live. Where it isn't, the end stays as it is.
-    fn begin(
+    /// Hands a call back. There is room for it, since the one before it was taken before this one came. Only then the others are rung, so
+    /// that this worker is free by the time that the peer sees the end of the call.
+    fn hand_back<J: Naming, M: Answering>(
         &self,
         rt: &impl Wait,
-        id: StreamId,
-        end: End<Giver<OutLane>, GivenShut<OutLane>>,
-    ) -> Result<Giver<OutLane>, GivenShut<OutLane>>
-        requires ungiven { given_now end ≡ [] }
-        ensures ring { IfOk result (λ g. ring_of (in_name g.tx) ≡ giving_ring end) }
-        ensures past { IfOk result (λ g. past_in g.tx ≡ given_before end) }
-        ensures empty { IfOk result (λ g. put_in g.tx ≡ []) }
-        ensures ring_stays { IfErr result (λ s. ring_of (shut_name s.shut) ≡ giving_ring end) }
-        ensures past_stays { IfErr result
-            (λ s. past_shut s.shut ++ put_shut s.shut ∷ [] ≡ given_before end) }
+        done: &mut DoneIn<J, M>,
+        finished: Finished<J>,
+    )
+        requires answers { AnswersAt M.known finished.number.seen.log finished.number.value
+            (got finished.taker.rx) finished.taker.progress (put_shut finished.given.shut)
+            finished.status }
+        ensures name { producer_name done.new ≡ producer_name done.old }
+        ensures sent { sent done.new ≡ sent done.old ++ finished ∷ [] }
     {
-        match end {
-            End::Open(giver) => Ok(giver),
-            End::Shut(shut) => self.begin_again(rt, id, shut),
-        }
-    }
-
-    /// The giver of the next call behind another.
-    fn begin_again(
-        &self,
-        rt: &impl Wait,
-        id: StreamId,
-        shut: GivenShut<OutLane>,
-    ) -> Result<Giver<OutLane>, GivenShut<OutLane>>
-        ensures name { IfOk result (λ g. in_name g.tx ≡ next_name (shut_name shut.shut)) }
-        ensures past { IfOk result
-            (λ g. past_in g.tx ≡ past_shut shut.shut ++ put_shut shut.shut ∷ []) }
-        ensures empty { IfOk result (λ g. put_in g.tx ≡ []) }
-        ensures stays { IfErr result (λ s. (shut_name s.shut ≡ shut_name shut.shut)
-            × (past_shut s.shut ≡ past_shut shut.shut) × (put_shut s.shut ≡ put_shut shut.shut)) }
-    {
-        let mut end = shut;
+        let mut finished = finished;
         'looks: for _ in rt.forever() {
-            let mark = self.slot.bell.mark();
-            match end.begin(self.alloc) {
-                Ok(giver) => return Ok(giver),
-                Err(still) => end = still,
+            let mark = self.line.bell.mark();
+            match done.push(finished) {
+                Ok(()) => {
+                    self.shared.writer.ring();
+                    self.shared.reader.ring();
+                    return;
+                }
+                Err(PushError::Full(back)) => finished = back,
             }
-            if !self.shared.book.lock(rt).is_live(id) {
-                return Err(end);
-            }
-            self.slot
+            self.line
                 .bell
                 .wait_past(rt, mark, Duration::from_millis(STEP));
         }
         unreachable!()
     }
 
-    /// Answers a call where there is room for its row. Else it is left, with nothing taken.
-    fn answer_or_leave<R: Wait + Clock>(
-        &self,
-        rt: &R,
-        methods: &Methods,
-        job: Job,
-        taker: Taker<InLane>,
-        giver: Giver<OutLane>,
-        has_room: bool,
-    ) -> Finished
-        requires fresh { IsFresh (got taker.rx) taker.progress }
-        requires ungiven { put_in giver.tx ≡ [] }
-        ensures in_name { out_name result.taker.rx ≡ out_name taker.rx }
-        ensures in_past { past_out result.taker.rx ≡ past_out taker.rx }
-        ensures name { shut_name result.shut.shut ≡ in_name giver.tx }
-        ensures past { past_shut result.shut.shut ≡ past_in giver.tx }
-        ensures answers { Answers
-            (answers_by (λ m. answers (m.vtable, m.value)) (listed methods.now))
-            (got result.taker.rx) (put_shut result.shut.shut) job result.row }
-        ensures left { has_room ≡ false → IsGivenAs [] (put_shut result.shut.shut) }
+    /// Answers a call.
+    fn answer<J, M, R>(&self, rt: &R, methods: &Methods, job: Job<J>) -> Finished<J>
+    where
+        J: Naming,
+        M: Answering,
+        R: Wait + Clock,
+        requires known { IsKnown M.known (λ m. answers (m.vtable, m.value)) (listed methods.now) }
+        requires fresh { IsFreshWork job.work }
+        ensures number { result.number ≡ job.number }
+        ensures answers { AnswersAt M.known result.number.seen.log result.number.value
+            (got result.taker.rx) result.taker.progress (put_shut result.given.shut)
+            result.status }
     {
-        if has_room {
-            return self.answer(rt, methods, job, taker, giver);
+        let Job { work, number } = job;
+        let Served {
+            taker,
+            given,
+            status,
+            traffic,
+        } = self.serve(rt, methods, work);
+        Finished {
+            number,
+            taker,
+            given,
+            status,
+            traffic,
         }
-        self.pass_over(rt, job.id, job.index, taker, giver)
     }
 
-    /// Answers a call.
-    fn answer<R: Wait + Clock>(
-        &self,
-        rt: &R,
-        methods: &Methods,
-        job: Job,
-        taker: Taker<InLane>,
-        giver: Giver<OutLane>,
-    ) -> Finished
-        requires fresh { IsFresh (got taker.rx) taker.progress }
-        requires ungiven { put_in giver.tx ≡ [] }
-        ensures in_name { out_name result.taker.rx ≡ out_name taker.rx }
-        ensures in_past { past_out result.taker.rx ≡ past_out taker.rx }
-        ensures name { shut_name result.shut.shut ≡ in_name giver.tx }
-        ensures past { past_shut result.shut.shut ≡ past_in giver.tx }
+    /// The same, without the number.
+    fn serve<R: Wait + Clock>(&self, rt: &R, methods: &Methods, work: Work) -> Served
+        requires fresh { IsFreshWork work }
+        ensures in_name { out_name result.taker.rx ≡ out_name work.taker.rx }
+        ensures name { shut_name result.given.shut ≡ in_name work.giver.tx }
         ensures answers { Answers
             (answers_by (λ m. answers (m.vtable, m.value)) (listed methods.now))
-            (got result.taker.rx) (put_shut result.shut.shut) job result.row }
+            work.request (got result.taker.rx) result.taker.progress
+            (put_shut result.given.shut) result.status }
     {
-        let Job {
+        let Work {
+            request,
+            taker,
+            giver,
+        } = work;
+        let Request {
             id,
             index,
             head,
             opened,
-        } = job;
+        } = request;
         if methods.get(index).is_none() {
-            return self.pass_over(rt, id, index, taker, giver);
+            return self.pass_over(rt, id, taker, giver);
         }
         let mut run = CallRun::new(self.alloc, methods, index, head, taker, giver, opened);
         let mut pace = Pace::new();
         self.run(rt, methods, id, &mut run, &mut pace);
-        self.end(rt, id, index, run, pace)
+        self.end(rt, id, run, pace)
     }
 
     /// Leaves a call of which nothing was taken.
@@ -237,22 +175,21 @@ impl<A: Ledger, B: Ledger, C: Ledger, G: Gate + Drop> Worker<A, B, C, G> {
         &self,
         rt: &impl Wait,
         id: StreamId,
-        index: usize,
         taker: Taker<InLane>,
         giver: Giver<OutLane>,
-    ) -> Finished
+    ) -> Served
         ensures taker { result.taker ≡ taker }
-        ensures name { shut_name result.shut.shut ≡ in_name giver.tx }
-        ensures past { past_shut result.shut.shut ≡ past_in giver.tx }
-        ensures given { IsGivenAs (put_in giver.tx) (put_shut result.shut.shut) }
-        ensures row { result.row ≡ unanswered id index }
+        ensures name { shut_name result.given.shut ≡ in_name giver.tx }
+        ensures given { IsGivenAs (put_in giver.tx) (put_shut result.given.shut) }
+        ensures status { result.status ≡ None }
     {
-        let shut = giver.leave();
+        let given = giver.leave();
         self.settle(rt, id, 0, false);
-        Finished {
+        Served {
             taker,
-            shut,
-            row: CallReport::unanswered(id, index),
+            given,
+            status: None,
+            traffic: Traffic::none(),
         }
     }
 
@@ -283,12 +220,12 @@ impl<A: Ledger, B: Ledger, C: Ledger, G: Gate + Drop> Worker<A, B, C, G> {
     /// Waits until the gate lets the call go on, or the call is no longer live.
     fn pass_gate(&self, rt: &impl Wait, id: StreamId, pace: &mut Pace) {
         'refusals: for _ in 0..pace.refusals() {
-            let mark = self.slot.bell.mark();
+            let mark = self.line.bell.mark();
             if self.gate.may_go(id) {
                 return;
             }
             pace.refused();
-            self.slot
+            self.line
                 .bell
                 .wait_past(rt, mark, Duration::from_millis(STEP));
             if !self.shared.book.lock(rt).is_live(id) {
@@ -313,7 +250,7 @@ impl<A: Ledger, B: Ledger, C: Ledger, G: Gate + Drop> Worker<A, B, C, G> {
         ensures same { IsOneCall run.old run.new }
         ensures over { result ≡ false → is_open run.new.response ≡ false }
     {
-        let came = self.slot.bell.mark();
+        let came = self.line.bell.mark();
         let now = self.now(rt, run);
         let turn = self.look(methods, run, now);
         match turn {
@@ -330,14 +267,14 @@ impl<A: Ledger, B: Ledger, C: Ledger, G: Gate + Drop> Worker<A, B, C, G> {
                     return false;
                 }
                 let most = limit(run.time_left(now));
-                self.slot.bell.wait_past(rt, came, most);
+                self.line.bell.wait_past(rt, came, most);
                 pace.waited(turn);
                 true
             }
         }
     }
 
-    /// Gives the call a turn; where that finds no room, another one, once the slot's bell is rung for room.
+    /// Gives the call a turn; where that finds no room, another one, once its bell is rung for room.
     fn look(&self, methods: &Methods, run: &mut CallRun<InLane, OutLane>, now: u64) -> Turn
         requires index { run.old.index < length (listed methods.now) }
         ensures goes_on { GoesOn (λ m. answers (m.vtable, m.value))
@@ -350,7 +287,7 @@ impl<A: Ledger, B: Ledger, C: Ledger, G: Gate + Drop> Worker<A, B, C, G> {
         if turn != Turn::Full {
             return turn;
         }
-        self.slot.want_room();
+        self.line.want_room();
         run.turn(methods, now)
     }
 
@@ -413,21 +350,11 @@ impl<A: Ledger, B: Ledger, C: Ledger, G: Gate + Drop> Worker<A, B, C, G> {
     }
 
     /// Ends a call that is over, by its last item, and hands back its ends.
-    fn end(
-        &self,
-        rt: &impl Wait,
-        id: StreamId,
-        index: usize,
-        run: CallRun<InLane, OutLane>,
-        pace: Pace,
-    ) -> Finished
+    fn end(&self, rt: &impl Wait, id: StreamId, run: CallRun<InLane, OutLane>, pace: Pace) -> Served
         ensures rx { result.taker.rx ≡ run.taker.rx }
         ensures progress { result.taker.progress ≡ record run.taker.progress { owed = 0 } }
-        ensures name { Some (shut_name result.shut.shut) ≡ giver_name run.response }
-        ensures past { Some (past_shut result.shut.shut) ≡ given_past run.response }
-        ensures given { EndsAs run (put_shut result.shut.shut) result.row.given
-            result.row.trailers_given result.row.status }
-        ensures row { IsRowOf id index run.taker.progress result.row }
+        ensures name { Some (shut_name result.given.shut) ≡ giver_name run.response }
+        ensures given { EndsAs run (put_shut result.given.shut) result.status }
     {
         let mut run = run;
         let mut pace = pace;
@@ -437,83 +364,27 @@ impl<A: Ledger, B: Ledger, C: Ledger, G: Gate + Drop> Worker<A, B, C, G> {
         let (taker, end, status) = run.into_ends();
         let given = shut_of(end);
         self.settle(rt, id, credit, status.is_some());
-        let row = CallReport {
-            messages: taker.taken(),
-            bytes: pace.bytes(),
-            told: taker.told(),
-            given: given.count,
-            trailers_given: given.has_trailers,
-            replies,
-            reply_bytes,
-            status,
-            ..CallReport::unanswered(id, index)
-        };
-        Finished {
+        Served {
             taker,
-            shut: given.shut,
-            row,
+            given,
+            status,
+            traffic: Traffic {
+                bytes: pace.bytes(),
+                replies,
+                reply_bytes,
+            },
         }
     }
 
-    /// Returns what was taken of a call that is over, and tells reader and writer of it. Its last item was given before. One without trailers
-    /// is live no more.
+    /// Returns what was taken of a call that is over. Its last item was given before. One without trailers is live no more.
     fn settle(&self, rt: &impl Wait, id: StreamId, credit: u32, has_trailers: bool) {
-        {
-            let mut book = self.shared.book.lock(rt);
-            if credit > 0 {
-                let _ = book.give_back(id, credit);
-            }
-            if !has_trailers {
-                book.cut(id);
-            }
+        let mut book = self.shared.book.lock(rt);
+        if credit > 0 {
+            let _ = book.give_back(id, credit);
         }
-        self.slot.answer(has_trailers);
-    }
-
-    /// Gets what is left of a call that was answered, up to its end, and is idle then: for the next call the taker goes on. Says
-    /// whether more calls come.
-    fn rest(&self, rt: &impl Wait, taker: &mut Taker<InLane>) -> bool
-        ensures ring { ring_of (out_name taker.new.rx) ≡ ring_of (out_name taker.old.rx) }
-        ensures past { result ≡ true → (all : List InPiece) × IsPrefix (got taker.old.rx) all
-            × (past_out taker.new.rx ≡ past_out taker.old.rx ++ all ∷ []) }
-        ensures fresh { result ≡ true → IsFresh (got taker.new.rx) taker.new.progress }
-        ensures stays { result ≡ false → IsPrefix (got taker.old.rx) (got taker.new.rx)
-            × (past_out taker.new.rx ≡ past_out taker.old.rx) }
-    {
-        'rests: for _ in rt.forever() {
-            let mark = self.slot.bell.mark();
-            if self.gets_all(taker) {
-                return true;
-            }
-            if self.slot.is_over() {
-                return false;
-            }
-            self.slot
-                .bell
-                .wait_past(rt, mark, Duration::from_secs(IDLE));
+        if !has_trailers {
+            book.cut(id);
         }
-        unreachable!()
-    }
-
-    /// Gets what there is of a call that was answered, and is idle where that is all of it.
-    fn gets_all(&self, taker: &mut Taker<InLane>) -> bool
-        ensures name { result ≡ true → out_name taker.new.rx ≡ next_name (out_name taker.old.rx) }
-        ensures past { result ≡ true → (all : List InPiece) × IsPrefix (got taker.old.rx) all
-            × (past_out taker.new.rx ≡ past_out taker.old.rx ++ all ∷ []) }
-        ensures fresh { result ≡ true → IsFresh (got taker.new.rx) taker.new.progress }
-        ensures stays { result ≡ false → (out_name taker.new.rx ≡ out_name taker.old.rx)
-            × (past_out taker.new.rx ≡ past_out taker.old.rx)
-            × IsPrefix (got taker.old.rx) (got taker.new.rx) }
-    {
-        taker.drain();
-        let is_idle = taker.begin(self.alloc);
-        if is_idle {
-            self.slot.rest();
-        }
-        // Only now, so that the slot is free by the time that the peer sees the end of the call.
-        self.shared.writer.ring();
-        self.shared.reader.ring();
-        is_idle
     }
 
     /// The moment, in nanoseconds of the connection. No clock is read for a call without a deadline.
@@ -530,5 +401,17 @@ pub fn moment(rt: &impl Clock, start: Instant) -> u64 {
     match start.elapsed(rt) {
         Ok(past) => u64::try_from(past.as_nanos()).unwrap_or(u64::MAX),
         Err(_) => u64::MAX,
+    }
+}
+
+/// The giving end once the call is left, where it wasn't answered.
+fn shut_of(end: End<Giver<OutLane>, GivenShut<OutLane>>) -> GivenShut<OutLane>
+    ensures name { shut_name result.shut ≡ of_end (λ g. in_name g.tx) (λ s. shut_name s.shut) end }
+    ensures given { IsGivenAs (of_end (λ g. put_in g.tx) (λ s. put_shut s.shut) end)
+        (put_shut result.shut) }
+{
+    match end {
+        End::Open(giver) => giver.leave(),
+        End::Shut(shut) => shut,
     }
 }

@@ -3,6 +3,8 @@ pub mod BodyExamples
 pub mod Drain
 pub mod Hex
 pub mod HexExamples
+pub mod Lines
 pub mod Report
 pub mod Summing
 pub mod Telling
+pub mod Waiting

@@ -12,7 +12,7 @@ ghost use Rattle.commands.specs.declared.drain.Goaway.{Goaway as Seen};
 ghost use Rattle.results.specs.declared.outcome.Outcome.{Outcome};
 ghost use Rattle.trials.specs.Verdicts.{verdict_of};
 
-use crate::port::{Reports, Service, serve_apart};
+use crate::port::{Service, serve_apart};
 use crate::stopping::Stop;
 use crate::witness::Witnesses;
 use cases::{CaseFault, Failure, Limit, ReportFault, Timed, Windows, print_line};
@@ -87,7 +87,6 @@ where
     };
     let service = Service {
         methods,
-        reports: Reports::Nowhere,
         witness: Arc::new(alloc, Witnesses::none())?,
         stop: Some(Arc::try_clone(&stop)?),
     };

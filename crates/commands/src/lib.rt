@@ -5,7 +5,7 @@
 //! - `run_self` runs test cases against a server of its own (`server`).
 //! - `run_drain` drains a server of its own while a client has a call (`drain`).
 //! - `serve` serves connections to a port (`server`): `listening` is the port, `port` has the threads, `stream` a connection, `stopping`
-//!   how it stops, `room` how many are served at a time, `served` and `reporter` the report, `log` and `times` the log, `witness` who sees connections.
+//!   how it stops, `room` how many are served at a time, `log`, `waiting` and `times` the log, `reporting` and `served` the report, `witness` who sees connections.
 //! Those that try a server are in the crate `trials`.
 //!
 //! Below them:
@@ -23,7 +23,7 @@ mod memory;
 mod parts;
 mod port;
 mod report;
-mod reporter;
+mod reporting;
 mod room;
 mod served;
 mod server;
@@ -32,6 +32,7 @@ mod stream;
 mod streams;
 mod text;
 mod times;
+mod waiting;
 mod witness;
 
 pub use body::{RunFault, run_body};

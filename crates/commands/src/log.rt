@@ -3,14 +3,16 @@
 //! Whoever reads or writes a connection shows the bytes to its `Watch`, and leaves the lines that come of it here; one thread of the
 //! log's own prints them. So printing holds nobody up: where too many lines wait, they are counted in place of being kept.
 
-ghost use Rattle.std.specs.Prelude.{◌≡◌, ◌<◌, ◌≤◌, ◌+◌, ◌^◌, IfSome, IfNone, OnOk, OnErr};
+ghost use Rattle.std.specs.Prelude.{◌≡◌, ◌≤◌, ℕ, List, ◌++◌, IfSome, OnOk, OnErr, string_bytes};
+ghost use Rattle.commands.specs.Lines.{IsTextOf, TellsFirst, lines_of};
 
-use crate::served::{objects_of, report_of};
+use crate::served::{call_line, call_object, connection_line, connection_object};
 use crate::stopping::Connection;
 use crate::stream;
 use crate::times::{Moment, Times};
-use connection::Ending;
-use connlog::{Ended, Line, Observer, json};
+use crate::waiting::{Batch, Told, Waiting, count_lines};
+use connection::{CallAccount, Ending};
+use connlog::{Ended, Line, Observer};
 use handlers::Methods;
 use lane::Bell;
 use std::alloc::{AllocError, Global};
@@ -18,11 +20,8 @@ use std::io::ErrorKind;
 use std::sync::atomic::{AtomicBool, Ordering};
 use std::sync::{Arc, Mutex, Wait};
 use std::time::{Clock, Duration, Instant};
-use std::{io, mem, thread};
+use std::{io, thread};
 use words::LogForm;
-
-/// How many lines wait at most.
-const MOST_LINES: usize = 16_384;
 
 /// How often the log looks for calls that wait, in milliseconds.
 const TICK: u64 = 1_000;
@@ -56,75 +55,69 @@ pub struct Logged {
     watch: Arc<Watch>,
 }
 
-/// So many lines of a connection, and when they came.
-#[derive(Drop)]
-struct Batch {
-    connection: u64,
-    moment: Moment,
-    lines: usize,
-    told: Told,
-}
-
-/// What they are.
-#[derive(Drop)]
-enum Told {
-    Lines(Vec<Line>),
-    /// The report on it, as it is printed.
-    Report(String),
-}
-
-/// What is to be printed.
-#[derive(Drop)]
-struct Waiting {
-    batches: Vec<Batch>,
-    /// How many lines they have.
-    lines: usize,
-    /// How many lines were dropped behind them.
-    dropped: usize,
-}
-
 impl Log {
     pub fn new(alloc: Global, times: Times) -> Log {
         Log {
             times,
             watches: Mutex::new(Vec::new(alloc)),
-            waiting: Mutex::new(Waiting {
-                batches: Vec::new(alloc),
-                lines: 0,
-                dropped: 0,
-            }),
+            waiting: Mutex::new(Waiting::new(alloc)),
             bell: Bell::new(),
             is_closed: AtomicBool::new(false),
         }
     }
 
-    /// Leaves the report on a connection to be printed, behind its lines.
-    pub fn report<R: Wait + Clock>(
+    /// Leaves the report on a call that was settled to be printed.
+    pub fn report_call<R: Wait + Clock>(
         &self,
         rt: &R,
         alloc: Global,
+        connection: Connection,
         methods: &Methods,
+        call: &CallAccount,
+    ) {
+        let moment = self.times.now(rt);
+        let line = match self.times.form {
+            LogForm::Text => call_line(alloc, connection.peer, methods, call),
+            LogForm::Json => self.call_object(alloc, moment, connection, methods, call),
+        };
+        self.leave_report(rt, connection, moment, line);
+    }
+
+    /// Leaves the report on a connection to be printed, behind its lines.
+    pub fn report_end<R: Wait + Clock>(
+        &self,
+        rt: &R,
+        alloc: Global,
         connection: Connection,
         ended: &stream::Ended,
         file: &Option<String>,
     ) {
-        let lines = ended.calls.len().saturating_add(1);
         let moment = self.times.now(rt);
-        let report = match self.times.form {
-            LogForm::Text => report_of(alloc, connection.peer, methods, ended, file),
-            LogForm::Json => self.objects(alloc, methods, connection, ended, file, moment),
+        let line = match self.times.form {
+            LogForm::Text => connection_line(alloc, connection.peer, ended, file),
+            LogForm::Json => self.connection_object(alloc, moment, connection, ended, file),
         };
-        match report {
+        self.leave_report(rt, connection, moment, line);
+    }
+
+    /// Leaves a line of a report to be printed. Without memory for it it counts as dropped.
+    fn leave_report(
+        &self,
+        rt: &impl Wait,
+        connection: Connection,
+        moment: Moment,
+        line: Result<String, AllocError>,
+    ) {
+        match line {
             Ok(text) => self.leave(
                 rt,
                 Batch {
                     connection: connection.number,
                     moment,
-                    lines,
                     told: Told::Report(text),
                 },
             ),
-            Err(AllocError) => self.lose(rt, lines),
+            Err(AllocError) => self.lose(rt, 1),
         }
     }
 
@@ -162,83 +155,123 @@ impl Log {
         let Some((batches, dropped)) = self.next(rt, alloc) else {
             return Ok(false);
         };
-        let mut lost = dropped;
-        let (mut text, mut lines) = (String::new(alloc), String::new(alloc));
-        for batch in &batches {
-            if self.add_text(alloc, &mut text, &mut lines, batch).is_err() {
-                lost = lost.saturating_add(batch.lines);
-            }
-        }
+        let (text, lost) = self.text_of(alloc, batches.as_slice());
+        unless_closed(rt.write_all(text.as_bytes()))?;
+        let lost = lost.saturating_add(dropped);
         if lost > 0 {
-            self.add_dropped(alloc, &mut text, lost, self.times.now(rt))?;
+            unless_closed(self.print_dropped(rt, alloc, lost))?;
         }
-        match rt.write_all(text.as_bytes()) {
-            Err(error) if error.kind() != ErrorKind::BrokenPipe => Err(error),
-            _ => Ok(true),
-        }
+        Ok(true)
     }
 
-    /// Adds the whole lines of a batch to a text, or nothing. They are written to `lines` first, whose memory is used again.
+    /// The text of batches, and how many of their lines are left out. Where there is no memory for some, those behind them are left out
+    /// too, so that their number stands in their place.
+    fn text_of(&self, alloc: Global, batches: &[Batch]) -> (String, usize)
+        requires { lines_of batches.now ≤ 16384 }
+        ensures { TellsFirst batches.now (string_bytes result.0) result.1 }
+    {
+        let (mut text, mut lines) = (String::new(alloc), String::new(alloc));
+        let mut rest = batches;
+        'batches: while let Some((batch, behind)) = rest.split_first() {
+            match self.add_text(alloc, &mut text, &mut lines, batch) {
+                Ok(()) => rest = behind,
+                Err(AllocError) => return (text, count_lines(rest)),
+            }
+        }
+        (text, 0)
+    }
+
+    /// Adds the text of a batch. Lines of the log are written to `lines` first, whose memory is used again.
     fn add_text(
         &self,
         alloc: Global,
         text: &mut String,
         lines: &mut String,
         batch: &Batch,
-    ) -> Result<(), AllocError> {
-        lines.clear();
+    ) -> Result<(), AllocError>
+        ensures added { OnOk result ((more : List ℕ) × IsTextOf batch.now.told more
+            × (string_bytes text.new ≡ string_bytes text.old ++ more)) }
+        ensures same { OnErr result (string_bytes text.new ≡ string_bytes text.old) }
+    {
         match &batch.told {
-            Told::Report(report) => return text.push_str(report.as_str()),
+            Told::Report(line) => text.push_str(line.as_str()),
             Told::Lines(told) => {
-                let time = self.times.text(alloc, batch.moment)?;
-                let time = time.as_ref().map(|time| time.as_str());
-                for line in told {
-                    match self.times.form {
-                        LogForm::Text => line.write_text(lines, batch.connection, time)?,
-                        LogForm::Json => {
-                            line.write_json(alloc, lines, batch.connection, time.unwrap_or("null"))?
-                        }
-                    }
-                }
+                lines.clear();
+                self.write_lines(alloc, lines, batch, told.as_slice())?;
+                text.push_str(lines.as_str())
             }
         }
-        text.push_str(lines.as_str())
     }
 
-    /// Adds the line that says how many were dropped.
-    fn add_dropped(
+    /// Writes lines of the log, which a batch has.
+    fn write_lines(
         &self,
         alloc: Global,
         text: &mut String,
-        count: usize,
-        moment: Moment,
+        batch: &Batch,
+        lines: &[Line],
     ) -> Result<(), AllocError> {
+        let Batch {
+            connection,
+            moment,
+            ..
+        } = *batch;
+        let time = self.times.text(alloc, moment)?;
+        let time = time.as_ref().map(|time| time.as_str());
+        for line in lines {
+            match self.times.form {
+                LogForm::Text => line.write_text(text, connection, time)?,
+                LogForm::Json => {
+                    line.write_json(alloc, text, connection, time.unwrap_or("null"))?
+                }
+            }
+        }
+        Ok(())
+    }
+
+    /// Prints the line that says how many were dropped. It has its place where there is no memory too: an object is without its time then.
+    fn print_dropped<R: Print + Clock>(
+        &self,
+        rt: &R,
+        alloc: Global,
+        count: usize,
+    ) -> io::Result<()> {
         match self.times.form {
-            LogForm::Text => writeln!(text, "dropped {count}"),
+            LogForm::Text => println!(rt; "dropped {count}"),
             LogForm::Json => {
-                let time = self.times.text(alloc, moment)?;
+                let time = self.times.text(alloc, self.times.now(rt)).unwrap_or(None);
                 let time = time.as_ref().map_or("null", |time| time.as_str());
-                json::begin(text, time)?;
-                json::string(alloc, text, "event", "dropped")?;
-                json::number(text, "lines", count as u64)?;
-                json::end(text)
+                println!(rt; "{{\"time\":{time},\"event\":\"dropped\",\"lines\":{count}}}")
             }
         }
     }
 
-    /// The report on a connection, in objects.
-    fn objects(
+    /// The report on a call, as an object.
+    fn call_object(
         &self,
         alloc: Global,
-        methods: &Methods,
-        connection: Connection,
-        ended: &stream::Ended,
-        file: &Option<String>,
         moment: Moment,
+        connection: Connection,
+        methods: &Methods,
+        call: &CallAccount,
     ) -> Result<String, AllocError> {
         let time = self.times.text(alloc, moment)?;
         let time = time.as_ref().map_or("null", |time| time.as_str());
-        objects_of(alloc, time, connection, methods, ended, file)
+        call_object(alloc, time, connection.number, methods, call)
+    }
+
+    /// The report on a connection, as an object.
+    fn connection_object(
+        &self,
+        alloc: Global,
+        moment: Moment,
+        connection: Connection,
+        ended: &stream::Ended,
+        file: &Option<String>,
+    ) -> Result<String, AllocError> {
+        let time = self.times.text(alloc, moment)?;
+        let time = time.as_ref().map_or("null", |time| time.as_str());
+        connection_object(alloc, time, connection, ended, file)
     }
 
     /// So many lines are lost.
@@ -248,7 +281,9 @@ impl Log {
     }
 
     /// Takes what waits, and how many lines were dropped behind it, unless that is nothing.
-    fn next(&self, rt: &impl Wait, alloc: Global) -> Option<(Vec<Batch>, usize)> {
+    fn next(&self, rt: &impl Wait, alloc: Global) -> Option<(Vec<Batch>, usize)>
+        ensures { IfSome result (λ it. lines_of it.0.items ≤ 16384) }
+    {
         let mut waiting = self.waiting.lock(rt);
         waiting.take(alloc)
     }
@@ -289,6 +324,14 @@ impl Log {
                 let _watch = watches.swap_remove(place);
             }
         }
+    }
+}
+
+/// That nobody reads what is printed any more is no failure.
+fn unless_closed(printed: io::Result<()>) -> io::Result<()> {
+    match printed {
+        Err(error) if error.kind() == ErrorKind::BrokenPipe => Ok(()),
+        _ => printed,
     }
 }
 
@@ -404,74 +447,5 @@ pub fn ended_of(ending: Ending) -> Ended {
         Ending::WriteFailed => Ended::WriteFailed,
         Ending::OutOfMemory => Ended::OutOfMemory,
         Ending::Drained => Ended::Drained,
-    }
-}
-
-impl Batch {
-    fn of_lines(connection: u64, moment: Moment, lines: Vec<Line>) -> Batch {
-        Batch {
-            connection,
-            moment,
-            lines: lines.len(),
-            told: Told::Lines(lines),
-        }
-    }
-}
-
-impl Waiting {
-    /// Adds lines, or counts them as dropped.
-    fn put(&mut self, batch: Batch)
-        ensures counted { self.old.lines + self.old.dropped + batch.lines < 2 ^ 64
-            → self.new.lines + self.new.dropped
-            ≡ self.old.lines + self.old.dropped + batch.lines }
-        ensures few { self.old.lines ≤ 16384 → self.new.lines ≤ 16384 }
-    {
-        let count = batch.lines;
-        if self.add(batch).is_err() {
-            self.lose(count);
-        }
-    }
-
-    /// Counts lines as dropped.
-    fn lose(&mut self, count: usize)
-        ensures counted { self.old.dropped + count < 2 ^ 64
-            → self.new.dropped ≡ self.old.dropped + count }
-        ensures same { self.new.lines ≡ self.old.lines }
-    {
-        self.dropped = self.dropped.saturating_add(count);
-    }
-
-    /// Adds lines, if there is room for them. Behind lines that were dropped there is none.
-    fn add(&mut self, batch: Batch) -> Result<(), AllocError>
-        ensures added { OnOk result
-            ((self.new.lines ≡ self.old.lines + batch.lines)
-            × (self.new.dropped ≡ self.old.dropped)) }
-        ensures few { OnOk result (self.new.lines ≤ 16384) }
-        ensures order { OnOk result (self.old.dropped ≡ 0) }
-        ensures unchanged { OnErr result ((self.new.lines ≡ self.old.lines)
-            × (self.new.dropped ≡ self.old.dropped)) }
-    {
-        let lines = self.lines.saturating_add(batch.lines);
-        if self.dropped > 0 || lines > MOST_LINES {
-            return Err(AllocError);
-        }
-        self.batches.push(batch)?;
-        self.lines = lines;
-        Ok(())
-    }
-
-    /// Takes all of it, and how many lines were dropped behind it; None where that is nothing.
-    fn take(&mut self, alloc: Global) -> Option<(Vec<Batch>, usize)>
-        ensures taken { IfSome result (λ it. it.1 ≡ self.old.dropped) }
-        ensures none { IfNone result ((self.old.lines ≡ 0) × (self.old.dropped ≡ 0)) }
-        ensures empty { (self.new.lines ≡ 0) × (self.new.dropped ≡ 0) }
-    {
-        if self.lines == 0 && self.dropped == 0 {
-            return None;
-        }
-        let batches = mem::replace(&mut self.batches, Vec::new(alloc));
-        let dropped = mem::replace(&mut self.dropped, 0);
-        self.lines = 0;
-        Some((batches, dropped))
     }
 }

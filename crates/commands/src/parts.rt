@@ -41,11 +41,11 @@ where
         bytes: Vec::new(alloc),
     });
     let Served {
-        ending,
+        report: served,
         output: written,
-        ..
     } = serve_undrained(rt, alloc, &mut input, written, methods, gate);
-    let report = report(alloc, written.into_inner().bytes.as_slice(), ending)?;
+    let written = written.into_inner();
+    let report = report(alloc, written.bytes.as_slice(), served.ending)?;
     write_all(output, report.as_bytes())?;
     Ok(())
 }

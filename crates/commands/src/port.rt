@@ -6,7 +6,6 @@
 //! little memory, the crate's `room` says how many connections are served at a time.
 
 use crate::log::ended_of;
-use crate::reporter::Reporter;
 use crate::room::Room;
 use crate::stopping::{Connection, Stop};
 use crate::stream::{Ended, Link, serve_stream};
@@ -30,22 +29,10 @@ const PAUSE: u64 = 10;
 #[derive(Drop)]
 pub struct Service<W> {
     pub methods: Arc<Methods>,
-    /// Where each that has ended is reported on.
-    pub reports: Reports,
-    /// Who sees them.
+    /// Who sees them, and their calls.
     pub witness: Arc<W>,
     /// How it stops, if it does before the program is interrupted.
     pub stop: Option<Arc<Stop>>,
-}
-
-/// Where connections that have ended are reported on.
-#[derive(Drop)]
-pub enum Reports {
-    Nowhere,
-    /// On standard output.
-    Printed(Reporter),
-    /// In the log, behind the lines of the connection.
-    Logged,
 }
 
 /// A port, and how connections to it are served.
@@ -69,8 +56,8 @@ enum Afterwards {
     StopsServer,
 }
 
-/// Serves connections that come, until the server has stopped, if it does, and has printed its reports. A thread of its own takes
-/// them where it does. It answers which connections are left, for which it had no more patience.
+/// Serves connections that come, until the server has stopped, if it does. A thread of its own takes them where it does. It answers
+/// which connections are left, for which it had no more patience.
 pub fn serve_port<R, W>(
     rt: R,
     alloc: Global,
@@ -108,11 +95,7 @@ where
             None => take_all(rt, alloc, &port),
         }
     })?;
-    let left = stop.wait(&rt, alloc);
-    if let Reports::Printed(reporter) = &port.service.reports {
-        reporter.finish(&rt);
-    }
-    Ok(left)
+    Ok(stop.wait(&rt, alloc))
 }
 
 /// The same, in a thread of its own. That none can be made counts as want of memory.
@@ -310,28 +293,8 @@ impl<W> Service<W> {
     }
 }
 
-impl<W: Witness> Service<W> {
-    /// Has a connection that has ended reported on, where that is wanted.
-    fn report<R>(&self, rt: &R, alloc: Global, connection: Connection, ended: Ended)
-    where
-        R: Print + Eprint + Threads + Wait + Clock + Copy + Send + Sync + Drop + 'static,
-    {
-        match &self.reports {
-            Reports::Nowhere => {}
-            Reports::Printed(reporter) => {
-                let file = self.witness.file_of(connection);
-                reporter.tell(rt, alloc, &self.methods, connection.peer, ended, file);
-            }
-            Reports::Logged => {
-                self.witness
-                    .report(rt, alloc, &self.methods, connection, &ended);
-            }
-        }
-    }
-}
-
-/// Serves a connection to its end, and has it reported on where that is wanted. One that was drained has had all by then, and is read on
-/// after that for a moment. Whether threads or memory were wanting.
+/// Serves a connection to its end, and has it and its calls reported on where that is wanted. One that was drained has had all by then, and
+/// is read on after that for a moment. Whether threads or memory were wanting.
 fn serve_one<R, W>(
     rt: R,
     alloc: Global,
@@ -344,6 +307,9 @@ where
     R: Copy + Send + Sync + Drop + 'static,
     W: Witness + Send + Sync + Drop + 'static,
 {
+    let Ok(reporting) = service.witness.reporting(&service.methods, connection) else {
+        return true;
+    };
     let logged = service.witness.begin(&rt, alloc, connection);
     let eye = service.witness.look(rt, &stream, connection);
     let served = serve_stream(
@@ -353,6 +319,7 @@ where
         &service.methods,
         &logged,
         eye,
+        &reporting,
         &service.stop,
     );
     if let Some(logged) = &logged {
@@ -366,7 +333,10 @@ where
     if let Some(link) = &drained {
         link.finish();
     }
-    service.report(&rt, alloc, connection, ended);
+    if let Some(reporting) = &reporting {
+        let file = service.witness.file_of(connection);
+        reporting.end(&rt, alloc, &ended, &file);
+    }
     if let Some(link) = &drained {
         link.part(&rt);
     }

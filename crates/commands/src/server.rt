@@ -10,8 +10,7 @@ ghost use Rattle.trials.specs.Verdicts.{verdict_on};
 
 use crate::listening::{listen, tell_ready};
 use crate::log::Log;
-use crate::port::{Reports, Service, serve_apart, serve_port};
-use crate::reporter::Reporter;
+use crate::port::{Service, serve_apart, serve_port};
 use crate::stopping::{Connection, Stop};
 use crate::times::Times;
 use crate::witness::Witnesses;
@@ -38,7 +37,7 @@ const PAUSE: u64 = 100;
 
 /// Listens where the words say, says where that is, and serves `grpc.testing.TestService`: on all connections that come, by
 /// threads that take one after another, or on as many as the words say, each in a thread of its own. It fails where the port
-/// can't be had, and where the log can't be written, of which a line on standard error tells. It returns where the server has stopped:
+/// can't be had, and where log or report can't be written, of which a line on standard error tells. It returns where the server has stopped:
 /// behind so many connections, or once standard input has ended, where the words say so. It answers whether no connection was left then;
 /// a line on standard error names each.
 pub fn serve<R>(rt: R, methods: Arc<Methods>, words: ServeWords<'_>) -> io::Result<bool>
@@ -51,47 +50,47 @@ where
     let alloc = rt.alloc();
     let listener = listen(&rt, words.host, words.port)?;
     let address = listener.local_addr()?;
-    let times = words.log.map(|form| Times::begin(&rt, form, words.time));
+    let times = times_of(&rt, words);
     let recorder = recorder_of(&rt, alloc, words)?;
     say_listening(&rt, alloc, address, times)?;
     tell_ready(&rt, alloc, address, words)?;
     let stop = stop_of(rt, alloc, words)?;
-    let Some(times) = times else {
-        let reports = if words.has_report {
-            Reports::Printed(Reporter::new(alloc))
-        } else {
-            Reports::Nowhere
-        };
-        let witnesses = Witnesses {
-            log: None,
-            recorder: again(&recorder)?,
-        };
-        let service = Service {
-            methods,
-            reports,
-            witness: Arc::new(alloc, witnesses)?,
-            stop,
-        };
-        let left = serve_port(rt, alloc, listener, service)?;
-        return end(&rt, &recorder, words.patience, left.as_slice());
+    let log = match times {
+        Some(times) => Some(Arc::new(alloc, Log::new(alloc, times))?),
+        None => None,
     };
-    let log = Arc::new(alloc, Log::new(alloc, times))?;
     let witnesses = Witnesses {
-        log: Some(Arc::try_clone(&log)?),
+        log: where_wanted(words.log.is_some(), &log)?,
+        reports: where_wanted(words.has_report, &log)?,
         recorder: again(&recorder)?,
     };
     let service = Service {
         methods,
-        reports: if words.has_report {
-            Reports::Logged
-        } else {
-            Reports::Nowhere
-        },
         witness: Arc::new(alloc, witnesses)?,
         stop,
     };
-    let left = serve_logged(rt, alloc, listener, service, log)?;
+    let left = match log {
+        Some(log) => serve_logged(rt, alloc, listener, service, log)?,
+        None => serve_port(rt, alloc, listener, service)?,
+    };
     end(&rt, &recorder, words.patience, left.as_slice())
+}
+
+/// How the lines of a log or a report say the time, where there is either.
+fn times_of(rt: &impl Clock, words: ServeWords<'_>) -> Option<Times> {
+    match words.log {
+        Some(form) => Some(Times::begin(rt, form, words.time)),
+        None if words.has_report => Some(Times::begin(rt, LogForm::Text, None)),
+        None => None,
+    }
+}
+
+/// Another one of the same log, where there is one and it is wanted.
+fn where_wanted(is_wanted: bool, log: &Option<Arc<Log>>) -> io::Result<Option<Arc<Log>>> {
+    match log {
+        Some(log) if is_wanted => Ok(Some(Arc::try_clone(log)?)),
+        _ => Ok(None),
+    }
 }
 
 /// Where it is written what passes, if the words say so.
@@ -211,7 +210,8 @@ fn read_out<R: Input<Reader = StdinLock<'static>> + Clock>(rt: &R) {
     }
 }
 
-/// Serves connections that come, while a thread of its own prints the lines of their log. Where one can't be written, the server stops.
+/// Serves connections that come, while a thread of its own prints the lines of their log and their report. Where one can't be written, the
+/// server stops, if it can, and a line on standard error says which.
 fn serve_logged<R>(
     rt: R,
     alloc: Global,
@@ -225,6 +225,11 @@ where
     R::Dir: Send + Sync,
 {
     let shared = Arc::try_clone(&log)?;
+    let what = if service.witness.log.is_some() {
+        "log"
+    } else {
+        "report"
+    };
     let stop = match &service.stop {
         Some(stop) => Some(Arc::try_clone(stop)?),
         None => None,
@@ -232,7 +237,7 @@ where
     let printing = thread::spawn(&rt, move || -> io::Result<()> {
         let printed = shared.print_all(&rt, alloc);
         if let Err(error) = &printed {
-            let _ = eprintln!(rt; "interop: the log can't be written: {error}");
+            let _ = eprintln!(rt; "interop: the {what} can't be written: {error}");
             if let Some(stop) = stop {
                 stop.begin(&rt);
             }
@@ -270,7 +275,6 @@ where
     let alloc = rt.alloc();
     let service = Service {
         methods,
-        reports: Reports::Nowhere,
         witness: Arc::new(alloc, Witnesses::none())?,
         stop: None,
     };

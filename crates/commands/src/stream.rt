@@ -3,8 +3,11 @@
 ghost use Rattle.std.specs.Prelude.{◌≡◌, ◌<◌};
 
 use crate::log::Logged;
+use crate::reporting::Report;
 use crate::stopping::{Stop, stand_by};
-use connection::{CallReport, Drainer, Ending, Gate, Served, serve_connection, serve_undrained};
+use connection::{
+    CallAccount, ConnReport, Drainer, Ending, Gate, Served, serve_connection, serve_undrained,
+};
 use device::Marked;
 use h2frame::StreamId;
 use handlers::Methods;
@@ -30,7 +33,7 @@ const PARTING_BLIND: u64 = 200;
 /// How long it is between two reads then.
 const STEP: u64 = 20;
 
-/// A connection to a port, and its gate: each call goes on at once. Who reads and who writes share its one descriptor.
+/// A connection to a port. Who reads and who writes share its one descriptor.
 #[derive(Drop)]
 pub struct Link {
     stream: TcpStream,
@@ -58,6 +61,11 @@ impl Link {
         } else {
             Some(self.writes.load(Ordering::SeqCst))
         }
+    }
+
+    /// Shuts it down. Where its peer has ended it, that is refused, and nothing is left to do.
+    fn shut(&self) {
+        let _ = self.stream.shutdown(Shutdown::Both);
     }
 
     /// Whoever reads it sees the end of the input. What is written goes on.
@@ -119,16 +127,53 @@ fn is_silence(error: &io::Error) -> bool {
     )
 }
 
-impl Gate for Link {
+/// The gate of a connection to a port: each call goes on at once, and is reported on once it was settled, where that is wanted.
+#[derive(Drop)]
+struct Door<R, P> {
+    rt: R,
+    alloc: Global,
+    link: Arc<Link>,
+    reporting: Option<P>,
+}
+
+impl<R: Drop, P: Report> Door<R, P> {
+    /// Of this connection, whose calls are reported on there.
+    fn open(
+        rt: R,
+        alloc: Global,
+        link: &Arc<Link>,
+        reporting: &Option<P>,
+    ) -> Result<Arc<Door<R, P>>, AllocError> {
+        let reporting = match reporting {
+            Some(reporting) => Some(reporting.try_clone()?),
+            None => None,
+        };
+        let link = Arc::try_clone(link)?;
+        let door = Door {
+            rt,
+            alloc,
+            link,
+            reporting,
+        };
+        Ok(Arc::new(alloc, door)?)
+    }
+}
+
+impl<R: Wait + Clock, P: Report> Gate for Door<R, P> {
     fn may_go(&self, _id: StreamId) -> bool {
         true
     }
 
     fn trailers_written(&self, _id: StreamId) {}
 
-    /// Shuts the connection down. Where its peer has ended it, that is refused, and nothing is left to do.
     fn writing_ended(&self) {
-        let _ = self.stream.shutdown(Shutdown::Both);
+        self.link.shut();
+    }
+
+    fn settled(&self, account: &CallAccount) {
+        if let Some(reporting) = &self.reporting {
+            reporting.call(&self.rt, self.alloc, account);
+        }
     }
 }
 
@@ -182,57 +227,66 @@ impl<R: Wait + Clock> Write for LinkOutput<R> {
 #[derive(Drop)]
 pub struct Ended {
     pub ending: Ending,
-    /// A row for each call that was admitted.
-    pub calls: Vec<CallReport>,
+    /// How many calls were admitted.
+    pub calls: usize,
+}
+
+impl Ended {
+    fn of(report: &ConnReport) -> Ended {
+        Ended {
+            ending: report.ending,
+            calls: report.calls.len(),
+        }
+    }
 }
 
 /// What a connection is served over.
 #[derive(Drop)]
-struct Ends<R: Wait + Clock + Eprint + Drop> {
+struct Ends<R: Wait + Clock + Eprint + Drop, P> {
     input: Tapped<Marked<LinkInput<R>>, Eye<R>>,
     output: Tapped<Marked<LinkOutput<R>>, Eye<R>>,
-    gate: Arc<Link>,
+    gate: Arc<Door<R, P>>,
 }
 
-/// Serves a connection to its end, shows it to its log and to whoever looks at it, and has it drained where the server stops. It answers its link
-/// too where it was drained, which is to finish and to part. It fails where nothing was read of it.
-pub fn serve_stream<R>(
+/// Serves a connection to its end, shows it to its log and to whoever looks at it, has its calls reported on, and has it drained where the server
+/// stops. It answers its link too where it was drained, which is to finish and to part. It fails where nothing was read of it.
+pub fn serve_stream<R, P>(
     rt: R,
     alloc: Global,
     stream: TcpStream,
     methods: &Arc<Methods>,
     logged: &Option<Logged>,
     eye: Option<Eye<R>>,
+    reporting: &Option<P>,
     stop: &Option<Arc<Stop>>,
 ) -> io::Result<(Ended, Option<Arc<Link>>)>
 where
+    P: Report + Send + Sync + Drop + 'static,
     R: Eprint + Threads + Wait + Clock + Copy + Send + Sync + Drop + 'static,
 {
     // So that a small frame leaves at once.
     stream.set_nodelay(true)?;
     let methods = Arc::try_clone(methods)?;
-    let ends = ends_of(rt, alloc, stream, logged, eye)?;
+    let ends = ends_of(rt, alloc, stream, logged, eye, reporting)?;
     if let Some(stop) = stop {
         let blanks = (Blank::new(1), Blank::new(1), Blank::new(1));
-        return serve_until::<Brand, Brand, Brand, R>(rt, alloc, blanks, ends, methods, stop);
+        return serve_until::<Brand, Brand, Brand, R, P>(rt, alloc, blanks, ends, methods, stop);
     }
     let Ends {
         mut input,
         output,
         gate,
     } = ends;
-    let Served { ending, calls, .. } = serve_undrained(
-        rt, alloc, &mut input, output, methods, gate,
-    );
-    Ok((Ended { ending, calls }, None))
+    let Served { report, .. } = serve_undrained(rt, alloc, &mut input, output, methods, gate);
+    Ok((Ended::of(&report), None))
 }
 
 /// The same, over these ledgers, until the server stops.
-fn serve_until<A, B, C, R>(
+fn serve_until<A, B, C, R, P>(
     rt: R,
     alloc: Global,
     blanks: (Blank, Blank, Blank),
-    ends: Ends<R>,
+    ends: Ends<R, P>,
     methods: Arc<Methods>,
     stop: &Arc<Stop>,
 ) -> io::Result<(Ended, Option<Arc<Link>>)>
@@ -241,39 +295,42 @@ where
     B: Ledger + Send + Sync + 'static,
     C: Ledger + Send + Sync + 'static,
     R: Eprint + Threads + Wait + Clock + Copy + Send + Sync + Drop + 'static,
+    P: Report + Send + Sync + Drop + 'static,
     requires received { (blanks.0.name ≡ A.name) × (blanks.0.parts ≡ A.parts) × (0 < A.parts) }
     requires admitted { (blanks.1.name ≡ B.name) × (blanks.1.parts ≡ B.parts) × (0 < B.parts) }
     requires announced { (blanks.2.name ≡ C.name) × (blanks.2.parts ≡ C.parts) × (0 < C.parts) }
 {
     let (drainer, seat) = Drainer::<A, B, C>::new(alloc, blanks)?;
-    let link = Arc::try_clone(&ends.gate)?;
+    let link = Arc::try_clone(&ends.gate.link)?;
     let standby = stand_by(rt, alloc, stop, drainer, Arc::try_clone(&link)?)?;
     let Ends {
         mut input,
         output,
         gate,
     } = ends;
-    let Served { ending, calls, .. } = serve_connection(
+    let Served { report, .. } = serve_connection(
         rt, alloc, &mut input, output, methods, gate, seat,
     );
     standby.end(&rt);
-    let drained = if ending == Ending::Drained {
+    let drained = if report.ending == Ending::Drained {
         Some(link)
     } else {
         None
     };
-    Ok((Ended { ending, calls }, drained))
+    Ok((Ended::of(&report), drained))
 }
 
 /// Who reads a connection, who writes it, and its gate.
-fn ends_of<R>(
+fn ends_of<R, P>(
     rt: R,
     alloc: Global,
     stream: TcpStream,
     logged: &Option<Logged>,
     eye: Option<Eye<R>>,
-) -> Result<Ends<R>, AllocError>
+    reporting: &Option<P>,
+) -> Result<Ends<R, P>, AllocError>
 where
+    P: Report,
     R: Wait + Clock + Eprint + Copy + Drop,
 {
     let link = Arc::new(alloc, Link::new(stream))?;
@@ -286,7 +343,7 @@ where
         Some(eye) => Some(eye.try_clone()?),
         None => None,
     };
-    let gate = Arc::try_clone(&link)?;
+    let gate = Door::open(rt, alloc, &link, reporting)?;
     let input = Marked::new(LinkInput {
         rt,
         link,

@@ -1,14 +1,14 @@
 //! Who sees the connections of a server: its log, and whoever writes down what passes.
 
-ghost use Rattle.std.specs.Prelude.{IsNone};
+ghost use Rattle.std.specs.Prelude.{IfOk, IsNone};
 
 use crate::log::{Log, Logged};
+use crate::reporting::Reporting;
 use crate::stopping::Connection;
-use crate::stream::Ended;
 use capture::Side;
 use handlers::Methods;
 use recorder::{Eye, Recorder, Sight, look_and_record};
-use std::alloc::Global;
+use std::alloc::{AllocError, Global};
 use std::fs::File;
 use std::net::TcpStream;
 use std::rt::Files;
@@ -31,24 +31,23 @@ pub trait Witness {
     where
         R: Files<File = File> + Wait + Clock + Eprint + Copy + Drop;
 
-    /// Leaves the report on a connection to the log, to be printed behind its lines.
-    fn report<R: Wait + Clock>(
+    /// Where a connection that begins is reported on, if that is wanted.
+    fn reporting(
         &self,
-        rt: &R,
-        alloc: Global,
-        methods: &Methods,
+        methods: &Arc<Methods>,
         connection: Connection,
-        ended: &Ended,
-    );
+    ) -> Result<Option<Reporting>, AllocError>;
 
     /// The file with what passed on a connection, where there is one.
     fn file_of(&self, connection: Connection) -> Option<String>;
 }
 
-/// The log of a server and its recorder, where it has them.
+/// The log of a server, the one that reports on connections, and its recorder, where it has them.
 #[derive(Drop)]
 pub struct Witnesses {
     pub log: Option<Arc<Log>>,
+    /// The same log, or one of no other lines.
+    pub reports: Option<Arc<Log>>,
     pub recorder: Option<Arc<Recorder>>,
 }
 
@@ -57,6 +56,7 @@ impl Witnesses {
     pub fn none() -> Witnesses {
         Witnesses {
             log: None,
+            reports: None,
             recorder: None,
         }
     }
@@ -108,17 +108,16 @@ impl Witness for Witnesses {
         self.eye(rt, stream, connection)
     }
 
-    fn report<R: Wait + Clock>(
+    fn reporting(
         &self,
-        rt: &R,
-        alloc: Global,
-        methods: &Methods,
+        methods: &Arc<Methods>,
         connection: Connection,
-        ended: &Ended,
-    ) {
-        if let Some(log) = &self.log {
-            let file = self.file_of(connection);
-            log.report(rt, alloc, methods, connection, ended, &file);
+    ) -> Result<Option<Reporting>, AllocError>
+        ensures { IsNone self.now.reports → IfOk result (λ reporting. IsNone reporting) }
+    {
+        match &self.reports {
+            Some(log) => Ok(Some(Reporting::new(log, methods, connection)?)),
+            None => Ok(None),
         }
     }
 

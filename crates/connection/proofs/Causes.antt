@@ -10,7 +10,7 @@ use Rattle.callhead.specs.declared.head.CallHead.{CallHead}
 use Rattle.callhead.specs.StatusFields.{refusal_of}
 use Rattle.connbook.specs.declared.answers.AdmitFault.TheVariants as refused
 use Rattle.connbook.specs.declared.answers.Receipt.TheVariants.{Feed, Discard, CallWindow, Overrun}
-use Rattle.connwriter.specs.Orders.{own_order}
+use Rattle.writerloop.specs.OwnOrders.{own_order}
 use Rattle.h2frame.specs.declared.error_code.ErrorCode.{ErrorCode}
 use Rattle.h2frame.specs.declared.error_code.ErrorCode.TheVariants as error
 use Rattle.h2frame.specs.declared.frame.Frame.{Frame}
@@ -28,10 +28,10 @@ use Rattle.session.specs.declared.event.Control.{Control}
 use Rattle.session.specs.declared.event.Control.TheVariants as controls
 use Rattle.session.specs.declared.event.InEvent.{InEvent}
 use Rattle.session.specs.declared.event.InEvent.TheVariants as events
-use Rattle.slots.specs.Calls.{is_admitted}
-use Rattle.slots.specs.Orders.{begun, came, came_loose, cut_code, is_fed, last_stream, named, named_with, news_of, opened, orders_at, orders_by, refused_head, untaken, without_head}
-use Rattle.slots.specs.Steps.{Fate, Plain, Admitted, Unserved, NoWorker, Stopped, Unknown, TurnedAway, Received, Missed, Lacking, Cause, AtEnd, NotLive, Step, Told, CutOff, Drains, Lacks, is_draining, WasTold, admitted, admitted_by, events_of, once}
-use Rattle.slotwriter.specs.Orders.{IsAmong, Obeys}
+use Rattle.readerloop.specs.Calls.{is_admitted}
+use Rattle.readerloop.specs.Orders.{begun, came, came_loose, is_fed, last_stream, named, named_with, news_of, opened, orders_at, orders_by, refused_head, without_head}
+use Rattle.readerloop.specs.Steps.{Fate, Plain, Admitted, Unserved, NoWorker, Stopped, Unknown, TurnedAway, Received, Missed, Lacking, Step, Told, CutOff, Drains, Lacks, is_draining, WasTold, admitted, admitted_by, events_of, once}
+use Rattle.writerloop.specs.Orders.{IsAmong, Obeys}
 use Rattle.connection.specs.Causes.{HasCauseOf, HasOwnCause, HasResetCause, IsRefusal, IsRefusedWith, WasHeard, WasTaken, WasWritten}
 use Rattle.connection.specs.Heard.{HasPut}
 use Rattle.connection.proofs.RunOrders.{Each, EachTaken, IsOfOwn, each-among, each-append, each-more, each-put, obeys-each, taken-one}
@@ -74,7 +74,7 @@ heard-more more step before told was = (more ∷ was.0, ap (λ (steps : List Ste
 pub told-more : (step : Step) (event : InEvent) (told : List Step) → WasTold event told → WasTold event (step ∷ told)
 told-more (Told other fate) event told was =
     (was.0, was.1 ++ other ∷ [], ap (λ (es : List InEvent). es ++ other ∷ []) was.2 ∙ append_assoc was.0 (event ∷ was.1) (other ∷ []))
-told-more (CutOff id why) event told was = was
+told-more (CutOff id) event told was = was
 told-more Drains event told was = was
 told-more Lacks event told was = was
 
@@ -83,15 +83,13 @@ told-now event fate before = (events_of before, [], refl)
 
 own-more : (step : Step) (told : List Step) (id : ℕ) (code : ErrorCode) → HasOwnCause code id told → HasOwnCause code id (step ∷ told)
 own-more step told id error.ProtocolError has = record { fault = has.fault; heard = told-more step (events.BadHead id has.fault) told has.heard; unanswered = has.unanswered }
-own-more step told id error.InternalError has = record { before = has.before; heard = heard-more step (CutOff id (NotLive false)) has.before told has.heard; open_half = has.open_half }
-own-more step told id error.FlowControlError (inl has) = inl (record {
+own-more step told id error.InternalError has = absurd has
+own-more step told id error.FlowControlError has = record {
   piece = has.piece;
   counted = has.counted;
   before = has.before;
   heard = heard-more step (Told (events.Data id has.piece has.counted) (Received CallWindow)) has.before told has.heard;
-})
-own-more step told id error.FlowControlError (inr has) =
-    inr (record { before = has.before; heard = heard-more step (CutOff id (NotLive true)) has.before told has.heard; open_half = has.open_half })
+}
 own-more step told id error.RefusedStream has = record {
   head = has.head;
   fault = has.fault;
@@ -99,14 +97,12 @@ own-more step told id error.RefusedStream has = record {
   heard = heard-more step (Told (events.Open id has.head) (TurnedAway has.fault)) has.before told has.heard;
   refuses = has.refuses;
 }
-own-more step told id error.Cancel has = record { before = has.before; heard = heard-more step (CutOff id AtEnd) has.before told has.heard; open_half = has.open_half }
+own-more step told id error.Cancel has = record { before = has.before; heard = heard-more step (CutOff id) has.before told has.heard; open_half = has.open_half }
 own-more step told id error.EnhanceYourCalm has = record {
   piece = has.piece;
   counted = has.counted;
-  fate = has.fate;
   before = has.before;
-  heard = heard-more step (Told (events.Data id has.piece has.counted) has.fate) has.before told has.heard;
-  unfed = has.unfed;
+  heard = heard-more step (Told (events.Data id has.piece has.counted) Missed) has.before told has.heard;
 }
 own-more step told id error.NoError has = absurd has
 own-more step told id error.SettingsTimeout has = absurd has
@@ -186,24 +182,18 @@ refused-caused last id fault (TurnedAway why) before = (without-caused id fault 
 refused-caused last id fault (Received receipt) before = (without-caused id fault (Received receipt) before (refusal_of fault) refl, tt)
 refused-caused last id fault Missed before = (without-caused id fault Missed before (refusal_of fault) refl, tt)
 
-untaken-caused : (id : ℕ) (piece : List ℕ) (counted : ℕ) (before : List Step) (fed : Bool) → is_fed id before ≡ fed → AreCaused (Told (events.Data id piece counted) (Received Discard) ∷ before) (untaken id piece fed)
-untaken-caused id [] counted before fed is = tt
-untaken-caused id (byte ∷ bytes) counted before true is =
-    (inr (record { piece = byte ∷ bytes; counted = counted; fate = Received Discard; before = before; heard = ([], refl); unfed = inr (refl, (λ none. cc), is) }), tt)
-untaken-caused id (byte ∷ bytes) counted before false is = tt
-
-came-caused : (last id : ℕ) (piece : List ℕ) (counted : ℕ) (fate : Fate) (before : List Step) → AreCaused (Told (events.Data id piece counted) fate ∷ before) (came last id piece (is_fed id before) fate)
-came-caused last id piece counted (Received CallWindow) before = (inr (inl (record { piece = piece; counted = counted; before = before; heard = ([], refl) })), tt)
+came-caused : (last id : ℕ) (piece : List ℕ) (counted : ℕ) (fate : Fate) (before : List Step) → AreCaused (Told (events.Data id piece counted) fate ∷ before) (came last id fate)
+came-caused last id piece counted (Received CallWindow) before = (inr (record { piece = piece; counted = counted; before = before; heard = ([], refl) }), tt)
 came-caused last id piece counted (Received Overrun) before = (tt, tt)
-came-caused last id piece counted (Received Discard) before = untaken-caused id piece counted before (is_fed id before) refl
+came-caused last id piece counted (Received Discard) before = tt
 came-caused last id piece counted (Received Feed) before = tt
-came-caused last id piece counted Missed before = (inr (record { piece = piece; counted = counted; fate = Missed; before = before; heard = ([], refl); unfed = inl refl }), tt)
+came-caused last id piece counted Missed before = (inr (record { piece = piece; counted = counted; before = before; heard = ([], refl) }), tt)
 came-caused last id piece counted Plain before = tt
 came-caused last id piece counted Admitted before = tt
 came-caused last id piece counted (Unserved why) before = tt
 came-caused last id piece counted Unknown before = tt
 came-caused last id piece counted (TurnedAway fault) before = tt
-came-caused last id piece counted Lacking before = tt
+came-caused last id piece counted Lacking before = (tt, tt)
 
 loose-caused : (told : List Step) (last : ℕ) (fate : Fate) → AreCaused told (came_loose last fate)
 loose-caused told last (Received Overrun) = (tt, tt)
@@ -223,14 +213,9 @@ news-caused told (controls.Settings settings) = (tt, tt)
 news-caused told (controls.Ping bytes) = (tt, tt)
 news-caused told (controls.Window id increment) = (tt, tt)
 
-code-caused : (id : ℕ) (why : Cause) (before : List Step) → is_fed id before ≡ true → HasResetCause (cut_code why) id (CutOff id why ∷ before)
-code-caused id AtEnd before fed = inr (record { before = before; heard = ([], refl); open_half = fed })
-code-caused id (NotLive false) before fed = inr (record { before = before; heard = ([], refl); open_half = fed })
-code-caused id (NotLive true) before fed = inr (inr (record { before = before; heard = ([], refl); open_half = fed }))
-
-cut-caused : (id : ℕ) (why : Cause) (before : List Step) (fed : Bool) → is_fed id before ≡ fed → AreCaused (CutOff id why ∷ before) (if fed then Reset id (cut_code why) true ∷ [] else [])
-cut-caused id why before true is = (code-caused id why before is, tt)
-cut-caused id why before false is = tt
+cut-caused : (id : ℕ) (before : List Step) (fed : Bool) → is_fed id before ≡ fed → AreCaused (CutOff id ∷ before) (if fed then Reset id error.Cancel true ∷ [] else [])
+cut-caused id before true is = (inr (record { before = before; heard = ([], refl); open_half = is }), tt)
+cut-caused id before false is = tt
 
 at-caused : (before : List Step) (step : Step) → AreCaused (step ∷ before) (orders_at before step)
 at-caused before (Told (events.Open id head) fate) =
@@ -251,7 +236,7 @@ at-caused before (Told (events.End id) fate) = tt
 at-caused before (Told events.PeerGoaway fate) = tt
 at-caused before Drains = (tt, tt)
 at-caused before Lacks = (tt, tt)
-at-caused before (CutOff id why) = cut-caused id why before (is_fed id before) refl
+at-caused before (CutOff id) = cut-caused id before (is_fed id before) refl
 
 -- ---- of all steps
 

@@ -1,5 +1,5 @@
 -- Each code of a reset has its cause by what came.
-use Rattle.std.proofs.Common.{◌≡◌, ◌≢◌, ◌∙◌, ◌⊎◌, inl, inr, ◌<◌, ◌≤◌, ℕ, Bool, true, false, nat_eq, List, [], ◌∷◌, ◌++◌, Option, None, Some, ap, append-nil, arith, eqb-true, length, length-append, lt_trans, map, refl, subst, sym}
+use Rattle.std.proofs.Common.{◌≡◌, ◌≢◌, ◌∙◌, inl, inr, ◌<◌, ◌≤◌, ℕ, Bool, true, false, nat_eq, List, [], ◌∷◌, ◌++◌, Option, None, Some, ap, append-nil, arith, eqb-true, length, length-append, lt_trans, map, refl, subst, sym}
 use Rattle.std.specs.Prelude.{◌&&◌, ◌||◌, MatchOption, if◌then◌else◌, is_none, unwrap_or}
 use Rattle.std.specs.List.{list_any}
 use Rattle.std.proofs.lemmas.Bool.{cases_Bool}
@@ -7,12 +7,8 @@ use Rattle.std.proofs.lemmas.List.{append_assoc}
 use Rattle.std.proofs.lemmas.List.Folds.{list_any-append}
 use Rattle.std.proofs.lemmas.Grind.{flat_map-append}
 use mathlib.Core.List.{IsPrefix}
-use Rattle.account.specs.declared.call.Shut.{Shut}
-use Rattle.account.specs.declared.call.Shut.TheVariants as shut
 use Rattle.callhead.specs.declared.head.CallHead.{CallHead}
-use Rattle.connbook.specs.declared.answers.Receipt.TheVariants.{Discard}
 use Rattle.h2frame.specs.FrameList.{Entry}
-use Rattle.h2frame.specs.ErrorCode.{error_number}
 use Rattle.h2frame.specs.declared.error_code.ErrorCode.{ErrorCode}
 use Rattle.h2frame.specs.declared.error_code.ErrorCode.TheVariants as error
 use Rattle.h2frame.specs.declared.frame.Frame.{Frame}
@@ -22,9 +18,8 @@ use Rattle.outwriter.specs.Frames.{reset_frame}
 use Rattle.outwriter.specs.Runs.{IsLawful}
 use Rattle.outwriter.specs.Steps.{Order}
 use Rattle.outwriter.specs.Steps.{Step as RunStep}
-use Rattle.callslot.specs.declared.report.CallReport.{CallReport}
-use Rattle.callslot.specs.declared.report.Ending.{Ending}
-use Rattle.callslot.specs.declared.report.Ending.TheVariants.{Drained, InputEnded as HasEnded, OutOfMemory, PeerGoaway, ProtocolError, ReadFailed, WriteFailed}
+use Rattle.callparts.specs.declared.call_account.CallAccount.{CallAccount}
+use Rattle.callparts.specs.declared.report.Ending.{Ending}
 use Rattle.session.specs.declared.event.InEvent.{InEvent}
 use Rattle.session.specs.declared.event.InEvent.TheVariants as events
 use Rattle.session.specs.Events.{Events}
@@ -32,22 +27,21 @@ use Rattle.session.specs.Framings.{Framed}
 use Rattle.session.specs.Openings.{AreRising, RiseFrom, opening_of, openings}
 use Rattle.session.specs.StreamData.{ending_told, piece_of, pieces}
 use Rattle.session.proofs.OpeningOrder.{events_rise}
-use Rattle.slots.specs.Calls.{is_admitted}
-use Rattle.slots.specs.Orders.{IsDue, is_fed, orders_by}
-use Rattle.slots.specs.Reports.{AreHeard}
-use Rattle.slots.specs.Steps.{AtEnd, Cause, Fate, IsRising, Missed, NotLive, Received, Step, Told, CutOff, Drains, Lacks, TurnedAway, admitted, admitted_by, data_at, earlier, events_of, fed_by, last_of, lost, once, reported, reported_by, shut_at, shut_by, since, unless}
-use Rattle.slots.proofs.EndLemmas.{fed-front, quiet-open}
-use Rattle.slots.proofs.HalfLemmas.{same_number}
-use Rattle.slots.proofs.LawLemmas.{pieces-push}
-use Rattle.slots.proofs.Seats.{known-step, since-step}
-use Rattle.slotwriter.specs.Left.{left_in}
-use Rattle.slotwriter.specs.Orders.{IsAmong, Obeys}
+use Rattle.readerloop.specs.Calls.{is_admitted}
+use Rattle.readerloop.specs.Orders.{IsDue, is_fed, orders_by}
+use Rattle.readerloop.specs.Reports.{AreHeard}
+use Rattle.readerloop.specs.Steps.{Closing, Fate, IsRising, Missed, Step, Told, CutOff, Drains, Lacks, TurnedAway, admitted, admitted_by, closing_at, closing_by, data_at, earlier, events_of, fails_as, fed_by, last_of, lost, once, reported, reported_by, since, unless}
+use Rattle.readerloop.proofs.EndLemmas.{fed-front, quiet-open}
+use Rattle.readerloop.proofs.HalfLemmas.{same_number}
+use Rattle.readerloop.proofs.LawLemmas.{pieces-push}
+use Rattle.readerloop.proofs.CallSteps.{known-step, since-step}
+use Rattle.writerloop.specs.Left.{left_in}
+use Rattle.writerloop.specs.Orders.{IsAmong, Obeys}
 use Rattle.connection.specs.Causes.{HasCauseOf, HasOwnCause, HasWriterCause, LacksData, WasCut, WasOpened, WasTaken, WasWritten}
-use Rattle.connection.specs.Codes.{HasCodeCause, IsOverrun, MayHaveCode, MissesData, WasUnended}
+use Rattle.connection.specs.Codes.{HasCodeCause, MayHaveCode, MissesData, WasUnended}
 use Rattle.connection.specs.Heard.{HasPut}
-use Rattle.connection.specs.Left.{AreLeft, WasLeft}
-use Rattle.connection.specs.Limits.{AreJustified, EndsLast, IsJustified}
-use Rattle.connection.specs.Overrun.{AreOverrun}
+use Rattle.connection.specs.Left.{AreLeft}
+use Rattle.connection.specs.Limits.{AreJustified, EndsLast}
 use Rattle.connection.proofs.Causes.{IsCaused, put-caused, taken-resets}
 use Rattle.connection.proofs.Heard.{silent-more}
 use Rattle.connection.proofs.Limits.{all-began, all-below, justified-at, one-too-many, over-window, parts-at}
@@ -63,7 +57,7 @@ or-false : (b : Bool) → (b || false) ≡ true → b ≡ true
 or-false true is = refl
 or-false false is = is
 
-none-of : (found : Option Shut) → is_none found ≡ true → found ≡ None
+none-of : (found : Option Closing) → is_none found ≡ true → found ≡ None
 none-of None is = refl
 none-of (Some kind) is = absurd cc
 
@@ -96,19 +90,19 @@ since-more id (step ∷ later) rest rising known =
     since-step (later ++ rest) step id rising.0 (known-below id (later ++ rest) rising.1 (known-more id later rest known))
     ∙ ap (λ (steps : List Step). step ∷ steps) (since-more id later rest rising.1 known)
 
-fed-parts : (id : ℕ) (told : List Step) → is_fed id told ≡ true → (is_admitted id told ≡ true) × (shut_by id (since id told) ≡ None)
+fed-parts : (id : ℕ) (told : List Step) → is_fed id told ≡ true → (is_admitted id told ≡ true) × (closing_by id (since id told) ≡ None)
 fed-parts id told is =
-    let both = and-both (is_admitted id told) (is_none (shut_by id (since id told))) is in
-    (both.0, none-of (shut_by id (since id told)) both.1)
+    let both = and-both (is_admitted id told) (is_none (closing_by id (since id told))) is in
+    (both.0, none-of (closing_by id (since id told)) both.1)
 
 -- ---- 8
 
-was-unended : (told : List Step) (id : ℕ) → IsRising told → EndsLast told → WasCut AtEnd id told → WasUnended id told
+was-unended : (told : List Step) (id : ℕ) → IsRising told → EndsLast told → WasCut id told → WasUnended id told
 was-unended told id rising ends was =
     let later = was.heard.0 in
-    let rest = CutOff id AtEnd ∷ was.before in
+    let rest = CutOff id ∷ was.before in
     let parts = fed-parts id was.before was.open_half in
-    let known : is_admitted id rest ≡ true = known-more id (CutOff id AtEnd ∷ []) was.before parts.0 in
+    let known : is_admitted id rest ≡ true = known-more id (CutOff id ∷ []) was.before parts.0 in
     let split : since id told ≡ later ++ since id rest =
     ap (λ (steps : List Step). since id steps) was.heard.1 ∙ since-more id later rest (subst (λ (steps : List Step). IsRising steps) was.heard.1 rising) known in
     let silent : events_of later ≡ [] = cut-last id ends.cuts ends.heard later was.before (sym ends.parts ∙ was.heard.1) ends.silent ends.going in (
@@ -119,18 +113,18 @@ was-unended told id rising ends was =
 
 -- ---- 11
 
-least : (shut : Option Shut) (bytes : List ℕ) → length (unless shut bytes) ≤ length bytes
+least : (closing : Option Closing) (bytes : List ℕ) → length (unless closing bytes) ≤ length bytes
 least None bytes = omega arith
 least (Some kind) bytes = omega arith
 
-no-bytes : (found : Option Shut) → length (unless found []) ≡ 0
+no-bytes : (found : Option Closing) → length (unless found []) ≡ 0
 no-bytes None = refl
 no-bytes (Some kind) = refl
 
 short-step : (id : ℕ) (step : Step) (before : List Step) → length (fed_by id before) < length (pieces id (events_of before))
     → length (fed_by id (step ∷ before)) < length (pieces id (events_of (step ∷ before)))
 short-step id (Told event fate) before short =
-    let found = shut_by id (Told event fate ∷ before) in
+    let found = closing_by id (Told event fate ∷ before) in
     omega (
       arith,
       short,
@@ -139,12 +133,12 @@ short-step id (Told event fate) before short =
       ap (λ (bytes : List ℕ). length bytes) (pieces-push id (events_of before) event),
       length-append (pieces id (events_of before)) (piece_of id event),
     )
-short-step id (CutOff other why) before short =
-    let found = shut_by id (CutOff other why ∷ before) in omega (arith, short, length-append (fed_by id before) (unless found []), no-bytes found)
+short-step id (CutOff other) before short =
+    let found = closing_by id (CutOff other ∷ before) in omega (arith, short, length-append (fed_by id before) (unless found []), no-bytes found)
 short-step id Drains before short =
-    let found = shut_by id (Drains ∷ before) in omega (arith, short, length-append (fed_by id before) (unless found []), no-bytes found)
+    let found = closing_by id (Drains ∷ before) in omega (arith, short, length-append (fed_by id before) (unless found []), no-bytes found)
 short-step id Lacks before short =
-    let found = shut_by id (Lacks ∷ before) in omega (arith, short, length-append (fed_by id before) (unless found []), no-bytes found)
+    let found = closing_by id (Lacks ∷ before) in omega (arith, short, length-append (fed_by id before) (unless found []), no-bytes found)
 
 -- what came more was fed at most
 short-more : (id : ℕ) (later rest : List Step) → length (fed_by id rest) < length (pieces id (events_of rest)) → length (fed_by id (later ++ rest)) < length (pieces id (events_of (later ++ rest)))
@@ -155,23 +149,19 @@ some-bytes : (piece : List ℕ) → piece ≢ [] → 0 < length piece
 some-bytes [] some = absurd (some refl)
 some-bytes (byte ∷ bytes) some = omega arith
 
-has-lost : (piece : List ℕ) (fate : Fate) → piece ≢ [] → (fate ≡ Missed) ⊎ (fate ≡ Received Discard) → (kind : Shut) × (lost piece fate ≡ Some kind)
-has-lost piece fate some (inl is) = (shut.Reset (error_number error.EnhanceYourCalm), ap (λ (f : Fate). lost piece f) is)
-has-lost [] fate some (inr is) = absurd (some refl)
-has-lost (byte ∷ bytes) fate some (inr is) = (shut.Reset (error_number error.Cancel), ap (λ (f : Fate). lost (byte ∷ bytes) f) is)
-
-none-fed : (found : Option Shut) (kind : Shut) (bytes : List ℕ) → unless (earlier found (Some kind)) bytes ≡ []
+none-fed : (found : Option Closing) (kind : Closing) (bytes : List ℕ) → unless (earlier found (Some kind)) bytes ≡ []
 none-fed None kind bytes = refl
 none-fed (Some other) kind bytes = refl
 
--- a piece with bytes that shuts the half is not fed
-short-here : (id counted : ℕ) (piece : List ℕ) (fate : Fate) (kind : Shut) (before : List Step) → piece ≢ [] → lost piece fate ≡ Some kind
-    → length (fed_by id (Told (events.Data id piece counted) fate ∷ before)) < length (pieces id (events_of (Told (events.Data id piece counted) fate ∷ before)))
-short-here id counted piece fate kind before some loses =
-    let step = Told (events.Data id piece counted) fate in
-    let shuts : shut_at id step ≡ Some kind = ap (λ (b : Bool). if b then lost piece fate else None) (same_number id) ∙ loses in
-    let unfed : unless (shut_by id (step ∷ before)) (data_at id step) ≡ [] =
-    ap (λ (found : Option Shut). unless (earlier (shut_by id before) found) (data_at id step)) shuts ∙ none-fed (shut_by id before) kind (data_at id step) in
+-- a piece with bytes that its lane refuses is not fed
+short-here : (id counted : ℕ) (piece : List ℕ) (before : List Step) → piece ≢ []
+    → length (fed_by id (Told (events.Data id piece counted) Missed ∷ before)) < length (pieces id (events_of (Told (events.Data id piece counted) Missed ∷ before)))
+short-here id counted piece before some =
+    let step = Told (events.Data id piece counted) Missed in
+    let kind = fails_as error.EnhanceYourCalm in
+    let closes : closing_at id step ≡ Some kind = ap (λ (b : Bool). if b then lost piece Missed else None) (same_number id) in
+    let unfed : unless (closing_by id (step ∷ before)) (data_at id step) ≡ [] =
+    ap (λ (found : Option Closing). unless (earlier (closing_by id before) found) (data_at id step)) closes ∙ none-fed (closing_by id before) kind (data_at id step) in
     let brings : piece_of id (events.Data id piece counted) ≡ piece = ap (λ (b : Bool). if b then piece else []) (same_number id) in
     let front = fed-front id before in
     omega (
@@ -190,23 +180,17 @@ not-less n m less same = omega (arith, less, same)
 misses-data : (told : List Step) (id : ℕ) → IsRising told → AreJustified told → LacksData id told → MissesData id told
 misses-data told id rising just lacks =
     let later = lacks.heard.0 in
-    let step = Told (events.Data id lacks.piece lacks.counted) lacks.fate in
+    let step = Told (events.Data id lacks.piece lacks.counted) Missed in
     let rest = step ∷ lacks.before in
-    let due = is-due lacks.unfed (justified-at later step lacks.before (subst (λ (steps : List Step). AreJustified steps) lacks.heard.1 just)) in
-    let known : is_admitted id rest ≡ true = known-more id (step ∷ []) lacks.before (fed-parts id lacks.before due.0.1).0 in
+    let due : IsDue id lacks.piece lacks.before = justified-at later step lacks.before (subst (λ (steps : List Step). AreJustified steps) lacks.heard.1 just) in
+    let known : is_admitted id rest ≡ true = known-more id (step ∷ []) lacks.before (fed-parts id lacks.before due.1).0 in
     let split : since id told ≡ later ++ since id rest =
     ap (λ (steps : List Step). since id steps) lacks.heard.1 ∙ since-more id later rest (subst (λ (steps : List Step). IsRising steps) lacks.heard.1 rising) known in
-    let loses = has-lost lacks.piece lacks.fate due.0.0 due.1 in
-    let short = short-more id later (since id rest) (short-here id lacks.counted lacks.piece lacks.fate loses.0 (since id lacks.before) due.0.0 loses.1) in
+    let short = short-more id later (since id rest) (short-here id lacks.counted lacks.piece (since id lacks.before) due.0) in
     let all = subst (λ (steps : List Step). length (fed_by id steps) < length (pieces id (events_of steps))) (sym split) short in (
       subst (λ (steps : List Step). is_admitted id steps ≡ true) (sym lacks.heard.1) (known-more id later rest known),
       λ same. not-less (length (fed_by id (since id told))) (length (pieces id (events_of (since id told)))) all (ap (λ (bytes : List ℕ). length bytes) same),
     )
-  where
-    is-due : (lacks.fate ≡ Missed) ⊎ ((lacks.fate ≡ Received Discard) × (lacks.piece ≢ []) × (is_fed id lacks.before ≡ true)) → IsJustified (Told (events.Data id lacks.piece lacks.counted) lacks.fate) lacks.before
-        → IsDue id lacks.piece lacks.before × ((lacks.fate ≡ Missed) ⊎ (lacks.fate ≡ Received Discard))
-    is-due (inl missed) may = (subst (λ (fate : Fate). IsJustified (Told (events.Data id lacks.piece lacks.counted) fate) lacks.before) missed may, inl missed)
-    is-due (inr (received, some, fed)) may = ((some, fed), inr received)
 
 -- ---- 7
 
@@ -260,11 +244,6 @@ is-apart came all told later id head fate before are front is none =
 
 -- ---- 2
 
-cut-known : (id : ℕ) (why : Cause) (told : List Step) → WasCut why id told → is_admitted id told ≡ true
-cut-known id why told was =
-    subst (λ (steps : List Step). is_admitted id steps ≡ true) (sym was.heard.1)
-    (known-more id was.heard.0 (CutOff id why ∷ was.before) (known-more id (CutOff id why ∷ []) was.before (fed-parts id was.before was.open_half).0))
-
 among-front : (order : Order) (front rest : List Order) → IsAmong order front → IsAmong order (front ++ rest)
 among-front order [] rest among = absurd among
 among-front order (one ∷ front) rest (inl is) = inl is
@@ -277,33 +256,13 @@ opened-known told put id has opened =
 
 -- ---- all
 
-ran-out : (end : Ending) → (end ≡ OutOfMemory) ⊎ (end ≢ OutOfMemory)
-ran-out OutOfMemory = inl refl
-ran-out HasEnded = inr (λ is. cc)
-ran-out PeerGoaway = inr (λ is. cc)
-ran-out (ProtocolError code) = inr (λ is. cc)
-ran-out ReadFailed = inr (λ is. cc)
-ran-out WriteFailed = inr (λ is. cc)
-ran-out Drained = inr (λ is. cc)
-
-module _ (end : Ending) (came : List ℕ) (told : List Step) (put : List Order) (run : List RunStep) (given : List InEvent) (entries : List Entry) (rows : List CallReport)
+module _ (end : Ending) (came : List ℕ) (told : List Step) (put : List Order) (run : List RunStep) (given : List InEvent) (entries : List Entry) (accounts : List CallAccount)
     (heard : AreHeard end came (events_of told)) (rising : IsRising told) (just : AreJustified told) (ends : EndsLast told)
-    (are : Events came given) (framed : Framed came given entries) (left : end ≢ OutOfMemory → AreLeft (left_in run) rows) (streams : map (λ (row : CallReport). row.id) rows ≡ reported told)
-    (overran : end ≢ OutOfMemory → AreOverrun told run) where
-  left-so : (id : ℕ) → is_admitted id told ≡ true → WasTaken (Reset id error.InternalError true) run → end ≢ OutOfMemory → WasLeft id rows
-  left-so id known was = λ spared. was-left id told run rows (left spared) streams known was
-
-  overrun-so : (id : ℕ) → WasCut (NotLive true) id told → IsOverrun end id told run
-  overrun-so id was = elim (ran-out end) [
-    | inl lacked ↦ inr (lacked, was)
-    | inr spared ↦ inl (overran spared id was)
-  ]
-
-  own-code : (id : ℕ) (code : ErrorCode) → WasTaken (Reset id code true) run → HasOwnCause code id told → HasCodeCause end code id entries told put run rows
+    (are : Events came given) (framed : Framed came given entries) (left : AreLeft (left_in run) accounts) (streams : map (λ (account : CallAccount). account.id) accounts ≡ reported told) where
+  own-code : (id : ℕ) (code : ErrorCode) → WasTaken (Reset id code true) run → HasOwnCause code id told → HasCodeCause code id entries told put run accounts
   own-code id error.ProtocolError was has = has
-  own-code id error.InternalError was has = (inr has, left-so id (cut-known id (NotLive false) told has) was)
-  own-code id error.FlowControlError was (inl has) = inl (over-window came given entries told id framed (heard.front given are) just has)
-  own-code id error.FlowControlError was (inr has) = inr (overrun-so id has)
+  own-code id error.InternalError was has = absurd has
+  own-code id error.FlowControlError was has = inl (over-window came given entries told id framed (heard.front given are) just has)
   own-code id error.RefusedStream was has = (
     one-too-many came given told id are (heard.front given are) just has,
     is-apart came given told has.heard.0 id has.head (TurnedAway has.fault) has.before are (heard.front given are) has.heard.1 refl,
@@ -321,9 +280,9 @@ module _ (end : Ending) (came : List ℕ) (told : List Step) (put : List Order) 
   own-code id (error.Unknown number) was has = absurd has
 
   module _ (has : HasPut (orders_by told ++ InputEnded ∷ []) put) where
-    writer-code : (id : ℕ) (code : ErrorCode) → WasTaken (Reset id code true) run → HasWriterCause code id put run → HasCodeCause end code id entries told put run rows
-    writer-code id error.InternalError was opened = (inl opened, left-so id (opened-known told put id has opened) was)
-    writer-code id error.FlowControlError was would = inr (inl would)
+    writer-code : (id : ℕ) (code : ErrorCode) → WasTaken (Reset id code true) run → HasWriterCause code id put run → HasCodeCause code id entries told put run accounts
+    writer-code id error.InternalError was opened = (opened, was-left id told run accounts left streams (opened-known told put id has opened) was)
+    writer-code id error.FlowControlError was would = inr would
     writer-code id error.ProtocolError was none = absurd none
     writer-code id error.RefusedStream was none = absurd none
     writer-code id error.Cancel was none = absurd none
@@ -338,16 +297,16 @@ module _ (end : Ending) (came : List ℕ) (told : List Step) (put : List Order) 
     writer-code id error.Http11Required was none = absurd none
     writer-code id (error.Unknown number) was none = absurd none
 
-    code-of : (id : ℕ) (code : ErrorCode) → WasTaken (Reset id code true) run → HasCauseOf code id told put run → MayHaveCode end code id entries told put run rows
+    code-of : (id : ℕ) (code : ErrorCode) → WasTaken (Reset id code true) run → HasCauseOf code id told put run → MayHaveCode code id entries told put run accounts
     code-of id code was (inl (inl error)) = inl error
     code-of id code was (inl (inr own)) = inr (own-code id code was own)
     code-of id code was (inr writers) = inr (writer-code id code was writers)
 
-    pub order-codes : Obeys true put run → (id : ℕ) (code : ErrorCode) → WasTaken (Reset id code true) run → MayHaveCode end code id entries told put run rows
+    pub order-codes : Obeys true put run → (id : ℕ) (code : ErrorCode) → WasTaken (Reset id code true) run → MayHaveCode code id entries told put run accounts
     order-codes obeys id code was = code-of id code was (taken-resets told put run id code has obeys was)
 
     pub reset-codes : Obeys true put run → IsLawful run → (frame : Frame) → WasWritten frame run → frame.head.kind ≡ RstStream
-        → (code : ErrorCode) × (frame ≡ reset_frame frame.head.stream code) × MayHaveCode end code frame.head.stream entries told put run rows
+        → (code : ErrorCode) × (frame ≡ reset_frame frame.head.stream code) × MayHaveCode code frame.head.stream entries told put run accounts
     reset-codes obeys lawful frame was is =
         let found = written-ordered run lawful frame was is in
         (found.0, found.1, order-codes obeys frame.head.stream found.0 found.2)

@@ -1,7 +1,7 @@
 -- What is told on the connection is at most what was heard.
 use Rattle.std.proofs.Common.{◌≤◌, ap, arith, ℕ, Bool, List, Option}
 use Rattle.std.proofs.lemmas.List.Sums.{sum_by-append}
-use Rattle.callslot.specs.declared.report.Ending.{Ending}
+use Rattle.callparts.specs.declared.report.Ending.{Ending}
 use Rattle.h2frame.specs.FrameList.{Entry}
 use Rattle.outwriter.specs.Credit.{updated}
 use Rattle.outwriter.specs.Steps.{Order}
@@ -12,9 +12,9 @@ use Rattle.session.specs.Events.{Events}
 use Rattle.session.specs.FlowBytes.{counted_by, counted_told, payloads}
 use Rattle.session.specs.Framings.{Framed}
 use Rattle.session.proofs.FlowTold.{told_within}
-use Rattle.slots.specs.Reports.{AreHeard}
-use Rattle.slots.specs.Steps.{Step, events_of}
-use Rattle.slotwriter.specs.Written.{HasWritten}
+use Rattle.readerloop.specs.Reports.{AreHeard}
+use Rattle.readerloop.specs.Steps.{Step, events_of}
+use Rattle.writerloop.specs.Written.{HasWritten}
 
 -- what was written tells no more than was granted
 pub told-within : {W : Type 0} {faultless : Bool} (contents : W → Option (List ℕ)) (failed : W → Bool) (before : Option (List ℕ)) (credit : ℕ) (orders : List Order) (ending : Option Ending) (device : W) (bound : ℕ)

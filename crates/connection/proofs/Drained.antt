@@ -5,9 +5,9 @@ use Rattle.callhead.specs.declared.fault.HeadFault.{HeadFault}
 use Rattle.callhead.specs.StatusFields.{refusal_of}
 use Rattle.connbook.specs.declared.answers.AdmitFault.TheVariants as refused
 use Rattle.connbook.specs.declared.answers.Receipt.TheVariants.{Feed, Discard, CallWindow, Overrun}
-use Rattle.connwriter.specs.Orders.{own_order}
+use Rattle.writerloop.specs.OwnOrders.{own_order}
 use Rattle.h2frame.specs.declared.error_code.ErrorCode.{ErrorCode}
-use Rattle.h2frame.specs.declared.error_code.ErrorCode.TheVariants.{NoError, FlowControlError}
+use Rattle.h2frame.specs.declared.error_code.ErrorCode.TheVariants.{NoError, FlowControlError, Cancel}
 use Rattle.h2frame.specs.declared.frame.Frame.{Frame}
 use Rattle.lists.specs.declared.field.Field.{Field}
 use Rattle.outwriter.specs.declared.control.Control.TheVariants.{Goaway, Reset, InputEnded, Close}
@@ -24,10 +24,10 @@ use Rattle.session.specs.declared.event.Control.{Control as News}
 use Rattle.session.specs.declared.event.Control.TheVariants as news
 use Rattle.session.specs.declared.event.InEvent.{InEvent}
 use Rattle.session.specs.declared.event.InEvent.TheVariants as events
-use Rattle.slots.specs.Orders.{begun, came, came_loose, cut_code, ends_at, ends_by, greatest, is_fed, last_stream, named, named_with, news_of, opened, orders_at, orders_by, refused_head, untaken, without_head}
-use Rattle.slots.specs.Reports.{AreCalm}
-use Rattle.slots.specs.Steps.{AdmitsNoMore, NoWorker, Stopped, Fate, Plain, Admitted, Unserved, Unknown, TurnedAway, Received, Missed, Lacking, Step, Told, CutOff, Drains, Lacks, is_draining, reported, reported_by}
-use Rattle.slotwriter.specs.Orders.{HasTaken, IsAnswer, Obeys, ResetsCall, Warns}
+use Rattle.readerloop.specs.Orders.{begun, came, came_loose, ends_at, ends_by, greatest, is_fed, last_stream, named, named_with, news_of, opened, orders_at, orders_by, refused_head, without_head}
+use Rattle.readerloop.specs.Reports.{AreCalm}
+use Rattle.readerloop.specs.Steps.{AdmitsNoMore, NoWorker, Stopped, Fate, Plain, Admitted, Unserved, Unknown, TurnedAway, Received, Missed, Lacking, Step, Told, CutOff, Drains, Lacks, is_draining, reported, reported_by}
+use Rattle.writerloop.specs.Orders.{HasTaken, IsAnswer, Obeys, ResetsCall, Warns}
 
 -- that of the last Goaway among orders, the earliest of which is first
 abbrev goaway_in : List Order → Option Frame
@@ -123,23 +123,18 @@ refused-none last id fault (TurnedAway why) calm = without-none id (refusal_of f
 refused-none last id fault (Received receipt) calm = without-none id (refusal_of fault)
 refused-none last id fault Missed calm = without-none id (refusal_of fault)
 
-untaken-none : (id : ℕ) (piece : List ℕ) (fed : Bool) → goaway_in (untaken id piece fed) ≡ None
-untaken-none id [] fed = refl
-untaken-none id (byte ∷ bytes) true = refl
-untaken-none id (byte ∷ bytes) false = refl
-
-came-none : (last id : ℕ) (piece : List ℕ) (fed : Bool) (fate : Fate) → ends_by fate ≡ None → goaway_in (came last id piece fed fate) ≡ None
-came-none last id piece fed (Received CallWindow) calm = refl
-came-none last id piece fed (Received Overrun) calm = absurd cc
-came-none last id piece fed (Received Discard) calm = untaken-none id piece fed
-came-none last id piece fed (Received Feed) calm = refl
-came-none last id piece fed Missed calm = refl
-came-none last id piece fed Plain calm = refl
-came-none last id piece fed Admitted calm = refl
-came-none last id piece fed (Unserved why) calm = refl
-came-none last id piece fed Unknown calm = refl
-came-none last id piece fed (TurnedAway fault) calm = refl
-came-none last id piece fed Lacking calm = refl
+came-none : (last id : ℕ) (fate : Fate) → ends_by fate ≡ None → goaway_in (came last id fate) ≡ None
+came-none last id (Received CallWindow) calm = refl
+came-none last id (Received Overrun) calm = absurd cc
+came-none last id (Received Discard) calm = refl
+came-none last id (Received Feed) calm = refl
+came-none last id Missed calm = refl
+came-none last id Plain calm = refl
+came-none last id Admitted calm = refl
+came-none last id (Unserved why) calm = refl
+came-none last id Unknown calm = refl
+came-none last id (TurnedAway fault) calm = refl
+came-none last id Lacking calm = absurd cc
 
 loose-none : (last : ℕ) (fate : Fate) → ends_by fate ≡ None → goaway_in (came_loose last fate) ≡ None
 loose-none last (Received Overrun) calm = absurd cc
@@ -174,7 +169,7 @@ event-none before (events.Open id head) fate draining calm =
 event-none before (events.BadHead id fault) fate draining calm =
     behind-last id (is_draining before) (begun before) (refused_head (named_with id (is_draining before) (named before)) id fault fate) draining
     ∙ refused-none (named_with id (is_draining before) (named before)) id fault fate calm
-event-none before (events.Data id piece counted) fate draining calm = came-none (named before) id piece (is_fed id before) fate calm
+event-none before (events.Data id piece counted) fate draining calm = came-none (named before) id fate calm
 event-none before (events.Loose counted) fate draining calm = loose-none (named before) fate calm
 event-none before (events.Reset id code) fate draining calm = refl
 event-none before (events.StreamError id code) fate draining calm = refl
@@ -207,8 +202,8 @@ drain-names (Drains ∷ before) calm closed draining =
 drain-names (Lacks ∷ before) calm closed draining = absurd (none-ends calm.0)
 drain-names (Told event fate ∷ before) calm closed draining =
     names-still before (Told event fate) (event-none before event fate draining calm.0) (closed.0 draining) (drain-names before calm.1 closed.1 draining)
-drain-names (CutOff id why ∷ before) calm closed draining =
-    names-still before (CutOff id why) (cut-none id (cut_code why) (is_fed id before)) refl (drain-names before calm.1 closed.1 draining)
+drain-names (CutOff id ∷ before) calm closed draining =
+    names-still before (CutOff id) (cut-none id Cancel (is_fed id before)) refl (drain-names before calm.1 closed.1 draining)
 
 -- the last GOAWAY that is written has no error, and names the greatest stream whose call was admitted
 pub has-drained : (told : List Step) (put : List Order) (run : List RunStep) → AreCalm told → AdmitsNoMore told → is_draining told ≡ true → put ≡ orders_by told ++ InputEnded ∷ Close ∷ []

@@ -1,11 +1,11 @@
--- Which calls were left: by the orders that their streams are reset by, and by their rows.
+-- Which calls were left: by the orders that their streams are reset by, and by their accounts.
 use Rattle.std.proofs.Common.{◌≡◌, ◌∙◌, ◌⊎◌, inl, inr, ℕ, zero, suc, Bool, true, false, true≢false, nat_eq, List, [], ◌∷◌, ◌++◌, Option, None, Some, ap, arith, eqb-true, map, refl, subst, sym}
-use Rattle.std.specs.Prelude.{◌&&◌, ◌||◌, Contains, is_some}
+use Rattle.std.specs.Prelude.{◌||◌, Contains}
 use Rattle.std.specs.List.{list_any}
-use Rattle.std.proofs.lemmas.Bool.{cases_Bool, eq-eqb}
-use Rattle.std.proofs.lemmas.List.Elements.{All-cons, All-contains, All-nil, Contains-append_left, Contains-append_right}
-use Rattle.std.proofs.lemmas.List.Folds.{list_any-append, list_any_at}
-use Rattle.callslot.specs.declared.report.CallReport.{CallReport}
+use Rattle.std.proofs.lemmas.Bool.{cases_Bool}
+use Rattle.std.proofs.lemmas.List.Elements.{All-contains, Contains-append_left, Contains-append_right}
+use Rattle.std.proofs.lemmas.List.Folds.{list_any-append}
+use Rattle.callparts.specs.declared.call_account.CallAccount.{CallAccount}
 use Rattle.h2frame.specs.declared.error_code.ErrorCode.{ErrorCode}
 use Rattle.h2frame.specs.declared.error_code.ErrorCode.TheVariants as error
 use Rattle.h2frame.specs.declared.frame.Frame.{Frame}
@@ -15,36 +15,12 @@ use Rattle.outwriter.specs.Frames.{reset_frame}
 use Rattle.outwriter.specs.Runs.{Asks, IsAsked, IsLawful}
 use Rattle.outwriter.specs.Steps.{Order, Taken, Granted, Written, Returned}
 use Rattle.outwriter.specs.Steps.{Step as RunStep}
-use Rattle.outwriter.proofs.Leads.{either-false}
 use Rattle.session.specs.declared.event.InEvent.TheVariants as events
-use Rattle.slots.specs.Calls.{is_admitted}
-use Rattle.slots.specs.Steps.{Plain, Admitted, Unserved, Unknown, TurnedAway, Received, Missed, Lacking, Step, Told, CutOff, Drains, Lacks, admitted, admitted_by, once, reported, reported_by}
-use Rattle.slotwriter.specs.Left.{AreNoted, left_by, left_in}
+use Rattle.readerloop.specs.Calls.{is_admitted}
+use Rattle.readerloop.specs.Steps.{Plain, Admitted, Unserved, Unknown, TurnedAway, Received, Missed, Lacking, Step, Told, CutOff, Drains, Lacks, admitted, admitted_by, once, reported, reported_by}
+use Rattle.writerloop.specs.Left.{left_by, left_in}
 use Rattle.connection.specs.Causes.{WasTaken, WasWritten}
-use Rattle.connection.specs.Left.{AreLeft, WasLeft, is_answered_of}
-
--- ---- the look at the join
-
-one-left : (streams : List ℕ) (row : CallReport) → is_answered_of streams row ≡ false → Contains streams row.id → row.status ≡ None
-one-left streams row none there = by row.status refl
-  where
-    among : list_any (λ (one : ℕ). nat_eq one row.id) streams ≡ true
-    among = list_any_at (λ (one : ℕ). nat_eq one row.id) streams there.0 row.id there.1 (eq-eqb _ _ there.2)
-
-    by : (found : Option ℕ) → row.status ≡ found → row.status ≡ None
-    by None is = is
-    by (Some status) is =
-        absurd (true≢false (sym (ap (λ (o : Option ℕ). is_some o && list_any (λ (one : ℕ). nat_eq one row.id) streams) is ∙ among) ∙ none))
-
-pub are-left : (streams : List ℕ) (rows : List CallReport) → list_any (λ (row : CallReport). is_answered_of streams row) rows ≡ false → AreLeft streams rows
-are-left streams [] none = All-nil (λ (row : CallReport). Contains streams row.id → row.status ≡ None)
-are-left streams (row ∷ rows) none =
-    let both = either-false (is_answered_of streams row) (list_any (λ (one : CallReport). is_answered_of streams one) rows) none in
-    All-cons (λ (one : CallReport). Contains streams one.id → one.status ≡ None) row rows (one-left streams row both.0) (are-left streams rows both.1)
-
--- all streams that were reset so are among these
-pub left-noted : (streams : List ℕ) (run : List RunStep) (rows : List CallReport) → AreNoted streams run → AreLeft streams rows → AreLeft (left_in run) rows
-left-noted streams run rows noted left k d within there = left k d within (noted _ there)
+use Rattle.connection.specs.Left.{AreLeft, WasLeft}
 
 -- ---- the orders
 
@@ -94,7 +70,7 @@ written-ordered (Written found ∷ before) lawful frame (inl same) is =
     let asked = lawful.1.asked (sym (ap (λ (f : Frame). f.head.kind) same) ∙ is) in
     subst (λ (f : Frame). IsOrdered before f) (sym same) (asked.0, asked.2, asked-taken found.head.stream asked.0 before asked.1)
 
--- ---- the rows
+-- ---- the accounts
 
 both-admitted : (step : Step) → (admitted_by step ≡ None) ⊎ (reported_by step ≡ admitted_by step)
 both-admitted (Told (events.Open id head) Admitted) = inr refl
@@ -114,7 +90,7 @@ both-admitted (Told (events.StreamError id code) fate) = inl refl
 both-admitted (Told (events.Control control) fate) = inl refl
 both-admitted (Told events.PeerGoaway fate) = inl refl
 both-admitted (Told (events.Fatal cause) fate) = inl refl
-both-admitted (CutOff id why) = inl refl
+both-admitted (CutOff id) = inl refl
 both-admitted Drains = inl refl
 both-admitted Lacks = inl refl
 
@@ -126,7 +102,7 @@ once-there id (Some other) is = (0, omega arith, sym (eqb-true id other (or-fals
     or-false true same = refl
     or-false false same = same
 
--- a call that was admitted has a row
+-- a call that was admitted has an account
 pub admitted-reported : (id : ℕ) (told : List Step) → is_admitted id told ≡ true → Contains (reported told) id
 admitted-reported id [] known = absurd cc
 admitted-reported id (step ∷ before) known = elim (cases_Bool (is_admitted id before)) [
@@ -143,21 +119,21 @@ admitted-reported id (step ∷ before) known = elim (cases_Bool (is_admitted id 
         Contains-append_right (reported before) (once (reported_by step)) id
         (subst (λ (found : Option ℕ). Contains (once found) id) (sym same) (once-there id (admitted_by step) is))
 
-row-there : (id : ℕ) (rows : List CallReport) → Contains (map (λ (row : CallReport). row.id) rows) id → (row : CallReport) × Contains rows row × (row.id ≡ id)
-row-there id [] (k, within, at) = absurd (omega (arith, within))
-row-there id (row ∷ rows) (zero, within, at) = (row, (0, omega arith, refl), at)
-row-there id (row ∷ rows) (suc k, within, at) =
-    let found = row-there id rows (k, omega (arith, within), at) in
+account-there : (id : ℕ) (accounts : List CallAccount) → Contains (map (λ (account : CallAccount). account.id) accounts) id → (account : CallAccount) × Contains accounts account × (account.id ≡ id)
+account-there id [] (k, within, at) = absurd (omega (arith, within))
+account-there id (account ∷ accounts) (zero, within, at) = (account, (0, omega arith, refl), at)
+account-there id (account ∷ accounts) (suc k, within, at) =
+    let found = account-there id accounts (k, omega (arith, within), at) in
     (found.0, (suc found.1.0, omega (arith, found.1.1), found.1.2), found.2)
 
 -- no trailers were given to a call that was admitted, whose stream was reset so
-pub was-left : (id : ℕ) (told : List Step) (run : List RunStep) (rows : List CallReport) → AreLeft (left_in run) rows → map (λ (row : CallReport). row.id) rows ≡ reported told
-    → is_admitted id told ≡ true → WasTaken (Reset id error.InternalError true) run → WasLeft id rows
-was-left id told run rows left same known was =
-    let found = row-there id rows (subst (λ (ids : List ℕ). Contains ids id) (sym same) (admitted-reported id told known)) in record {
-      row = found.0;
+pub was-left : (id : ℕ) (told : List Step) (run : List RunStep) (accounts : List CallAccount) → AreLeft (left_in run) accounts → map (λ (account : CallAccount). account.id) accounts ≡ reported told
+    → is_admitted id told ≡ true → WasTaken (Reset id error.InternalError true) run → WasLeft id accounts
+was-left id told run accounts left same known was =
+    let found = account-there id accounts (subst (λ (ids : List ℕ). Contains ids id) (sym same) (admitted-reported id told known)) in record {
+      account = found.0;
       among = found.1;
       whose = found.2;
-      unanswered = All-contains (λ (row : CallReport). Contains (left_in run) row.id → row.status ≡ None) rows found.0 left found.1
+      unanswered = All-contains (λ (account : CallAccount). Contains (left_in run) account.id → account.status ≡ None) accounts found.0 left found.1
           (subst (λ (n : ℕ). Contains (left_in run) n) (sym found.2) (left-taken id run was));
     }

@@ -17,8 +17,8 @@ use Rattle.h2frame.specs.FrameList.{Entry}
 use Rattle.connbook.specs.declared.answers.Receipt.TheVariants.{CallWindow}
 use Rattle.session.specs.Openings.{AreRising, RiseFrom, opening_of, openings}
 use Rattle.session.proofs.OpeningOrder.{events_rise}
-use Rattle.slots.specs.Steps.{Fate, Plain, Admitted, Unserved, Unknown, TurnedAway, Received, Missed, Lacking, AtEnd, Step, Told, CutOff, Drains, Lacks, events_of, is_draining, once, reported, reported_by}
-use Rattle.slots.proofs.LetGo.{events-append}
+use Rattle.readerloop.specs.Steps.{Fate, Plain, Admitted, Unserved, Unknown, TurnedAway, Received, Missed, Lacking, Step, Told, CutOff, Drains, Lacks, events_of, is_draining, once, reported, reported_by}
+use Rattle.readerloop.proofs.LetGo.{events-append}
 use Rattle.connection.specs.Causes.{IsOverWindow, WasCut, WasTurnedAway}
 use Rattle.connection.specs.Limits.{AreJustified, EndsLast, IsJustified, IsOneTooMany, MayTurnAway, WasCutLast, WasDrained}
 use Rattle.connection.proofs.Tallies.{came-more, came-with, cut-last, more-came}
@@ -69,7 +69,7 @@ one-began P (events.Fatal cause) fate all = tt
 
 pub all-began : (P : ℕ → Type 0) (told : List Step) → Each P (openings (events_of told)) → Each P (reported told)
 all-began P [] all = tt
-all-began P (CutOff id why ∷ before) all = each-append P (reported before) [] (all-began P before all) tt
+all-began P (CutOff id ∷ before) all = each-append P (reported before) [] (all-began P before all) tt
 all-began P (Drains ∷ before) all = each-append P (reported before) [] (all-began P before all) tt
 all-began P (Lacks ∷ before) all = each-append P (reported before) [] (all-began P before all) tt
 all-began P (Told event fate ∷ before) all =
@@ -134,7 +134,7 @@ over-window came given entries told id framed front just over =
 
 -- ---- the end of the input
 
-pub cancelled-last : (told : List Step) (id : ℕ) → EndsLast told → WasCut AtEnd id told → WasCutLast id told
+pub cancelled-last : (told : List Step) (id : ℕ) → EndsLast told → WasCut id told → WasCutLast id told
 cancelled-last told id ends was = record {
   before = was.before;
   later = was.heard.0;

@@ -11,7 +11,7 @@ use Rattle.callhead.specs.StatusFields.{refusal_of}
 use Rattle.callhead.specs.declared.fault.HeadFault.{HeadFault}
 use Rattle.connbook.specs.declared.answers.AdmitFault.TheVariants as refused
 use Rattle.connbook.specs.declared.answers.Receipt.TheVariants.{Feed, Discard, CallWindow, Overrun}
-use Rattle.connwriter.specs.Orders.{own_order}
+use Rattle.writerloop.specs.OwnOrders.{own_order}
 use Rattle.h2frame.specs.declared.error_code.ErrorCode.{ErrorCode}
 use Rattle.h2frame.specs.declared.error_code.ErrorCode.TheVariants as error
 use Rattle.h2frame.specs.declared.frame.Frame.{Frame}
@@ -28,9 +28,9 @@ use Rattle.session.specs.declared.event.Control.{Control}
 use Rattle.session.specs.declared.event.Control.TheVariants as controls
 use Rattle.session.specs.declared.event.InEvent.{InEvent}
 use Rattle.session.specs.declared.event.InEvent.TheVariants as events
-use Rattle.slots.specs.Orders.{begun, came, came_loose, cut_code, is_fed, last_stream, named, named_with, news_of, opened, orders_at, orders_by, refused_head, untaken, without_head}
-use Rattle.slots.specs.Steps.{Fate, Plain, Admitted, Unserved, NoWorker, Stopped, Unknown, TurnedAway, Received, Missed, Lacking, Step, Told, CutOff, Drains, Lacks, events_of, is_draining}
-use Rattle.slotwriter.specs.Orders.{AreLast, HasParted, HasTaken, IsAmong, IsAnswer, Obeys, ResetsCall, Warns}
+use Rattle.readerloop.specs.Orders.{begun, came, came_loose, is_fed, last_stream, named, named_with, news_of, opened, orders_at, orders_by, refused_head, without_head}
+use Rattle.readerloop.specs.Steps.{Fate, Plain, Admitted, Unserved, NoWorker, Stopped, Unknown, TurnedAway, Received, Missed, Lacking, Step, Told, CutOff, Drains, Lacks, events_of, is_draining}
+use Rattle.writerloop.specs.Orders.{AreLast, HasParted, HasTaken, IsAmong, IsAnswer, Obeys, ResetsCall, Warns}
 use Rattle.connection.specs.Heard.{HasPut}
 use Rattle.connection.specs.News.{acknowledgements, answer_to, answers_to, is_news, is_probe, news_at, news_in, news_told, taken_by}
 
@@ -75,23 +75,18 @@ refused-news last id fault (TurnedAway why) = without-news id (refusal_of fault)
 refused-news last id fault (Received receipt) = without-news id (refusal_of fault)
 refused-news last id fault Missed = without-news id (refusal_of fault)
 
-untaken-news : (id : ℕ) (piece : List ℕ) (fed : Bool) → news_in (untaken id piece fed) ≡ []
-untaken-news id [] fed = refl
-untaken-news id (byte ∷ bytes) true = refl
-untaken-news id (byte ∷ bytes) false = refl
-
-came-news : (last id : ℕ) (piece : List ℕ) (fed : Bool) (fate : Fate) → news_in (came last id piece fed fate) ≡ []
-came-news last id piece fed (Received CallWindow) = refl
-came-news last id piece fed (Received Overrun) = refl
-came-news last id piece fed (Received Discard) = untaken-news id piece fed
-came-news last id piece fed (Received Feed) = refl
-came-news last id piece fed Missed = refl
-came-news last id piece fed Plain = refl
-came-news last id piece fed Admitted = refl
-came-news last id piece fed (Unserved why) = refl
-came-news last id piece fed Unknown = refl
-came-news last id piece fed (TurnedAway fault) = refl
-came-news last id piece fed Lacking = refl
+came-news : (last id : ℕ) (fate : Fate) → news_in (came last id fate) ≡ []
+came-news last id (Received CallWindow) = refl
+came-news last id (Received Overrun) = refl
+came-news last id (Received Discard) = refl
+came-news last id (Received Feed) = refl
+came-news last id Missed = refl
+came-news last id Plain = refl
+came-news last id Admitted = refl
+came-news last id (Unserved why) = refl
+came-news last id Unknown = refl
+came-news last id (TurnedAway fault) = refl
+came-news last id Lacking = refl
 
 loose-news : (last : ℕ) (fate : Fate) → news_in (came_loose last fate) ≡ []
 loose-news last (Received Overrun) = refl
@@ -125,7 +120,7 @@ event-news before (events.Open id head) fate =
 event-news before (events.BadHead id fault) fate =
     let last = named_with id (is_draining before) (named before) in
     both-none (last_stream id (is_draining before) (begun before)) (refused_head last id fault fate) (last-news id (is_draining before) (begun before)) (refused-news last id fault fate)
-event-news before (events.Data id piece counted) fate = came-news (named before) id piece (is_fed id before) fate
+event-news before (events.Data id piece counted) fate = came-news (named before) id fate
 event-news before (events.Loose counted) fate = loose-news (named before) fate
 event-news before (events.Reset id code) fate = refl
 event-news before (events.StreamError id code) fate = refl
@@ -147,9 +142,9 @@ orders-news (Drains ∷ before) =
     news-append (orders_by before) (orders_at before Drains) ∙ (append-nil (news_in (orders_by before)) ∙ orders-news before)
 orders-news (Lacks ∷ before) =
     news-append (orders_by before) (orders_at before Lacks) ∙ (append-nil (news_in (orders_by before)) ∙ orders-news before)
-orders-news (CutOff id why ∷ before) =
-    news-append (orders_by before) (orders_at before (CutOff id why))
-    ∙ (ap (λ (os : List Order). news_in (orders_by before) ++ os) (cut-news id (cut_code why) (is_fed id before))
+orders-news (CutOff id ∷ before) =
+    news-append (orders_by before) (orders_at before (CutOff id))
+    ∙ (ap (λ (os : List Order). news_in (orders_by before) ++ os) (cut-news id error.Cancel (is_fed id before))
     ∙ (append-nil (news_in (orders_by before)) ∙ orders-news before))
 
 -- ---- of a run

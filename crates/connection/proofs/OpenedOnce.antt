@@ -1,17 +1,17 @@
 -- The orders open or refuse each stream once at most. So an Open that a run took is the first of its stream, and none was refused before.
-use Rattle.std.proofs.Common.{◌≡◌, ◌∙◌, ◌⊎◌, inl, inr, ◌+◌, ◌<◌, ◌≤◌, ℕ, Bool, true, false, nat_eq, List, [], ◌∷◌, ◌++◌, Option, None, Some, ap, arith, eqb-true, refl, sym}
-use Rattle.std.specs.Prelude.{◌==◌, ◌||◌, if◌then◌else◌, length}
+use Rattle.std.proofs.Common.{◌≡◌, ◌∙◌, ◌⊎◌, inl, inr, ◌+◌, ◌<◌, ◌≤◌, ℕ, Bool, true, false, nat_eq, List, [], ◌∷◌, ◌++◌, Option, None, Some, ap, arith, eqb-true, refl, suc, sym}
+use Rattle.std.specs.Prelude.{Contains, ◌==◌, ◌||◌, if◌then◌else◌, length}
 use Rattle.std.specs.List.{list_any}
 use Rattle.std.proofs.lemmas.Bool.{cases_Bool, eq-eqb}
 use Rattle.std.proofs.lemmas.Grind.{flat_map-append}
 use mathlib.Core.List.{IsPrefix}
 use Rattle.callhead.specs.declared.fault.HeadFault.{HeadFault}
 use Rattle.callhead.specs.StatusFields.{refusal_of}
-use Rattle.callslot.specs.declared.report.Ending.{Ending}
+use Rattle.callparts.specs.declared.report.Ending.{Ending}
 use Rattle.connbook.specs.declared.answers.AdmitFault.TheVariants as refused
 use Rattle.connbook.specs.declared.answers.Receipt.TheVariants.{Feed, Discard, CallWindow, Overrun}
-use Rattle.connwriter.specs.Orders.{own_order}
-use Rattle.h2frame.specs.declared.error_code.ErrorCode.TheVariants.{NoError, InternalError, FlowControlError}
+use Rattle.writerloop.specs.OwnOrders.{own_order}
+use Rattle.h2frame.specs.declared.error_code.ErrorCode.TheVariants.{NoError, InternalError, FlowControlError, Cancel}
 use Rattle.lists.specs.declared.field.Field.{Field}
 use Rattle.outwriter.specs.declared.control.Control.TheVariants.{Settings, Ping, Probe, Window, Open, Refuse, Reset, Goaway, InputEnded, Close}
 use Rattle.outwriter.specs.Calls.{IsRefused, Refuses, is_fresh, is_served, refuses_stream}
@@ -27,13 +27,13 @@ use Rattle.session.specs.declared.event.InEvent.TheVariants as events
 use Rattle.session.specs.Events.{Events}
 use Rattle.session.specs.Openings.{AreRising, RiseFrom, opening_of, openings}
 use Rattle.session.proofs.OpeningOrder.{events_rise}
-use Rattle.slots.specs.Calls.{is_admitted}
-use Rattle.slots.specs.Orders.{begun, came, came_loose, cut_code, is_fed, last_stream, named, named_with, news_of, opened, orders_at, orders_by, refused_head, untaken, without_head}
-use Rattle.slots.specs.Reports.{AreHeard}
-use Rattle.slots.specs.Steps.{Fate, Plain, Admitted, Unserved, NoWorker, Stopped, Unknown, TurnedAway, Received, Missed, Lacking, Cause, Step, Told, CutOff, Drains, Lacks, admitted, admitted_by, events_of, is_draining, once}
-use Rattle.slots.proofs.Opens.{opens-at, opens_of}
-use Rattle.slotwriter.specs.Orders.{AreLast, HasTaken, IsAmong, IsAnswer, Obeys, ResetsCall, Warns}
+use Rattle.readerloop.specs.Calls.{is_admitted}
+use Rattle.readerloop.specs.Orders.{begun, came, came_loose, is_fed, last_stream, named, named_with, news_of, opened, orders_at, orders_by, refused_head, without_head}
+use Rattle.readerloop.specs.Reports.{AreHeard}
+use Rattle.readerloop.specs.Steps.{Fate, Plain, Admitted, Unserved, NoWorker, Stopped, Unknown, TurnedAway, Received, Missed, Lacking, Step, Told, CutOff, Drains, Lacks, admitted, admitted_by, events_of, is_draining, once}
+use Rattle.writerloop.specs.Orders.{AreLast, HasTaken, IsAmong, IsAnswer, Obeys, ResetsCall, Warns}
 use Rattle.connection.specs.Heard.{HasPut}
+use Rattle.connection.proofs.Opens.{opens-at, opens_of}
 
 -- ---- how many pass a test
 
@@ -153,23 +153,18 @@ refused-once id last stream fault (TurnedAway why) = without-once id stream (ref
 refused-once id last stream fault (Received receipt) = without-once id stream (refusal_of fault)
 refused-once id last stream fault Missed = without-once id stream (refusal_of fault)
 
-untaken-none : (id stream : ℕ) (piece : List ℕ) (feeding : Bool) → touches id (untaken stream piece feeding) ≡ 0
-untaken-none id stream [] feeding = refl
-untaken-none id stream (byte ∷ bytes) true = refl
-untaken-none id stream (byte ∷ bytes) false = refl
-
-came-none : (id last stream : ℕ) (piece : List ℕ) (feeding : Bool) (fate : Fate) → touches id (came last stream piece feeding fate) ≡ 0
-came-none id last stream piece feeding (Received CallWindow) = refl
-came-none id last stream piece feeding (Received Overrun) = refl
-came-none id last stream piece feeding (Received Discard) = untaken-none id stream piece feeding
-came-none id last stream piece feeding (Received Feed) = refl
-came-none id last stream piece feeding Missed = refl
-came-none id last stream piece feeding Plain = refl
-came-none id last stream piece feeding Admitted = refl
-came-none id last stream piece feeding (Unserved why) = refl
-came-none id last stream piece feeding Unknown = refl
-came-none id last stream piece feeding (TurnedAway fault) = refl
-came-none id last stream piece feeding Lacking = refl
+came-none : (id last stream : ℕ) (fate : Fate) → touches id (came last stream fate) ≡ 0
+came-none id last stream (Received CallWindow) = refl
+came-none id last stream (Received Overrun) = refl
+came-none id last stream (Received Discard) = refl
+came-none id last stream (Received Feed) = refl
+came-none id last stream Missed = refl
+came-none id last stream Plain = refl
+came-none id last stream Admitted = refl
+came-none id last stream (Unserved why) = refl
+came-none id last stream Unknown = refl
+came-none id last stream (TurnedAway fault) = refl
+came-none id last stream Lacking = refl
 
 loose-none : (id last : ℕ) (fate : Fate) → touches id (came_loose last fate) ≡ 0
 loose-none id last (Received Overrun) = refl
@@ -189,9 +184,9 @@ news-none id (news.Settings settings) = refl
 news-none id (news.Ping bytes) = refl
 news-none id (news.Window stream increment) = refl
 
-cut-none : (id stream : ℕ) (why : Cause) (feeding : Bool) → touches id (if feeding then Reset stream (cut_code why) true ∷ [] else []) ≡ 0
-cut-none id stream why true = refl
-cut-none id stream why false = refl
+cut-none : (id stream : ℕ) (feeding : Bool) → touches id (if feeding then Reset stream Cancel true ∷ [] else []) ≡ 0
+cut-none id stream true = refl
+cut-none id stream false = refl
 
 -- they open or refuse only the stream that the event begins, and that once
 told-once : (id : ℕ) (before : List Step) (event : InEvent) (fate : Fate) → touches id (orders_at before (Told event fate)) ≤ many (nat_eq id) (openings (event ∷ []))
@@ -211,7 +206,7 @@ told-once id before (events.BadHead stream fault) fate =
       last-none id stream (is_draining before) (begun before),
       refused-once id last stream fault fate,
     )
-told-once id before (events.Data stream piece counted) fate = omega (arith, came-none id (named before) stream piece (is_fed stream before) fate)
+told-once id before (events.Data stream piece counted) fate = omega (arith, came-none id (named before) stream fate)
 told-once id before (events.Loose counted) fate = omega (arith, loose-none id (named before) fate)
 told-once id before (events.End stream) fate = omega arith
 told-once id before (events.Reset stream code) fate = omega arith
@@ -231,8 +226,8 @@ ordered-once id (Told event fate ∷ before) =
       many-append (nat_eq id) (openings (events_of before)) (openings (event ∷ [])),
       ap (λ (ids : List ℕ). many (nat_eq id) ids) (flat_map-append opening_of (events_of before) (event ∷ [])),
     )
-ordered-once id (CutOff stream why ∷ before) =
-    omega (arith, touches-append id (orders_by before) (orders_at before (CutOff stream why)), cut-none id stream why (is_fed stream before), ordered-once id before)
+ordered-once id (CutOff stream ∷ before) =
+    omega (arith, touches-append id (orders_by before) (orders_at before (CutOff stream)), cut-none id stream (is_fed stream before), ordered-once id before)
 ordered-once id (Drains ∷ before) = omega (arith, touches-append id (orders_by before) (orders_at before Drains), ordered-once id before)
 ordered-once id (Lacks ∷ before) = omega (arith, touches-append id (orders_by before) (orders_at before Lacks), ordered-once id before)
 
@@ -433,6 +428,34 @@ some-refused id fields (Taken order ∷ before) (inr there) = omega (arith, some
 some-refused id fields (Granted stream n ∷ before) was = some-refused id fields before was
 some-refused id fields (Written frame ∷ before) was = some-refused id fields before was
 some-refused id fields (Returned stream items ∷ before) was = some-refused id fields before was
+
+-- ---- of orders that were obeyed
+
+served-some : (id : ℕ) (run : List RunStep) → is_served id run ≡ true → 1 ≤ many_taken (opens_stream id) run
+served-some id [] is = absurd cc
+served-some id (Taken order ∷ before) is = elim (cases_Bool (opens_stream id order)) [
+  | inl opens ↦ omega (arith, bit-true (opens_stream id order) opens)
+  | inr other ↦
+      let rest = served-some id before (sym (ap (λ (b : Bool). if b then is_fresh id before else is_served id before) other) ∙ is) in
+      omega (arith, rest)
+]
+served-some id (Granted stream n ∷ before) is = served-some id before is
+served-some id (Written frame ∷ before) is = served-some id before is
+served-some id (Returned stream items ∷ before) is = served-some id before is
+
+many-there : (id : ℕ) (ids : List ℕ) → 1 ≤ many (nat_eq id) ids → Contains ids id
+many-there id [] some = absurd (omega (arith, some))
+many-there id (one ∷ ids) some = elim (cases_Bool (nat_eq id one)) [
+  | inl same ↦ (0, omega arith, sym (eqb-true id one same))
+  | inr apart ↦
+      let rest = many-there id ids (omega (arith, some, bit-false (nat_eq id one) apart)) in
+      (suc rest.0, omega (arith, rest.1), rest.2)
+]
+
+-- the stream of a call that a run serves is one that they open
+pub served-among : (id : ℕ) (orders : List Order) (run : List RunStep) → Obeys true orders run → is_served id run ≡ true → Contains (opens_of orders) id
+served-among id orders run obeys is =
+    many-there id (opens_of orders) (omega (arith, served-some id run is, obeyed-many (opens_stream id) (opens-none id) orders run obeys, many-opens id orders))
 
 -- ---- of what was heard
 

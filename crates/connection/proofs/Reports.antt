@@ -1,44 +1,41 @@
 -- What became of a connection, of what was heard, ordered and written.
 use Rattle.std.proofs.Common.{◌≡◌, ◌≢◌, ◌∙◌, ◌⊎◌, ◌≤◌, arith, inl, inr, ℕ, Bool, true, false, true≢false, List, [], ◌∷◌, ◌++◌, Option, None, Some, ap, append-nil, refl, subst, sym}
-use Rattle.std.specs.Prelude.{◌||◌, All, map}
+use Rattle.std.proofs.lemmas.List.{append_assoc}
+use Rattle.std.specs.Prelude.{◌||◌, All, Contains, map}
 use Rattle.std.specs.Io.KnownBytes.{Appends}
-use Rattle.std.proofs.lemmas.List.Elements.{All-nil}
-use Rattle.account.specs.declared.call.Account.{Account}
-use Rattle.callslot.specs.declared.report.CallReport.{CallReport}
-use Rattle.callslot.specs.declared.report.Ending.{Ending}
-use Rattle.callslot.specs.declared.report.Ending.TheVariants.{Drained, InputEnded, PeerGoaway, ProtocolError, ReadFailed, WriteFailed, OutOfMemory}
+use Rattle.std.proofs.lemmas.List.Elements.{All-nil, All-weaker}
+use Rattle.account.specs.declared.call.OutItem.{OutItem}
+use Rattle.callparts.specs.declared.call_account.CallAccount.{CallAccount}
+use Rattle.callparts.specs.declared.register.Naming.{Ghosts as Naming}
+use Rattle.callparts.specs.declared.report.Ending.{Ending}
+use Rattle.callparts.specs.declared.report.Ending.TheVariants.{Drained, InputEnded, PeerGoaway, ProtocolError, ReadFailed, WriteFailed, OutOfMemory}
 use Rattle.h2frame.specs.declared.error_code.ErrorCode.{ErrorCode}
 use Rattle.h2frame.specs.declared.error_code.ErrorCode.TheVariants.{FlowControlError}
 use Rattle.handlers.specs.declared.step.Step.{Step as Answer}
 use Rattle.outwriter.specs.Steps.{Order}
-use Rattle.outwriter.specs.Steps.{Step as RunStep}
 use Rattle.outwriter.specs.declared.control.Control.TheVariants as orders
 use Rattle.session.specs.declared.event.InEvent.{InEvent}
 use Rattle.session.specs.Events.{Events}
 use Rattle.session.specs.FlowBytes.{counted_told}
-use Rattle.slots.specs.declared.reading.Reading.{Reading}
-use Rattle.slots.specs.declared.worker.Worker.{Ghosts as Hands}
-use Rattle.slots.specs.Orders.{IsReset, orders_by}
-use Rattle.slots.specs.Reports.{AreRows, IsAccounted, IsFront, IsReported, IsUnserved, is_heard_out}
-use Rattle.slots.specs.Steps.{Step, events_of, is_drain, is_draining, reported}
-use Rattle.slots.proofs.Resets.{calm-more, reset-left, reset-ordered}
-use Rattle.slotwriter.specs.Blamed.{WouldOverflow}
-use Rattle.slotwriter.specs.Left.{left_in}
-use Rattle.slotwriter.specs.Written.{HasWritten}
+use Rattle.readerloop.specs.declared.reading.Reading.{Reading}
+use Rattle.readerloop.specs.Calls.{Sent}
+use Rattle.readerloop.specs.Orders.{IsReset, orders_by}
+use Rattle.readerloop.specs.Reports.{AreAccounts, IsAccounted, IsFront, IsSettled, is_heard_out}
+use Rattle.readerloop.specs.Steps.{Step, events_of, is_drain, is_draining, reported}
+use Rattle.readerloop.proofs.Resets.{calm-more, reset-left, reset-ordered}
+use Rattle.writerloop.specs.Blamed.{WouldOverflow}
+use Rattle.writerloop.specs.Left.{left_in}
+use Rattle.writerloop.specs.Written.{HasWritten}
 use Rattle.connection.specs.declared.orders.Orders.{Orders}
 use Rattle.connection.specs.declared.orders.Route.{Ghosts}
-use Rattle.connection.specs.Heard.{EndsOrders, HasEnded, HasPut, HasRead, IsEndedBy}
+use Rattle.connection.specs.Heard.{HasEnded, HasPut, HasRead, IsEndedBy}
 use Rattle.connection.specs.Left.{AreLeft}
-use Rattle.connection.specs.Overrun.{AreOverrun}
 use Rattle.connection.specs.Puts.{put_orders}
-use Rattle.connection.specs.Sent.{CarriesWhatWasSent, HaveMet}
-use Rattle.slotwriter.specs.Sent.{SlotSender}
-use Rattle.callslot.specs.Workers.{GivingEnd}
-use Rattle.connection.proofs.Noted.{IsSentRow, all-mapped, as-set, bare-noted, ids-mapped, set_sent}
+use Rattle.connection.specs.Sent.{CarriesWhatWasSent}
 use Rattle.connection.specs.Served.{IsServed, is_drained}
 use Rattle.connection.proofs.Drained.{has-drained}
 use Rattle.connection.proofs.CreditSteps.{told-within}
-use Rattle.connection.proofs.Heard.{ended-more, silent-more}
+use Rattle.connection.proofs.Heard.{closed-put, closed-whole, ended-more, silent-more}
 use Rattle.connection.proofs.Tallies.{cuts-justified}
 
 -- what is so unless an error ended the connection
@@ -88,74 +85,51 @@ blamed-so : {B : Type 0} (told : List Step) (read : Ending) (code : ErrorCode) �
 blamed-so told read code failed (inl is) = inl (failed code is)
 blamed-so told read code failed (inr is) = inr is
 
-module _ (answers : ℕ → List (List ℕ) → Bool → Answer → Type 0) (names : List ℕ → ℕ → Type 0) (run : List RunStep) (carries : ℕ → Account → Type 0) where
-  -- with what was sent of the call
-  accounted-sent : (told : List Step) (row : CallReport) (count : ℕ) (trailers : Bool) (is : IsAccounted answers names carries told row) → IsSentRow run is.account.given row (set_sent count trailers row)
-      → IsAccounted answers names (CarriesWhatWasSent run) told (set_sent count trailers row)
-  accounted-sent told row count trailers is found = record {
-    account = record is.account { sent = found.0 };
+module _ (answers : ℕ → List (List ℕ) → Bool → Answer → Type 0) (names : List ℕ → ℕ → Type 0) (carries also : ℕ → List OutItem → Type 0) (more : (id : ℕ) (items : List OutItem) → carries id items → also id items) where
+  settled-more : (told : List Step) (account : CallAccount) → IsSettled answers names carries told account → IsSettled answers names also told account
+  settled-more told account is = record {
     head = is.head;
     known = is.known;
     opened = is.opened;
     named = is.named;
+    over = is.over;
+    whole = is.whole;
     fed = is.fed;
     shut = is.shut;
-    counted = is.counted;
-    kind = is.kind;
-    stands = record {
-      lawful = record { taken = is.stands.lawful.taken; told = is.stands.lawful.told; sent = (found.1.0, sym found.1.1); given = is.stands.lawful.given };
-      answered = record {
-        overdue = is.stands.answered.overdue;
-        timed = is.stands.answered.timed;
-        items = is.stands.answered.items;
-        outcome = is.stands.answered.outcome;
-        ends = is.stands.answered.ends;
-        taken = is.stands.answered.taken;
-        told = is.stands.answered.told;
-        count = is.stands.answered.count;
-        trailers = is.stands.answered.trailers;
-      };
-      sent = found.3 is.stands.answered.items is.stands.answered.ends is.stands.answered.count is.stands.answered.trailers;
-    };
-    carried = found.2;
+    stands = is.stands;
+    bare = is.bare;
+    carried = more account.id is.whole.sent is.carried;
   }
 
-  module _ (ids : List ℕ) (held : List (Option SlotSender)) (ends : List GivingEnd) (rows new : List CallReport) (met : HaveMet ids held ends rows new)
-      (sent : (row : CallReport) (account : Account) → carries row.id account → IsSentRow run account.given row (met.note row)) where
-    noted-row : (told : List Step) (row : CallReport) → IsReported answers names carries told row → IsReported answers names (CarriesWhatWasSent run) told (met.note row)
-    noted-row told row (inl accounted) =
-        let set = as-set ids held ends row (met.note row) (met.by row) in
-        inl (subst (λ (r : CallReport). IsAccounted answers names (CarriesWhatWasSent run) told r) (sym set.2)
-        (accounted-sent told row set.0 set.1 accounted (subst (λ (r : CallReport). IsSentRow run accounted.account.given row r) set.2 (sent row accounted.account accounted.carried))))
-    noted-row told row (inr none) =
-        inr (subst (λ (r : CallReport). IsUnserved names told r) (none.bare ∙ sym (bare-noted ids held ends row (met.note row) (met.by row) none.bare)) none)
+  accounted-more : (told : List Step) (account : CallAccount) → IsAccounted answers names carries told account → IsAccounted answers names also told account
+  accounted-more told account (inl is) = inl (settled-more told account is)
+  accounted-more told account (inr none) = inr none
 
-    same-id : (row : CallReport) → (met.note row).id ≡ row.id
-    same-id row = let set = as-set ids held ends row (met.note row) (met.by row) in ap (λ (r : CallReport). r.id) set.2
+  -- what is carried is carried otherwise too
+  pub accounts-more : (told : List Step) (streams : List ℕ) (accounts : List CallAccount) → AreAccounts answers names carries told streams accounts → AreAccounts answers names also told streams accounts
+  accounts-more told streams accounts are = record {
+    each = All-weaker (IsAccounted answers names carries told) (IsAccounted answers names also told) (accounted-more told) accounts are.each;
+    streams = are.streams;
+  }
 
-    pub rows-sent : (told : List Step) (streams : List ℕ) → AreRows answers names carries told streams rows → AreRows answers names (CarriesWhatWasSent run) told streams new
-    rows-sent told streams are = subst (λ (rs : List CallReport). AreRows answers names (CarriesWhatWasSent run) told streams rs) (sym met.noted) (record {
-      each = all-mapped (IsReported answers names carries told) (IsReported answers names (CarriesWhatWasSent run) told) met.note rows (λ row is. noted-row told row is) are.each;
-      streams = ids-mapped met.note rows same-id ∙ are.streams;
-    })
-
-module _ (answers : ℕ → List (List ℕ) → Bool → Answer → Type 0) (names : List ℕ → ℕ → Type 0) {V W : Type 0} (items : V → List CallReport) (contents : W → Option (List ℕ)) (failed : W → Bool) where
+module _ (known : ℕ → List (List ℕ) → Bool → Answer → Type 0) (names : List ℕ → ℕ → Type 0) {V W : Type 0} (items : V → List CallAccount) (contents : W → Option (List ℕ)) (failed : W → Bool) where
   -- behind what was read the calls were cut, of which no event tells
-  pub are-served : {H : Type 0} {hand : Hands H} {A B C N : Type 0} {route : Ghosts N} (came : List ℕ) (before : Option (List ℕ)) (granted : ℕ) (read_failed : Bool) (read ending : Ending) (told cuts : List Step)
-      (reading : Reading H hand) (old new : Orders A B C N route) (given calls : V) (device : W) → HasRead names read came told reading old
-      → (carries : ℕ → Account → Type 0) → HasEnded items answers names carries told cuts given → EndsOrders told cuts old new → (is_heard_out ending ≡ true → ending ≡ read)
+  pub are-served : {A B C J M N : Type 0} {book : Naming J} {route : Ghosts N} (came : List ℕ) (before : Option (List ℕ)) (granted : ℕ) (read_failed : Bool) (read ending : Ending) (sent : List Sent) (told cuts : List Step)
+      (reading reading_new : Reading J M book) (old new : Orders A B C J N book route) (calls : V) (device : W) → HasRead known names sent read came told reading old
+      → HasEnded known names sent told cuts reading_new old new → (is_heard_out ending ≡ true → ending ≡ read)
       → (ending ≢ OutOfMemory → ending ≢ WriteFailed → ((code : ErrorCode) → ending ≢ ProtocolError code) → new.has_dropped ≡ false) → (read ≡ ReadFailed → read_failed ≡ true)
       → granted ≤ counted_told (events_of told)
       → (written : HasWritten contents failed before granted (put_orders new) (Some ending) (is_drained ending) device)
-      → AreRows answers names (CarriesWhatWasSent written.run) (cuts ++ told) (reported (cuts ++ told)) (items calls) → (ending ≢ OutOfMemory → AreLeft (left_in written.run) (items calls))
-      → (ending ≢ OutOfMemory → AreOverrun (cuts ++ told) written.run)
+      → AreAccounts known names (CarriesWhatWasSent written.run) (cuts ++ told) (reported (cuts ++ told)) (items calls) → AreLeft (left_in written.run) (items calls)
       → ((code : ErrorCode) → ending ≡ ProtocolError code → (read ≡ ProtocolError code) ⊎ ((code ≡ FlowControlError) × WouldOverflow 0 written.run))
-      → IsServed items contents failed answers names came before read_failed ending calls device
-  are-served came before granted read_failed read ending told cuts reading old new given calls device has carries ended ends input undropped unread within written rows left overran blamed =
+      → IsServed items contents failed known names came before read_failed ending calls device
+  are-served came before granted read_failed read ending sent told cuts reading reading_new old new calls device has ended input undropped unread within written accounts left blamed =
       let is : events_of (cuts ++ told) ≡ events_of told = silent-more cuts told ended.silent in
       let also : is_heard_out ending ≡ true → is_heard_out read ≡ true = λ out. subst (λ (e : Ending). is_heard_out e ≡ true) (input out) out in
+      let closed = ended.ordered has.ordered in
       let whole : is_heard_out ending ≡ true → put_orders new ≡ orders_by (cuts ++ told) ++ ending_orders =
-      λ out. calm-so ending _ out (λ spares sends calm. (ends has.ordered).1 (undropped spares sends calm)) in
+      λ out. calm-so ending _ out (λ spares sends calm.
+      closed-whole (orders_by (cuts ++ told) ++ orders.InputEnded ∷ []) new closed (undropped spares sends calm) ∙ append_assoc (orders_by (cuts ++ told)) (orders.InputEnded ∷ []) (orders.Close ∷ [])) in
       record {
         told = cuts ++ told;
         put = put_orders new;
@@ -163,26 +137,25 @@ module _ (answers : ℕ → List (List ℕ) → Bool → Answer → Type 0) (nam
           front = subst (λ (es : List InEvent). IsFront came es) (sym is) has.heard.front;
           whole = λ out. subst (λ (es : List InEvent). Events came es) (sym is) (has.heard.whole (also out));
         };
-        rising = ended.rising;
+        rising = ended.reads.calls.rising;
         calm = λ out. calm-more cuts told ended.calm (has.calm (also out));
         justified = cuts-justified cuts told ended.silent has.justified;
-        closed = ended.closed;
+        closed = ended.reads.calls.closed;
         ended = record { cuts = cuts; heard = told; parts = refl; silent = ended.silent; going = has.going };
-        ordered = (ends has.ordered).0;
+        ordered = closed-put (orders_by (cuts ++ told) ++ orders.InputEnded ∷ []) new closed;
         whole = whole;
-        resets = λ out id known code finished closed.
+        resets = λ out id known closed-at finished shut.
             subst (λ (os : List Order). IsReset id os) (sym (whole out))
-            (reset-left id (orders_by (cuts ++ told)) ending_orders (reset-ordered (cuts ++ told) id (calm-more cuts told ended.calm (has.calm (also out))) known code finished closed));
+            (reset-left id (orders_by (cuts ++ told)) ending_orders (reset-ordered (cuts ++ told) id (calm-more cuts told ended.calm (has.calm (also out))) known closed-at finished shut));
         granted = granted;
         written = written;
         credit = told-within contents failed before granted (put_orders new) (Some ending) device (counted_told (events_of (cuts ++ told))) written
             (subst (λ (es : List InEvent). granted ≤ counted_told es) (sym is) within);
-        rows = rows;
+        rows = accounts;
         left = left;
-        overran = overran;
         drained = λ is.
             let out = drained-out ending is in
-            has-drained (cuts ++ told) (put_orders new) written.run (calm-more cuts told ended.calm (has.calm (also out))) ended.closed
+            has-drained (cuts ++ told) (put_orders new) written.run (calm-more cuts told ended.calm (has.calm (also out))) ended.reads.calls.closed
             (draining-more cuts told (has.drained (sym (input out) ∙ is))) (whole out)
             (written.each (drained-spared ending is) (drained-sent ending is)) written.lawful (written.over (drained-spared ending is) (drained-sent ending is)).answered
             (written.sound (ap is_drained is));
@@ -199,20 +172,20 @@ module _ (answers : ℕ → List (List ℕ) → Bool → Answer → Type 0) (nam
 
   -- the device by another name
   pub served-by : (came : List ℕ) (before : Option (List ℕ)) (read_failed : Bool) (end : Ending) (calls : V) (one other : W) → other ≡ one
-      → IsServed items contents failed answers names came before read_failed end calls one → IsServed items contents failed answers names came before read_failed end calls other
+      → IsServed items contents failed known names came before read_failed end calls one → IsServed items contents failed known names came before read_failed end calls other
   served-by came before read_failed end calls one other is served =
-      subst (λ (device : W). IsServed items contents failed answers names came before read_failed end calls device) (sym is) served
+      subst (λ (device : W). IsServed items contents failed known names came before read_failed end calls device) (sym is) served
 
-  none-rows : (carries : ℕ → Account → Type 0) (calls : V) → items calls ≡ [] → AreRows answers names carries [] [] (items calls)
-  none-rows carries calls is = record {
-    each = subst (λ (rs : List CallReport). All (λ (row : CallReport). IsReported answers names carries [] row) rs) (sym is) (All-nil (λ (row : CallReport). IsReported answers names carries [] row));
-    streams = ap (λ (rs : List CallReport). map (λ (row : CallReport). row.id) rs) is;
+  none-accounts : (carries : ℕ → List OutItem → Type 0) (calls : V) → items calls ≡ [] → AreAccounts known names carries [] [] (items calls)
+  none-accounts carries calls is = record {
+    each = subst (λ (accounts : List CallAccount). All (IsAccounted known names carries []) accounts) (sym is) (All-nil (IsAccounted known names carries []));
+    streams = ap (λ (accounts : List CallAccount). map (λ (account : CallAccount). account.id) accounts) is;
   }
 
   -- no memory was there, and nothing was read
   pub none-served : (before : Option (List ℕ)) (granted : ℕ) (read_failed : Bool) (ending : Ending) (put : List Order) (calls : V) (device : W) → ending ≡ OutOfMemory
       → items calls ≡ [] → HasPut (orders.InputEnded ∷ []) put → granted ≤ 0 → HasWritten contents failed before granted put (Some ending) (is_drained ending) device
-      → IsServed items contents failed answers names [] before read_failed ending calls device
+      → IsServed items contents failed known names [] before read_failed ending calls device
   none-served before granted read_failed ending put calls device lacked none ordered within written =
       let not : is_heard_out ending ≡ true → ⊥ = λ out. true≢false (sym out ∙ ap (λ (e : Ending). is_heard_out e) lacked) in
       record {
@@ -230,9 +203,8 @@ module _ (answers : ℕ → List (List ℕ) → Bool → Answer → Type 0) (nam
         granted = granted;
         written = written;
         credit = told-within contents failed before granted put (Some ending) device 0 written within;
-        rows = none-rows (CarriesWhatWasSent written.run) calls none;
-        left = λ spared. absurd (spared lacked);
-        overran = λ spared. absurd (spared lacked);
+        rows = none-accounts (CarriesWhatWasSent written.run) calls none;
+        left = subst (λ (accounts : List CallAccount). AreLeft (left_in written.run) accounts) (sym none) (All-nil (λ (account : CallAccount). Contains (left_in written.run) account.id → account.status ≡ None));
         drained = λ is. absurd (not (drained-out ending is));
         cause = record { drains = λ is. absurd (not (drained-out ending is)); unread = λ is. absurd cc; unsent = λ sent. absurd cc; goaway = λ is. absurd cc; failed = λ code is. absurd cc };
       }
@@ -259,7 +231,7 @@ module _ (answers : ℕ → List (List ℕ) → Bool → Answer → Type 0) (nam
 
   -- the device is as it was
   pub unbegun : (read_failed : Bool) (ending : Ending) (calls : V) (old device : W) → ending ≡ OutOfMemory → device ≡ old → items calls ≡ []
-      → IsServed items contents failed answers names [] (contents old) read_failed ending calls device
+      → IsServed items contents failed known names [] (contents old) read_failed ending calls device
   unbegun read_failed ending calls old device lacked same none =
       none-served (contents old) 0 read_failed ending (orders.Close ∷ []) calls device lacked none (record { front = []; begins = (orders.InputEnded ∷ [], refl); closed = refl }) (omega arith)
       (subst (λ (d : W). HasWritten contents failed (contents d) 0 (orders.Close ∷ []) (Some ending) (is_drained ending) device) same (none-written device ending lacked))

@@ -2,7 +2,7 @@
 use Rattle.std.proofs.Common.{◌≡◌, ◌∙◌, ◌⊎◌, inl, inr, ℕ, true, false, List, [], ◌∷◌, ◌++◌, ap, subst, sym}
 use Rattle.std.proofs.lemmas.List.{append_assoc}
 use Rattle.std.specs.List.{list_any}
-use Rattle.connwriter.specs.Orders.{own_order}
+use Rattle.writerloop.specs.OwnOrders.{own_order}
 use Rattle.h2frame.specs.declared.error_code.ErrorCode.TheVariants.{InternalError}
 use Rattle.outwriter.specs.declared.control.Control.TheVariants.{Probe, Open, Reset, Goaway, Close}
 use Rattle.outwriter.specs.declared.control.OutFault.TheVariants.{PeerWindow}
@@ -11,7 +11,7 @@ use Rattle.outwriter.specs.Drains.{draining, warning}
 use Rattle.outwriter.specs.Steps.{Order, Taken, Granted, Written, Returned}
 use Rattle.outwriter.specs.Steps.{Step as RunStep}
 use Rattle.reasons.specs.declared.Reason.TheVariants as reason
-use Rattle.slotwriter.specs.Orders.{AreLast, HasTaken, IsAmong, IsAnswer, Obeys, ResetsCall, Warns, ends_input}
+use Rattle.writerloop.specs.Orders.{AreLast, HasTaken, IsAmong, IsAnswer, Obeys, ResetsCall, Warns, ends_input}
 use Rattle.connection.specs.Causes.{WasTaken}
 use Rattle.connection.specs.Heard.{HasPut}
 

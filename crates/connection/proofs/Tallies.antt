@@ -3,8 +3,7 @@ use Rattle.std.proofs.Common.{◌≡◌, ◌+◌, ◌<◌, ◌≤◌, ℕ, Bool,
 use Rattle.std.specs.Prelude.{IfErr, Result, Ok, Err}
 use Rattle.std.proofs.lemmas.List.Sums.{sum_by-append}
 use Rattle.callhead.specs.declared.head.CallHead.{CallHead}
-use Rattle.callslot.specs.declared.order.Opened.{Opened}
-use Rattle.callslot.specs.declared.report.Ending.{Ending}
+use Rattle.callparts.specs.declared.report.Ending.{Ending}
 use Rattle.connbook.specs.declared.answers.AdmitFault.{AdmitFault}
 use Rattle.connbook.specs.declared.answers.AdmitFault.TheVariants as refused
 use Rattle.connbook.specs.declared.answers.Receipt.{Receipt}
@@ -14,9 +13,9 @@ use Rattle.outwriter.specs.declared.control.Control.{Control}
 use Rattle.session.specs.declared.event.InEvent.{InEvent}
 use Rattle.session.specs.declared.event.InEvent.TheVariants as events
 use Rattle.session.specs.FlowBytes.{counted_by, counted_told}
-use Rattle.slots.specs.Readings.{MayMiss, fate_of, refused_by, unless_ended}
-use Rattle.slots.specs.Steps.{AtEnd, NotLive, CutOff, Drains, Lacks, Fate, Step, Told, events_of, is_draining, once, reported, reported_by}
-use Rattle.connection.specs.Limits.{AreGoing, AreJustified, Covers, IsJustified, MayRefuse, MayTurnAway, Tally, one_more}
+use Rattle.readerloop.specs.Readings.{MayMiss, fate_of, refused_by, unless_ended}
+use Rattle.readerloop.specs.Steps.{CutOff, Drains, Lacks, Fate, Step, Told, events_of, is_draining, once, reported, reported_by}
+use Rattle.connection.specs.Limits.{AreGoing, AreJustified, Covers, IsDueOf, IsJustified, MayRefuse, MayTurnAway, Tally, one_more}
 
 zero-least : (n : ℕ) → 0 ≤ n
 zero-least n = omega arith
@@ -38,7 +37,7 @@ came-with before event fate = omega (arith, sum_by-append counted_by (events_of 
 pub came-more : (more told : List Step) → counted_told (events_of told) ≤ counted_told (events_of (more ++ told))
 came-more [] told = omega arith
 came-more (Told event fate ∷ more) told = le_trans (came-more more told) (more-came (events_of (more ++ told)) (event ∷ []))
-came-more (CutOff id why ∷ more) told = came-more more told
+came-more (CutOff id ∷ more) told = came-more more told
 came-more (Drains ∷ more) told = came-more more told
 came-more (Lacks ∷ more) told = came-more more told
 
@@ -79,23 +78,24 @@ not-nil (first ∷ given) event is = cc
 -- a call that is cut isn't refused
 pub cuts-justified : (cuts told : List Step) → events_of cuts ≡ [] → AreJustified told → AreJustified (cuts ++ told)
 cuts-justified [] told silent all = all
-cuts-justified (CutOff id why ∷ cuts) told silent all = (tt, cuts-justified cuts told silent all)
+cuts-justified (CutOff id ∷ cuts) told silent all = (tt, cuts-justified cuts told silent all)
 cuts-justified (Drains ∷ cuts) told silent all = (tt, cuts-justified cuts told silent all)
 cuts-justified (Lacks ∷ cuts) told silent all = (tt, cuts-justified cuts told silent all)
 cuts-justified (Told event fate ∷ cuts) told silent all = absurd (not-nil (events_of cuts) event silent)
 
 -- nor is one for which there was no memory
-pub ended-justified : (event : InEvent) (fate : Fate) (told : List Step) (end : Option Ending) → IsJustified (Told event fate) told → IsJustified (Told event (unless_ended end fate)) told
-ended-justified event fate told None is = is
-ended-justified event fate told (Some ending) is = tt
+pub ended-justified : (event : InEvent) (fate : Fate) (told : List Step) (end : Option Ending) → IsDueOf event told → IsJustified (Told event fate) told → IsJustified (Told event (unless_ended end fate)) told
+ended-justified event fate told None due is = is
+ended-justified event fate told (Some ending) due is = due
 
-pub bytes-justified : (id counted : ℕ) (piece : List ℕ) (told : List Step) (receipt : Receipt) (order : Option (Control Opened)) → MayRefuse (counted_told (events_of told) + counted) receipt
-    → MayMiss id piece (fate_of receipt order) told → IsJustified (Told (events.Data id piece counted) (fate_of receipt order)) told
-bytes-justified id counted piece told Feed None may missed = tt
-bytes-justified id counted piece told Feed (Some order) may missed = missed
-bytes-justified id counted piece told Discard order may missed = tt
-bytes-justified id counted piece told CallWindow order may missed = may
-bytes-justified id counted piece told Overrun order may missed = may
+pub bytes-justified : {S : Type 0} (id counted : ℕ) (piece : List ℕ) (told : List Step) (receipt : Receipt) (order : Option (Control S)) (ends : Option Ending) → MayRefuse (counted_told (events_of told) + counted) receipt
+    → MayMiss id piece (fate_of receipt order ends) told → IsJustified (Told (events.Data id piece counted) (fate_of receipt order ends)) told
+bytes-justified id counted piece told Feed None ends may missed = tt
+bytes-justified id counted piece told Feed (Some order) None may missed = missed
+bytes-justified id counted piece told Feed (Some order) (Some ending) may missed = missed
+bytes-justified id counted piece told Discard order ends may missed = tt
+bytes-justified id counted piece told CallWindow order ends may missed = may
+bytes-justified id counted piece told Overrun order ends may missed = may
 
 -- behind more
 pub may-turn : (fault : AdmitFault) (calls more : ℕ) (draining : Bool) → MayTurnAway calls draining fault → calls ≤ more → MayTurnAway more draining fault
@@ -135,32 +135,30 @@ refuses-so Discard old new flow counted call over = tt
 pub going-more : (more told : List Step) → AreGoing more → AreGoing told → AreGoing (more ++ told)
 going-more [] told first going = going
 going-more (Told event fate ∷ more) told first going = going-more more told first going
-going-more (CutOff id (NotLive answered) ∷ more) told first going = going-more more told first going
-going-more (CutOff id AtEnd ∷ more) told first going = absurd first
+going-more (CutOff id ∷ more) told first going = absurd first
 going-more (Drains ∷ more) told first going = going-more more told first going
 going-more (Lacks ∷ more) told first going = going-more more told first going
 
-not-going : (id : ℕ) (later before : List Step) → AreGoing (later ++ CutOff id AtEnd ∷ before) → ⊥
+not-going : (id : ℕ) (later before : List Step) → AreGoing (later ++ CutOff id ∷ before) → ⊥
 not-going id [] before going = going
 not-going id (Told event fate ∷ later) before going = not-going id later before going
-not-going id (CutOff other (NotLive answered) ∷ later) before going = not-going id later before going
-not-going id (CutOff other AtEnd ∷ later) before going = going
+not-going id (CutOff other ∷ later) before going = going
 not-going id (Drains ∷ later) before going = not-going id later before going
 not-going id (Lacks ∷ later) before going = not-going id later before going
 
-pub cut-last : (id : ℕ) (cuts heard later before : List Step) → cuts ++ heard ≡ later ++ CutOff id AtEnd ∷ before → events_of cuts ≡ [] → AreGoing heard → events_of later ≡ []
+pub cut-last : (id : ℕ) (cuts heard later before : List Step) → cuts ++ heard ≡ later ++ CutOff id ∷ before → events_of cuts ≡ [] → AreGoing heard → events_of later ≡ []
 cut-last id cuts heard [] before is silent going = refl
 cut-last id [] heard (step ∷ later) before is silent going = absurd (not-going id (step ∷ later) before (subst (λ (steps : List Step). AreGoing steps) is going))
 cut-last id (Told event fate ∷ cuts) heard (step ∷ later) before is silent going = absurd (not-nil (events_of cuts) event silent)
-cut-last id (CutOff other why ∷ cuts) heard (step ∷ later) before is silent going =
-    let same : CutOff other why ≡ step = cc in
-    let rest : cuts ++ heard ≡ later ++ CutOff id AtEnd ∷ before = cc in
+cut-last id (CutOff other ∷ cuts) heard (step ∷ later) before is silent going =
+    let same : CutOff other ≡ step = cc in
+    let rest : cuts ++ heard ≡ later ++ CutOff id ∷ before = cc in
     subst (λ (one : Step). events_of (one ∷ later) ≡ []) same (cut-last id cuts heard later before rest silent going)
 cut-last id (Drains ∷ cuts) heard (step ∷ later) before is silent going =
     let same : Drains ≡ step = cc in
-    let rest : cuts ++ heard ≡ later ++ CutOff id AtEnd ∷ before = cc in
+    let rest : cuts ++ heard ≡ later ++ CutOff id ∷ before = cc in
     subst (λ (one : Step). events_of (one ∷ later) ≡ []) same (cut-last id cuts heard later before rest silent going)
 cut-last id (Lacks ∷ cuts) heard (step ∷ later) before is silent going =
     let same : Lacks ≡ step = cc in
-    let rest : cuts ++ heard ≡ later ++ CutOff id AtEnd ∷ before = cc in
+    let rest : cuts ++ heard ≡ later ++ CutOff id ∷ before = cc in
     subst (λ (one : Step). events_of (one ∷ later) ≡ []) same (cut-last id cuts heard later before rest silent going)

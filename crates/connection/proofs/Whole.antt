@@ -9,9 +9,10 @@ use Rattle.account.specs.Accounts.{Begins, IsBody, IsLawful, IsResponse}
 use Rattle.callhead.specs.declared.head.CallHead.{CallHead}
 use Rattle.callrun.specs.Outcomes.{IsBegun, IsOutcome}
 use Rattle.callrun.specs.Responses.{reply_item}
-use Rattle.callslot.specs.declared.report.CallReport.{CallReport}
-use Rattle.callslot.specs.declared.report.Ending.{Ending}
-use Rattle.callslot.specs.Accounts.{IsGivenAs, StandsOn}
+use Rattle.callparts.specs.declared.call_account.CallAccount.{CallAccount}
+use Rattle.callparts.specs.declared.report.Ending.{Ending}
+use Rattle.callparts.specs.Accounts.{StandsOn}
+use Rattle.callparts.specs.Workers.{IsGivenAs}
 use Rattle.handlers.specs.declared.reply.Reply.{Reply}
 use Rattle.handlers.specs.declared.step.Step.{Step as Answer}
 use Rattle.outwriter.specs.declared.control.Control.TheVariants.{InputEnded}
@@ -21,11 +22,11 @@ use Rattle.outwriter.specs.Runs.{is_opened}
 use Rattle.outwriter.specs.Steps.{Order, Step}
 use Rattle.session.specs.declared.event.InEvent.{InEvent}
 use Rattle.session.specs.Events.{Events}
-use Rattle.slots.specs.Calls.{is_admitted}
-use Rattle.slots.specs.Orders.{orders_by}
-use Rattle.slots.specs.Reports.{AreHeard, IsAccounted}
-use Rattle.slots.specs.Steps.{Step as Heard, events_of}
-use Rattle.slotwriter.specs.Orders.{Obeys}
+use Rattle.readerloop.specs.Calls.{is_admitted}
+use Rattle.readerloop.specs.Orders.{orders_by}
+use Rattle.readerloop.specs.Reports.{AreHeard, IsSettled}
+use Rattle.readerloop.specs.Steps.{Step as Heard, events_of}
+use Rattle.writerloop.specs.Orders.{Obeys}
 use Rattle.connection.specs.Heard.{HasPut}
 use Rattle.connection.specs.Sent.{CarriesWhatWasSent, IsWholeResponse}
 use Rattle.connection.proofs.OpenedOnce.{never-refused, once-opened}
@@ -161,7 +162,7 @@ ended account part front lawful (inl begins) is =
     (same, sym (begins.1 ∙ (ap (λ (marks : List Mark). part ++ marks) none ∙ append-nil part)) ∙ ap (λ (items : List OutItem). spelled items) same)
 ended account part front lawful (inr (some, code, begins, reset)) is = absurd (not-reset front some code (sym is ∙ reset))
 
-whole-answer : (run : List Step) (id : ℕ) (account : Account) → IsLawful account → CarriesWhatWasSent run id account → is_served id run ≡ true
+whole-answer : (run : List Step) (id : ℕ) (account : Account) → IsLawful account → CarriesWhatWasSent run id account.sent → is_served id run ≡ true
     → (part : List Mark) × IsPart id run part × ((front : List Mark) → part ≡ front ++ End ∷ [] → (account.sent ≡ account.given) × (part ≡ spelled account.given))
 whole-answer run id account lawful carries served =
     let told = carries served in (told.0, told.1, λ front is. ended account told.0 front lawful told.2 is)
@@ -225,18 +226,18 @@ given-items account items lawful (inr left) has =
 end-last : (front : List Mark) → HasEnd (front ++ End ∷ [])
 end-last front = subst (λ (marks : List Mark). HasEnd marks) (append-nil (front ++ End ∷ [])) (end-there front [])
 
-response-of : (answers : ℕ → List (List ℕ) → Bool → Answer → Type 0) (head : CallHead) (account : Account) (row : CallReport) (part front : List Mark) → StandsOn answers head account row
-    → (account.sent ≡ account.given) × (part ≡ spelled account.given) → part ≡ front ++ End ∷ [] → IsWholeResponse answers head account row part
-response-of answers head account row part front stands whole is =
+response-of : (answers : ℕ → List (List ℕ) → Bool → Answer → Type 0) (head : CallHead) (whole : Account) (account : CallAccount) (part front : List Mark) → StandsOn answers head whole account
+    → (whole.sent ≡ whole.given) × (part ≡ spelled whole.given) → part ≡ front ++ End ∷ [] → IsWholeResponse answers head whole account part
+response-of answers head whole account part front stands all is =
     let says = stands.answered in
-    let has = subst (λ (marks : List Mark). HasEnd marks) (sym is ∙ whole.1) (end-last front) in
-    let same = given-items account says.items stands.lawful says.ends has in record {
-      sent = whole.0;
-      tells = whole.1;
+    let has = subst (λ (marks : List Mark). HasEnd marks) (sym is ∙ all.1) (end-last front) in
+    let same = given-items whole says.items stands.lawful says.ends has in record {
+      sent = all.0;
+      tells = all.1;
       overdue = says.overdue;
       timed = says.timed;
-      outcome = λ answer known. subst (λ (items : List OutItem). IsOutcome head says.overdue account.told answer items row.status) (sym same) (says.outcome answer known);
-      status = λ answer known. ended-status head says.overdue account.told answer says.items row.status (says.outcome answer known) (subst (λ (items : List OutItem). HasEnd (spelled items)) same has);
+      outcome = λ answer known. subst (λ (items : List OutItem). IsOutcome head says.overdue whole.told answer items account.status) (sym same) (says.outcome answer known);
+      status = λ answer known. ended-status head says.overdue whole.told answer says.items account.status (says.outcome answer known) (subst (λ (items : List OutItem). HasEnd (spelled items)) same has);
     }
 
 -- ---- the stream of a call that was admitted
@@ -253,16 +254,16 @@ module _ (answers : ℕ → List (List ℕ) → Bool → Answer → Type 0) (nam
   other-unended id part front known (inr (inl reset)) is = not-reset front [] reset.0 (sym is ∙ reset.1)
   other-unended id part front known (inr (inr refused)) is = never-refused end came told put run given heard are has obeys id refused.0 known refused.1
 
-  pub whole-response : TellOthers run → (row : CallReport) (accounted : IsAccounted answers names (CarriesWhatWasSent run) told row)
-      → (part : List Mark) × IsPart row.id run part × ((front : List Mark) → part ≡ front ++ End ∷ [] → IsWholeResponse answers accounted.head accounted.account row part)
-  whole-response others row accounted = by (is_opened row.id run) refl
+  pub whole-response : TellOthers run → (account : CallAccount) (settled : IsSettled answers names (CarriesWhatWasSent run) told account)
+      → (part : List Mark) × IsPart account.id run part × ((front : List Mark) → part ≡ front ++ End ∷ [] → IsWholeResponse answers settled.head settled.whole account part)
+  whole-response others account settled = by (is_opened account.id run) refl
     where
-      by : (b : Bool) → is_opened row.id run ≡ b
-          → (part : List Mark) × IsPart row.id run part × ((front : List Mark) → part ≡ front ++ End ∷ [] → IsWholeResponse answers accounted.head accounted.account row part)
+      by : (b : Bool) → is_opened account.id run ≡ b
+          → (part : List Mark) × IsPart account.id run part × ((front : List Mark) → part ≡ front ++ End ∷ [] → IsWholeResponse answers settled.head settled.whole account part)
       by true opened =
-          let served = once-opened end came told put run given heard are has obeys row.id opened in
-          let found = whole-answer run row.id accounted.account accounted.stands.lawful accounted.carried served in
-          (found.0, found.1, λ front is. response-of answers accounted.head accounted.account row found.0 front accounted.stands (found.2 front is) is)
+          let served = once-opened end came told put run given heard are has obeys account.id opened in
+          let found = whole-answer run account.id settled.whole settled.stands.lawful settled.carried served in
+          (found.0, found.1, λ front is. response-of answers settled.head settled.whole account found.0 front settled.stands (found.2 front is) is)
       by false unopened =
-          let found = others row.id unopened in
-          (found.0, found.1, λ front is. absurd (other-unended row.id found.0 front accounted.known found.2 is))
+          let found = others account.id unopened in
+          (found.0, found.1, λ front is. absurd (other-unended account.id found.0 front settled.known found.2 is))

@@ -1,14 +1,14 @@
 -- Why a stream is reset or refused: the cause of each error code of an RST_STREAM (RFC 9113, sections 5.4.2, 6.4 and 7), and of
 -- each refusal (RFC 9113, section 8.1; gRPC over HTTP/2, "Responses").
 -- Lists of steps and runs have the latest first, lists of orders the earliest.
-use Rattle.std.specs.Prelude.{◌≡◌, ◌≢◌, ◌⊎◌, ℕ, true, false, List, [], ◌∷◌, ◌++◌, None, Some}
+use Rattle.std.specs.Prelude.{◌≡◌, ◌⊎◌, ℕ, true, false, List, [], ◌∷◌, ◌++◌, None, Some}
 use Rattle.std.specs.List.{list_any}
 use Rattle.callhead.specs.declared.fault.HeadFault.{HeadFault}
 use Rattle.callhead.specs.declared.head.CallHead.{CallHead}
 use Rattle.callhead.specs.StatusFields.{refusal_of, unknown_method}
 use Rattle.connbook.specs.declared.answers.AdmitFault.{AdmitFault}
 use Rattle.connbook.specs.declared.answers.AdmitFault.TheVariants as refused
-use Rattle.connbook.specs.declared.answers.Receipt.TheVariants.{Discard, CallWindow}
+use Rattle.connbook.specs.declared.answers.Receipt.TheVariants.{CallWindow}
 use Rattle.h2frame.specs.declared.error_code.ErrorCode.{ErrorCode}
 use Rattle.h2frame.specs.declared.error_code.ErrorCode.TheVariants as error
 use Rattle.h2frame.specs.declared.frame.Frame.{Frame}
@@ -18,10 +18,10 @@ use Rattle.outwriter.specs.Parts.{Mark, Fields, End, Reset}
 use Rattle.outwriter.specs.Steps.{Order, Taken, Granted, Written, Returned}
 use Rattle.outwriter.specs.Steps.{Step as RunStep}
 use Rattle.session.specs.declared.event.InEvent.TheVariants as events
-use Rattle.slots.specs.Orders.{is_fed}
-use Rattle.slots.specs.Steps.{Fate, Unknown, TurnedAway, Received, Missed, Cause, AtEnd, NotLive, Step, Told, CutOff, WasTold}
-use Rattle.slotwriter.specs.Blamed.{WouldOverflow}
-use Rattle.slotwriter.specs.Orders.{IsAmong, ends_input}
+use Rattle.readerloop.specs.Orders.{is_fed}
+use Rattle.readerloop.specs.Steps.{Unknown, TurnedAway, Received, Missed, Step, Told, CutOff, WasTold}
+use Rattle.writerloop.specs.Blamed.{WouldOverflow}
+use Rattle.writerloop.specs.Orders.{IsAmong, ends_input}
 
 -- this step was heard, behind these
 abbrev pub WasHeard : Step → List Step → List Step → Type 0
@@ -44,19 +44,17 @@ pub record IsOverWindow (id : ℕ) (told : List Step) : Type 0 where
   pub before : List Step
   pub heard : WasHeard (Told (events.Data id piece counted) (Received CallWindow)) before told
 
--- Data came that its call isn't fed: they were to be fed and weren't taken, or nobody takes them though the half is open.
+-- Data came that were to be fed to its call, and its lane took none.
 pub record LacksData (id : ℕ) (told : List Step) : Type 0 where
   pub piece : List ℕ
   pub counted : ℕ
-  pub fate : Fate
   pub before : List Step
-  pub heard : WasHeard (Told (events.Data id piece counted) fate) before told
-  pub unfed : (fate ≡ Missed) ⊎ ((fate ≡ Received Discard) × (piece ≢ []) × (is_fed id before ≡ true))
+  pub heard : WasHeard (Told (events.Data id piece counted) Missed) before told
 
--- Its call hears no more of its client for this reason, and its half was open.
-pub record WasCut (why : Cause) (id : ℕ) (told : List Step) : Type 0 where
+-- The input has ended, so its call hears no more of its client, and its half was open.
+pub record WasCut (id : ℕ) (told : List Step) : Type 0 where
   pub before : List Step
-  pub heard : WasHeard (CutOff id why) before told
+  pub heard : WasHeard (CutOff id) before told
   pub open_half : is_fed id before ≡ true
 
 -- Its head is malformed (section 8.1.1).
@@ -68,10 +66,9 @@ pub record IsMalformed (id : ℕ) (told : List Step) : Type 0 where
 -- by the code, of those that an event of the stream doesn't name
 abbrev pub HasOwnCause : ErrorCode → ℕ → List Step → Type 0
 HasOwnCause error.ProtocolError id told = IsMalformed id told
-HasOwnCause error.InternalError id told = WasCut (NotLive false) id told
-HasOwnCause error.FlowControlError id told = IsOverWindow id told ⊎ WasCut (NotLive true) id told
+HasOwnCause error.FlowControlError id told = IsOverWindow id told
 HasOwnCause error.RefusedStream id told = WasTurnedAway id told
-HasOwnCause error.Cancel id told = WasCut AtEnd id told
+HasOwnCause error.Cancel id told = WasCut id told
 HasOwnCause error.EnhanceYourCalm id told = LacksData id told
 HasOwnCause _ id told = ⊥
 

@@ -1,107 +1,34 @@
 -- What the reading thread has heard, and had ordered.
 use mathlib.Core.List.{IsPrefix}
-use Rattle.std.specs.Prelude.{◌≡◌, ◌⊎◌, ℕ, Bool, true, false, IfSome, List, [], ◌∷◌, ◌++◌, Option, None, Some}
-use Rattle.account.specs.declared.call.Account.{Account}
-use Rattle.callslot.specs.declared.report.CallReport.{CallReport}
-use Rattle.callslot.specs.declared.report.Ending.{Ending}
-use Rattle.callslot.specs.declared.report.Ending.TheVariants.{Drained, PeerGoaway, ProtocolError}
+use Rattle.std.specs.Prelude.{◌≡◌, ◌⊎◌, ℕ, Bool, true, false, All, IfSome, List, [], ◌∷◌, ◌++◌, Option, None, Some}
+use Rattle.lane.specs.Ring.{out_name, taken}
+use Rattle.callparts.specs.declared.order.Returning.{Returning}
+use Rattle.callparts.specs.declared.register.Naming.{Ghosts as Naming}
+use Rattle.callparts.specs.declared.report.Ending.{Ending}
+use Rattle.callparts.specs.declared.report.Ending.TheVariants.{Drained, PeerGoaway, ProtocolError}
 use Rattle.h2frame.specs.declared.error_code.ErrorCode.{ErrorCode}
 use Rattle.handlers.specs.declared.step.Step.{Step as Answer}
 use Rattle.outwriter.specs.Steps.{Order}
 use Rattle.outwriter.specs.declared.control.Control.TheVariants.{InputEnded, Close}
 use Rattle.session.specs.declared.event.InEvent.{InEvent}
 use Rattle.session.specs.declared.event.InEvent.TheVariants as events
-use Rattle.slots.specs.declared.reading.Decided.{Decided}
-use Rattle.slots.specs.declared.reading.Reading.{Reading}
-use Rattle.slots.specs.declared.worker.Worker.{Ghosts as Hands}
-use Rattle.slots.specs.Lines.{AreNew, SlotCalls, calls_from, calls_of, raw_orders}
-use Rattle.slots.specs.Orders.{ends_at, orders_by}
-use Rattle.slots.specs.Readings.{Decides, Reads}
-use Rattle.slots.specs.Reports.{AreCalm, AreHeard, AreRows, is_heard_out}
-use Rattle.slots.specs.Steps.{AdmitsNoMore, Step, WasTold, events_of, is_draining, reported, IsRising}
+use Rattle.session.specs.Events.{Events}
+use Rattle.readerloop.specs.declared.decided.Decided.{Decided}
+use Rattle.readerloop.specs.declared.reading.Reading.{Reading}
+use Rattle.readerloop.specs.Calls.{HasReturned, Sent, carried_in}
+use Rattle.readerloop.specs.Orders.{ends_at, orders_by}
+use Rattle.readerloop.specs.Readings.{Decides, Reads}
+use Rattle.readerloop.specs.Reports.{AreCalm, AreHeard, is_heard_out}
+use Rattle.readerloop.specs.Steps.{Step, WasTold, events_of, is_draining}
 use Rattle.connection.specs.declared.orders.Orders.{Orders}
 use Rattle.connection.specs.declared.orders.Route.{Ghosts}
 use Rattle.connection.specs.Limits.{AreGoing, AreJustified, Covers, Tally}
-use Rattle.connection.specs.Puts.{Ordered, put_orders}
-use Rattle.connection.specs.Sent.{Lined}
+use Rattle.connection.specs.Puts.{Closed, IsOwn, Ordered}
 
 -- one of these steps ended the connection so
 abbrev pub IsEndedBy : Ending → List Step → Type 0
 IsEndedBy ending [] = ⊥
 IsEndedBy ending (step ∷ before) = (ends_at step ≡ Some ending) ⊎ IsEndedBy ending before
-
-module _ {H : Type 0} {hand : Hands H} {A B C N : Type 0} {route : Ghosts N} (names : List ℕ → ℕ → Type 0) where
-  -- These steps led to the reading side, what was ordered is what they lead to, nothing was refused but what may be, and the input
-  -- goes on.
-  pub record KeptFor (told : List Step) (reading : Reading H hand) (orders : Orders A B C N route) : Type 0 where
-    pub reads : Reads names told reading
-    pub ordered : Ordered (orders_by told) orders
-    pub lined : Lined (calls_of reading.slots) orders
-    pub justified : AreJustified told
-    pub going : AreGoing told
-
-  -- what was decided of a step is done
-  abbrev pub Acts : Decided → Reading H hand → Orders A B C N route → Reading H hand → Orders A B C N route → Type 0
-  Acts decided reading orders reading_new orders_new =
-      ((told : List Step) (step : Step) → Decides names told step decided reading
-      → Reads names (step ∷ told) reading_new × (Ordered (orders_by told) orders → Ordered (orders_by (step ∷ told)) orders_new))
-      × ((slots : List SlotCalls) → calls_from slots (raw_orders decided) ≡ calls_of reading.slots → AreNew slots (raw_orders decided)
-      → Lined slots orders → Lined (calls_of reading_new.slots) orders_new)
-
-  -- With these steps, of which no event tells and none of which ends the connection, calls were cut, as at the end of the input only where it
-  -- has ended; or the server drains.
-  pub record Cuts (ended : Bool) (told cuts : List Step) (reading reading_new : Reading H hand) (orders orders_new : Orders A B C N route) : Type 0 where
-    pub silent : events_of cuts ≡ []
-    pub calm : AreCalm cuts
-    pub going : ended ≡ false → AreGoing cuts
-    pub reads : Reads names (cuts ++ told) reading_new
-    pub ordered : Ordered (orders_by told) orders → Ordered (orders_by (cuts ++ told)) orders_new
-    pub lined : Lined (calls_of reading.slots) orders → Lined (calls_of reading_new.slots) orders_new
-
-  abbrev pub CutsSome : Bool → Reading H hand → Orders A B C N route → Reading H hand → Orders A B C N route → Type 0
-  CutsSome ended reading orders reading_new orders_new = (told : List Step) → Reads names told reading
-      → (cuts : List Step) × Cuts ended told cuts reading reading_new orders orders_new
-
-  -- Whatever steps were heard before, with some that tell of these events they are those that were heard after; and they tell of
-  -- them all, and none ends the connection, unless one of them does so.
-  pub record Tells (given : List InEvent) (end : Option Ending) (told more : List Step) (reading : Reading H hand) (orders : Orders A B C N route) : Type 0 where
-    pub front : IsPrefix (events_of more) given
-    pub all : end ≡ None → events_of more ≡ given
-    pub calm : end ≡ None → AreCalm more
-    pub ended : IfSome end (λ ending. IsEndedBy ending more)
-    pub kept : KeptFor (more ++ told) reading orders
-
-  abbrev pub ReadsTo : List InEvent → Option Ending → Reading H hand → Orders A B C N route → Reading H hand → Orders A B C N route → Type 0
-  ReadsTo given end reading orders reading_new orders_new = (told : List Step) → KeptFor told reading orders
-      → (more : List Step) × Tells given end told more reading_new orders_new
-
-  -- The same, where the reader had counted no more before than the steps tell, and no more after.
-  abbrev pub ReadsWith : Tally → Tally → List InEvent → Option Ending → Reading H hand → Orders A B C N route → Reading H hand → Orders A B C N route → Type 0
-  ReadsWith tally tally_new given end reading orders reading_new orders_new = (told : List Step) → KeptFor told reading orders → Covers told tally
-      → (more : List Step) × Tells given end told more reading_new orders_new × Covers (more ++ told) tally_new
-
-  -- These steps were heard of the bytes that came, all of them where all that came was heard, and then none ended the connection. What was
-  -- ordered is what they lead to. The ending has its cause among them.
-  pub record HasRead (end : Ending) (came : List ℕ) (told : List Step) (reading : Reading H hand) (orders : Orders A B C N route) : Type 0 where
-    pub reads : Reads names told reading
-    pub justified : AreJustified told
-    pub going : AreGoing told
-    pub heard : AreHeard end came (events_of told)
-    pub calm : is_heard_out end ≡ true → AreCalm told
-    pub ordered : Ordered (orders_by told) orders
-    pub lined : Lined (calls_of reading.slots) orders
-    pub goaway : end ≡ PeerGoaway → WasTold events.PeerGoaway told
-    pub drained : end ≡ Drained → is_draining told ≡ true
-    pub failed : (code : ErrorCode) → end ≡ ProtocolError code → IsEndedBy (ProtocolError code) told
-
--- The end of the reading: behind these steps all calls were cut with some more, and there is a row for each.
-pub record HasEnded {V : Type 0} (items : V → List CallReport) (answers : ℕ → List (List ℕ) → Bool → Answer → Type 0) (names : List ℕ → ℕ → Type 0)
-    (carries : ℕ → Account → Type 0) (told cuts : List Step) (calls : V) : Type 0 where
-  pub silent : events_of cuts ≡ []
-  pub calm : AreCalm cuts
-  pub rising : IsRising (cuts ++ told)
-  pub closed : AdmitsNoMore (cuts ++ told)
-  pub rows : AreRows answers names carries (cuts ++ told) (reported (cuts ++ told)) (items calls)
 
 -- A beginning of these orders was put, and behind it that no more come.
 pub record HasPut (all put : List Order) : Type 0 where
@@ -109,9 +36,103 @@ pub record HasPut (all put : List Order) : Type 0 where
   pub begins : IsPrefix front all
   pub closed : put ≡ front ++ Close ∷ []
 
-module _ {A B C N : Type 0} {route : Ghosts N} where
-  -- behind what these steps lead to it was ordered that the input has ended: all of that was put, unless orders were dropped
-  abbrev pub EndsOrders : List Step → List Step → Orders A B C N route → Orders A B C N route → Type 0
-  EndsOrders told cuts old new = Ordered (orders_by told) old
-      → HasPut (orders_by (cuts ++ told) ++ InputEnded ∷ []) (put_orders new)
-      × (new.has_dropped ≡ false → put_orders new ≡ orders_by (cuts ++ told) ++ InputEnded ∷ Close ∷ [])
+-- ---- senders that came home
+
+module _ {J : Type 0} {book : Naming J} where
+  -- what each of these senders got is carried so
+  abbrev pub AreCarried : List Sent → List (Returning J book) → Type 0
+  AreCarried sent returnings = All (λ returning. HasReturned (carried_in sent) returning.sending.value) returnings
+
+module _ {J M : Type 0} {book : Naming J} where
+  -- more senders came home, on the same way
+  pub record Grows (old new : Reading J M book) : Type 0 where
+    pub name : out_name new.home ≡ out_name old.home
+    pub more : List (Returning J book)
+    pub took : taken new.home ≡ taken old.home ++ more
+
+module _ {J M : Type 0} {book : Naming J} (known : ℕ → List (List ℕ) → Bool → Answer → Type 0) (names : List ℕ → ℕ → Type 0) where
+  -- Nothing was heard: the same steps still led to the reading side, with what came home meanwhile, where that is carried so.
+  pub record Collects (old new : Reading J M book) : Type 0 where
+    pub grows : Grows old new
+    pub keeps : (sent : List Sent) (told : List Step) → AreCarried sent (taken new.home) → Reads known names (carried_in sent) told old → Reads known names (carried_in sent) told new
+
+module _ {A B C J M N : Type 0} {book : Naming J} {route : Ghosts N} (known : ℕ → List (List ℕ) → Bool → Answer → Type 0) (names : List ℕ → ℕ → Type 0) where
+  -- These steps led to the reading side, what was ordered is what they lead to, nothing was refused but what may be, and the input
+  -- goes on.
+  pub record KeptFor (sent : List Sent) (told : List Step) (reading : Reading J M book) (orders : Orders A B C J N book route) : Type 0 where
+    pub reads : Reads known names (carried_in sent) told reading
+    pub ordered : Ordered (orders_by told) orders
+    pub justified : AreJustified told
+    pub going : AreGoing told
+
+  -- what was decided of a step is done
+  pub record Acts (decided : Decided J book) (reading : Reading J M book) (orders : Orders A B C J N book route) (reading_new : Reading J M book) (orders_new : Orders A B C J N book route) : Type 0 where
+    pub home : reading_new.home ≡ reading.home
+    pub reads : (sent : List Sent) (told : List Step) (step : Step) → Decides known names (carried_in sent) told step decided reading
+        → Reads known names (carried_in sent) (step ∷ told) reading_new
+    pub ordered : (sent : List Sent) (told : List Step) (step : Step) → Decides known names (carried_in sent) told step decided reading → IfSome decided.order IsOwn
+        → Ordered (orders_by told) orders → Ordered (orders_by (step ∷ told)) orders_new
+
+  -- With these steps, of which no event tells and none of which ends the connection, calls were cut, only where the input has ended; or the server
+  -- drains.
+  pub record Cuts (ended : Bool) (sent : List Sent) (told cuts : List Step) (reading_new : Reading J M book) (orders orders_new : Orders A B C J N book route) : Type 0 where
+    pub silent : events_of cuts ≡ []
+    pub calm : AreCalm cuts
+    pub going : ended ≡ false → AreGoing cuts
+    pub reads : Reads known names (carried_in sent) (cuts ++ told) reading_new
+    pub ordered : Ordered (orders_by told) orders → Ordered (orders_by (cuts ++ told)) orders_new
+
+  abbrev pub CutsSome : Bool → Reading J M book → Orders A B C J N book route → Reading J M book → Orders A B C J N book route → Type 0
+  CutsSome ended reading orders reading_new orders_new =
+      (reading_new.home ≡ reading.home)
+      × ((sent : List Sent) (told : List Step) → Reads known names (carried_in sent) told reading
+      → (cuts : List Step) × Cuts ended sent told cuts reading_new orders orders_new)
+
+  -- Whatever steps were heard before, with some that tell of these events they are those that were heard after; and they tell of
+  -- them all, and none ends the connection, unless one of them does so.
+  pub record Tells (sent : List Sent) (given : List InEvent) (end : Option Ending) (told more : List Step) (reading : Reading J M book) (orders : Orders A B C J N book route) : Type 0 where
+    pub front : IsPrefix (events_of more) given
+    pub all : end ≡ None → events_of more ≡ given
+    pub calm : end ≡ None → AreCalm more
+    pub ended : IfSome end (λ ending. IsEndedBy ending more)
+    pub kept : KeptFor sent (more ++ told) reading orders
+
+  abbrev pub ReadsTo : List InEvent → Option Ending → Reading J M book → Orders A B C J N book route → Reading J M book → Orders A B C J N book route → Type 0
+  ReadsTo given end reading orders reading_new orders_new =
+      Grows reading reading_new
+      × ((sent : List Sent) → AreCarried sent (taken reading_new.home) → (told : List Step) → KeptFor sent told reading orders
+      → (more : List Step) × Tells sent given end told more reading_new orders_new)
+
+  -- The same, where the reader had counted no more before than the steps tell, and no more after.
+  abbrev pub ReadsWith : Tally → Tally → List InEvent → Option Ending → Reading J M book → Orders A B C J N book route → Reading J M book → Orders A B C J N book route → Type 0
+  ReadsWith tally tally_new given end reading orders reading_new orders_new =
+      Grows reading reading_new
+      × ((sent : List Sent) → AreCarried sent (taken reading_new.home) → (told : List Step) → KeptFor sent told reading orders → Covers told tally
+      → (more : List Step) × Tells sent given end told more reading_new orders_new × Covers (more ++ told) tally_new)
+
+  -- These steps were heard of the bytes that came, all of them where all that came was heard, and then none ended the connection; they tell of
+  -- what is the first of the events of some bytes. What was
+  -- ordered is what they lead to. The ending has its cause among them.
+  pub record HasRead (sent : List Sent) (end : Ending) (came : List ℕ) (told : List Step) (reading : Reading J M book) (orders : Orders A B C J N book route) : Type 0 where
+    pub reads : Reads known names (carried_in sent) told reading
+    pub justified : AreJustified told
+    pub going : AreGoing told
+    pub heard : AreHeard end came (events_of told)
+    pub some : (bytes : List ℕ) × (given : List InEvent) × Events bytes given × IsPrefix (events_of told) given
+    pub calm : is_heard_out end ≡ true → AreCalm told
+    pub ordered : Ordered (orders_by told) orders
+    pub goaway : end ≡ PeerGoaway → WasTold events.PeerGoaway told
+    pub drained : end ≡ Drained → is_draining told ≡ true
+    pub failed : (code : ErrorCode) → end ≡ ProtocolError code → IsEndedBy (ProtocolError code) told
+
+  -- Where what came home is carried so, some steps led to the reading side, and what was ordered is what they lead to.
+  abbrev pub Hears : Reading J M book → Orders A B C J N book route → Type 0
+  Hears reading orders = (sent : List Sent) → AreCarried sent (taken reading.home) → (told : List Step) × Reads known names (carried_in sent) told reading × Ordered (orders_by told) orders
+
+  -- The end of the reading: behind these steps all calls were cut with some more, and it was ordered that the input has ended, and that no more
+  -- orders come.
+  pub record HasEnded (sent : List Sent) (told cuts : List Step) (reading : Reading J M book) (orders orders_new : Orders A B C J N book route) : Type 0 where
+    pub silent : events_of cuts ≡ []
+    pub calm : AreCalm cuts
+    pub reads : Reads known names (carried_in sent) (cuts ++ told) reading
+    pub ordered : Ordered (orders_by told) orders → Closed (orders_by (cuts ++ told) ++ InputEnded ∷ []) orders_new

@@ -2,9 +2,9 @@ pub mod Left
 pub mod Limits
 pub mod Codes
 pub mod Puts
+pub mod Rest
 pub mod Heard
 pub mod Served
 pub mod Sent
 pub mod Causes
 pub mod News
-pub mod Overrun

@@ -10,8 +10,8 @@ use Rattle.connbook.specs.declared.answers.Receipt.TheVariants as receipt
 use Rattle.session.specs.declared.event.InEvent.{InEvent}
 use Rattle.session.specs.declared.event.InEvent.TheVariants as events
 use Rattle.session.specs.FlowBytes.{counted_by, counted_told}
-use Rattle.slots.specs.Orders.{IsDue}
-use Rattle.slots.specs.Steps.{Received, Missed, TurnedAway, AtEnd, NotLive, Step, Told, CutOff, Drains, Lacks, events_of, is_draining, reported}
+use Rattle.readerloop.specs.Orders.{IsDue}
+use Rattle.readerloop.specs.Steps.{Received, Missed, Lacking, TurnedAway, Step, Told, CutOff, Drains, Lacks, events_of, is_draining, reported}
 
 -- A call isn't admitted behind 64 or more that were, where the server drains, for want of memory, or since its number doesn't rise.
 abbrev pub MayTurnAway : ℕ → Bool → AdmitFault → Type 0
@@ -27,7 +27,7 @@ MayRefuse came receipt.Overrun = 65535 < came
 MayRefuse came receipt.Feed = Unit {0}
 MayRefuse came receipt.Discard = Unit {0}
 
--- a piece is missed only where it has bytes, and its call's half was open
+-- a piece is missed, and there is no memory for one, only where it has bytes, and its call's half was open
 abbrev pub IsDueOf : InEvent → List Step → Type 0
 IsDueOf (events.Data id piece counted) before = IsDue id piece before
 IsDueOf _ before = Unit {0}
@@ -37,6 +37,7 @@ abbrev pub IsJustified : Step → List Step → Type 0
 IsJustified (Told event (TurnedAway fault)) before = MayTurnAway (length (reported before)) (is_draining before) fault
 IsJustified (Told event (Received found)) before = MayRefuse (counted_told (events_of before) + counted_by event) found
 IsJustified (Told event Missed) before = IsDueOf event before
+IsJustified (Told event Lacking) before = IsDueOf event before
 IsJustified _ before = Unit {0}
 
 abbrev pub AreJustified : List Step → Type 0
@@ -45,16 +46,15 @@ AreJustified (step ∷ before) = IsJustified step before × AreJustified before
 
 -- ---- the end of the input
 
--- no call was cut as at the end of the input
+-- no call was cut
 abbrev pub AreGoing : List Step → Type 0
 AreGoing [] = Unit {0}
 AreGoing (Told event fate ∷ before) = AreGoing before
-AreGoing (CutOff id (NotLive answered) ∷ before) = AreGoing before
-AreGoing (CutOff id AtEnd ∷ before) = ⊥
+AreGoing (CutOff id ∷ before) = ⊥
 AreGoing (Drains ∷ before) = AreGoing before
 AreGoing (Lacks ∷ before) = AreGoing before
 
--- such cuts come last: no event was told behind the first of them
+-- cuts come last: no event was told behind the first of them
 pub record EndsLast (told : List Step) : Type 0 where
   pub cuts : List Step
   pub heard : List Step
@@ -62,11 +62,11 @@ pub record EndsLast (told : List Step) : Type 0 where
   pub silent : events_of cuts ≡ []
   pub going : AreGoing heard
 
--- The call was cut as at the end of the input, behind the last event.
+-- The call was cut, behind the last event.
 pub record WasCutLast (id : ℕ) (told : List Step) : Type 0 where
   pub before : List Step
   pub later : List Step
-  pub parts : told ≡ later ++ CutOff id AtEnd ∷ before
+  pub parts : told ≡ later ++ CutOff id ∷ before
   pub silent : events_of later ≡ []
 
 -- ---- what the reader has counted in the credit book

@@ -12,7 +12,7 @@ use Rattle.outwriter.specs.Steps.{Order, Taken, Granted, Written, Returned}
 use Rattle.outwriter.specs.Steps.{Step as RunStep}
 use Rattle.session.specs.declared.event.InEvent.{InEvent}
 use Rattle.session.specs.declared.event.InEvent.TheVariants as events
-use Rattle.slots.specs.Orders.{news_of}
+use Rattle.readerloop.specs.Orders.{news_of}
 
 abbrev pub is_news : Order → Bool
 is_news (Settings settings) = true

@@ -1,8 +1,8 @@
 -- What became of a connection: over one list of what was heard, one list of what was ordered, and one run of its writer.
-use Rattle.std.specs.Prelude.{◌≡◌, ◌≢◌, ◌⊎◌, ◌≤◌, ℕ, Bool, true, false, List, [], ◌∷◌, ◌++◌, Option, Some}
-use Rattle.callslot.specs.declared.report.CallReport.{CallReport}
-use Rattle.callslot.specs.declared.report.Ending.{Ending}
-use Rattle.callslot.specs.declared.report.Ending.TheVariants.{Drained, PeerGoaway, ProtocolError, ReadFailed, WriteFailed, OutOfMemory}
+use Rattle.std.specs.Prelude.{◌≡◌, ◌⊎◌, ◌≤◌, ℕ, Bool, true, false, List, [], ◌∷◌, ◌++◌, Option, Some}
+use Rattle.callparts.specs.declared.call_account.CallAccount.{CallAccount}
+use Rattle.callparts.specs.declared.report.Ending.{Ending}
+use Rattle.callparts.specs.declared.report.Ending.TheVariants.{Drained, PeerGoaway, ProtocolError, ReadFailed, WriteFailed}
 use Rattle.h2frame.specs.declared.error_code.ErrorCode.{ErrorCode}
 use Rattle.h2frame.specs.declared.error_code.ErrorCode.TheVariants.{FlowControlError}
 use Rattle.handlers.specs.declared.step.Step.{Step as Answer}
@@ -13,16 +13,15 @@ use Rattle.outwriter.specs.Steps.{Step as RunStep}
 use Rattle.outwriter.specs.declared.control.Control.TheVariants.{InputEnded, Close}
 use Rattle.session.specs.declared.event.InEvent.TheVariants as events
 use Rattle.session.specs.FlowBytes.{counted_told}
-use Rattle.slots.specs.Calls.{is_admitted}
-use Rattle.slots.specs.Orders.{greatest, orders_by}
-use Rattle.slots.specs.Reports.{AreCalm, AreHeard, AreRows, WasResetFor, is_heard_out}
-use Rattle.slots.specs.Steps.{AdmitsNoMore, IsRising, Step, WasTold, events_of, is_draining, reported}
-use Rattle.slotwriter.specs.Blamed.{WouldOverflow}
-use Rattle.slotwriter.specs.Left.{left_in}
-use Rattle.slotwriter.specs.Written.{HasWritten}
+use Rattle.readerloop.specs.Calls.{is_admitted}
+use Rattle.readerloop.specs.Orders.{greatest, orders_by}
+use Rattle.readerloop.specs.Reports.{AreAccounts, AreCalm, AreHeard, WasResetFor, is_heard_out}
+use Rattle.readerloop.specs.Steps.{AdmitsNoMore, IsRising, Step, WasTold, events_of, is_draining, reported}
+use Rattle.writerloop.specs.Blamed.{WouldOverflow}
+use Rattle.writerloop.specs.Left.{left_in}
+use Rattle.writerloop.specs.Written.{HasWritten}
 use Rattle.connection.specs.Heard.{HasPut, IsEndedBy}
 use Rattle.connection.specs.Left.{AreLeft}
-use Rattle.connection.specs.Overrun.{AreOverrun}
 use Rattle.connection.specs.Sent.{CarriesWhatWasSent}
 use Rattle.connection.specs.Limits.{AreJustified, EndsLast}
 
@@ -41,10 +40,10 @@ abbrev pub is_drained : Ending → Bool
 is_drained Drained = true
 is_drained _ = false
 
-module _ {W V : Type 0} (items : V → List CallReport) (contents : W → Option (List ℕ)) (failed : W → Bool)
+module _ {W V : Type 0} (items : V → List CallAccount) (contents : W → Option (List ℕ)) (failed : W → Bool)
     (answers : ℕ → List (List ℕ) → Bool → Answer → Type 0) (names : List ℕ → ℕ → Type 0) where
   -- These bytes came. What was written before to the device, and what was written since; whether a read failed; how the connection ended; and
-  -- the rows of its calls.
+  -- the accounts of its calls.
   pub record IsServed (came : List ℕ) (before : Option (List ℕ)) (read_failed : Bool) (end : Ending) (calls : V) (device : W) : Type 0 where
     -- what was heard, and what was ordered
     pub told : List Step
@@ -57,7 +56,7 @@ module _ {W V : Type 0} (items : V → List CallReport) (contents : W → Option
     pub justified : AreJustified told
     -- behind a drain no call was admitted
     pub closed : AdmitsNoMore told
-    -- as at the end of the input calls were cut only behind the last event
+    -- calls were cut only behind the last event
     pub ended : EndsLast told
     -- The orders are those that these steps lead to, one by one, or a beginning; and where all that came was heard, all of them. So a
     -- half was reset, though END_STREAM came, only where a reset of the stream was ordered.
@@ -69,13 +68,11 @@ module _ {W V : Type 0} (items : V → List CallReport) (contents : W → Option
     pub written : HasWritten contents failed before granted put (Some end) (is_drained end) device
     -- the increments of its WINDOW_UPDATE frames on the connection sum to at most the bytes of DATA that were heard (RFC 9113, section 6.9)
     pub credit : updated 0 written.run ≤ counted_told (events_of told)
-    -- a row for each call that was admitted, in order, on its lawful account; where no worker served it, nothing was fed, taken or given
-    -- and what was sent of each call is what its stream carries
-    pub rows : AreRows answers names (CarriesWhatWasSent written.run) told (reported told) (items calls)
-    -- where memory didn't run out, no call has a status whose stream was reset with INTERNAL_ERROR (section 7): it was left without trailers
-    pub left : end ≢ OutOfMemory → AreLeft (left_in written.run) (items calls)
-    -- where the server drained, the last GOAWAY that was written has no error, and names the greatest stream of a row, 0 for none (section 6.8)
+    -- an account for each call that was admitted, in order, of a lawful one, settled from its own lanes' ends; where no worker served it, nothing was
+    -- fed, taken or given; and what was sent of each call is what its stream carries
+    pub rows : AreAccounts answers names (CarriesWhatWasSent written.run) told (reported told) (items calls)
+    -- no call has a status whose stream was reset with INTERNAL_ERROR (section 7): it was left without trailers
+    pub left : AreLeft (left_in written.run) (items calls)
+    -- where the server drained, the last GOAWAY that was written has no error, and names the greatest stream of an account, 0 for none (section 6.8)
     pub drained : end ≡ Drained → HasDrained (greatest (reported told)) written.run
-    -- where memory didn't run out, a call that was answered was cut as live no more only since its window would be too large (section 6.9.1)
-    pub overran : end ≢ OutOfMemory → AreOverrun told written.run
     pub cause : HasCause end told written.run read_failed (failed device)

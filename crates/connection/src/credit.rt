@@ -1,7 +1,7 @@
 //! What follows of the credit that is told on a connection, by the fields of its record (`IsServed`). It does nothing.
 
 ghost use Rattle.std.specs.Prelude.{◌≤◌, ℕ, List};
-ghost use Rattle.callslot.specs.declared.report.Ending.{Ending as Ended};
+ghost use Rattle.callparts.specs.declared.report.Ending.{Ending as Ended};
 ghost use Rattle.h2frame.specs.FrameList.{Entry};
 ghost use Rattle.outwriter.specs.Credit.{updated};
 ghost use Rattle.outwriter.specs.Steps.{Step as RunStep};
@@ -9,8 +9,8 @@ ghost use Rattle.session.specs.declared.event.InEvent.{InEvent as InEventOf};
 ghost use Rattle.session.specs.Events.{Events};
 ghost use Rattle.session.specs.FlowBytes.{counted_told, payloads};
 ghost use Rattle.session.specs.Framings.{Framed};
-ghost use Rattle.slots.specs.Reports.{AreHeard};
-ghost use Rattle.slots.specs.Steps.{Step, events_of};
+ghost use Rattle.readerloop.specs.Reports.{AreHeard};
+ghost use Rattle.readerloop.specs.Steps.{Step, events_of};
 
 /// The increments of WINDOW_UPDATE on the connection sum to at most the payloads, padding included, of the DATA frames that came
 /// and count (RFC 9113, sections 6.1 and 6.9).

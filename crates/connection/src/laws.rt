@@ -1,12 +1,11 @@
 //! Laws of what becomes of a connection, by the fields of its record (`IsServed`). None of them does anything.
 
 ghost use mathlib.Core.List.{IsPrefix};
-ghost use Rattle.std.specs.Prelude.{◌≡◌, ◌≢◌, ◌⊎◌, ◌<◌, ◌++◌, ◌∷◌, ℕ, List, [], false, map, true};
+ghost use Rattle.std.specs.Prelude.{◌≡◌, ◌⊎◌, ◌<◌, ◌++◌, ◌∷◌, ℕ, List, [], false, map, true};
 ghost use Rattle.std.specs.List.{list_any};
 ghost use Rattle.account.specs.Accounts.{Begins};
-ghost use Rattle.callslot.specs.declared.report.CallReport.{CallReport as Row};
-ghost use Rattle.callslot.specs.declared.report.Ending.{Ending as Ended};
-ghost use Rattle.callslot.specs.declared.report.Ending.TheVariants.{OutOfMemory};
+ghost use Rattle.callparts.specs.declared.call_account.CallAccount.{CallAccount};
+ghost use Rattle.callparts.specs.declared.report.Ending.{Ending as Ended};
 ghost use Rattle.h2frame.specs.declared.error_code.ErrorCode.{ErrorCode as Code};
 ghost use Rattle.h2frame.specs.declared.frame.Frame.{Frame};
 ghost use Rattle.h2frame.specs.declared.kind.FrameKind.TheVariants.{RstStream};
@@ -17,12 +16,12 @@ ghost use Rattle.outwriter.specs.Parts.{IsPart, Mark};
 ghost use Rattle.outwriter.specs.RunState.{IsAnswered};
 ghost use Rattle.outwriter.specs.Runs.{IsLawful, told as duties_told};
 ghost use Rattle.outwriter.specs.Steps.{Order, Step as RunStep, frames_of};
-ghost use Rattle.slots.specs.Calls.{is_admitted};
-ghost use Rattle.slots.specs.Orders.{orders_by};
-ghost use Rattle.slots.specs.Reports.{AreHeard};
-ghost use Rattle.slots.specs.Steps.{AtEnd, IsRising, Step, events_of, reported};
-ghost use Rattle.slotwriter.specs.Left.{left_in};
-ghost use Rattle.slotwriter.specs.Orders.{IsAmong, Obeys};
+ghost use Rattle.readerloop.specs.Calls.{is_admitted};
+ghost use Rattle.readerloop.specs.Orders.{orders_by};
+ghost use Rattle.readerloop.specs.Reports.{AreHeard};
+ghost use Rattle.readerloop.specs.Steps.{IsRising, Step, events_of, reported};
+ghost use Rattle.writerloop.specs.Left.{left_in};
+ghost use Rattle.writerloop.specs.Orders.{IsAmong, Obeys};
 ghost use Rattle.session.specs.declared.event.InEvent.{InEvent as InEventOf};
 ghost use Rattle.session.specs.Events.{Events};
 ghost use Rattle.session.specs.Framings.{Framed};
@@ -31,7 +30,6 @@ ghost use Rattle.h2frame.specs.FrameList.{Entry};
 ghost use Rattle.connection.specs.Causes.{HasCauseOf, HasResetCause, IsOverWindow, IsRefusal, WasCut, WasTaken, WasTurnedAway, WasWritten};
 ghost use Rattle.connection.specs.Codes.{MayHaveCode};
 ghost use Rattle.connection.specs.Left.{AreLeft};
-ghost use Rattle.connection.specs.Overrun.{AreOverrun};
 ghost use Rattle.connection.specs.Limits.{AreJustified, EndsLast, IsOneTooMany, WasCutLast, WasDrained};
 ghost use Rattle.connection.specs.Heard.{HasPut};
 ghost use Rattle.connection.specs.News.{acknowledgements, answers_to, news_in, news_told, taken_by};
@@ -103,31 +101,29 @@ pub fn all_answers()
 pub fn reset_codes()
     ensures { (end : Ended) (came : List ℕ) (told : List Step) (put : List Order)
         (run : List RunStep) (given : List InEventOf) (entries : List Entry)
-        (rows : List Row) →
+        (accounts : List CallAccount) →
         AreHeard end came (events_of told) → IsRising told → AreJustified told → EndsLast told
         → Events came given → Framed came given entries
-        → (end ≢ OutOfMemory → AreLeft (left_in run) rows)
-        → map (λ row. row.id) rows ≡ reported told
-        → (end ≢ OutOfMemory → AreOverrun told run) →
+        → AreLeft (left_in run) accounts
+        → map (λ account. account.id) accounts ≡ reported told →
         HasPut (orders_by told ++ InputEnded ∷ []) put → Obeys true put run → IsLawful run →
         (frame : Frame) → WasWritten frame run → frame.head.kind ≡ RstStream →
         (code : Code) × (frame ≡ reset_frame frame.head.stream code)
-        × MayHaveCode end code frame.head.stream entries told put run rows }
+        × MayHaveCode code frame.head.stream entries told put run accounts }
 {}
 
 /// So has each reset that is to be written, of those that the writer took.
 pub fn order_codes()
     ensures { (end : Ended) (came : List ℕ) (told : List Step) (put : List Order)
         (run : List RunStep) (given : List InEventOf) (entries : List Entry)
-        (rows : List Row) →
+        (accounts : List CallAccount) →
         AreHeard end came (events_of told) → IsRising told → AreJustified told → EndsLast told
         → Events came given → Framed came given entries
-        → (end ≢ OutOfMemory → AreLeft (left_in run) rows)
-        → map (λ row. row.id) rows ≡ reported told
-        → (end ≢ OutOfMemory → AreOverrun told run) →
+        → AreLeft (left_in run) accounts
+        → map (λ account. account.id) accounts ≡ reported told →
         HasPut (orders_by told ++ InputEnded ∷ []) put → Obeys true put run →
         (id : ℕ) (code : Code) → WasTaken (Reset id code true) run
-        → MayHaveCode end code id entries told put run rows }
+        → MayHaveCode code id entries told put run accounts }
 {}
 
 /// A stream is refused only where at least 64 calls were admitted before it, all on lesser streams, or behind a drain: sections 5.1.2
@@ -149,6 +145,6 @@ pub fn over_window()
 
 /// A stream is cancelled only behind the last event that was heard.
 pub fn cancelled_last()
-    ensures { (told : List Step) (id : ℕ) → EndsLast told → WasCut AtEnd id told
+    ensures { (told : List Step) (id : ℕ) → EndsLast told → WasCut id told
         → WasCutLast id told }
 {}

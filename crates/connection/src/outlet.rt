@@ -1,17 +1,18 @@
 //! The writer's hold on the credit book.
 
 ghost use Rattle.std.specs.Prelude.{◌≡◌, ◌<◌, ℕ};
-ghost use Rattle.slotwriter.specs.Written.{LeadsTo};
+ghost use Rattle.writerloop.specs.Written.{LeadsTo};
 
+use callparts::Naming;
 use callworker::Shared;
 use connbook::ConnBook;
 use device::ConnWrite;
 use flow::MAX_LIVE;
 use h2frame::StreamId;
-use slotwriter::SlotWriter;
 use std::marker::Model;
 use std::sync::ledger::{Ledger, Share};
 use std::sync::{Arc, Wait};
+use writerloop::Writing;
 
 /// The credit book, and the share of the one who announces credit: all parts of its ledger. Its value is how much was announced on the
 /// connection.
@@ -63,10 +64,10 @@ impl<A: Ledger, B: Ledger, C: Ledger> Outlet<A, B, C> {
 
     /// Has the writer owe the peer all credit that is due. What it owes on the connection by that counts in the share. Whether no
     /// more calls are admitted.
-    pub(crate) fn announce<W: ConnWrite + Drop>(
+    pub(crate) fn announce<J: Naming, W: ConnWrite + Drop>(
         &mut self,
         rt: &impl Wait,
-        writing: &mut SlotWriter<W>,
+        writing: &mut Writing<J, W>,
     ) -> bool
         ensures { LeadsTo W.contents W.failed self.old writing.old self.new writing.new }
     {
@@ -85,16 +86,17 @@ impl<A: Ledger, B: Ledger, C: Ledger> Outlet<A, B, C> {
 
 /// Has the writer owe the peer what credit is due on a stream, or on the connection where it is 0. It stays due on a stream that the
 /// writer hasn't opened yet, though the reader has admitted its call and its worker given bytes back: what is granted there wouldn't count.
-fn announce_on<A, B, C, W>(
+fn announce_on<A, B, C, J, W>(
     book: &mut ConnBook<A, B, C>,
     told: &mut Share<C>,
-    writing: &mut SlotWriter<W>,
+    writing: &mut Writing<J, W>,
     id: StreamId,
 )
 where
     A: Ledger,
     B: Ledger,
     C: Ledger,
+    J: Naming,
     W: ConnWrite + Drop,
     requires some { 0 < told.old.parts }
     ensures parts { told.new.parts ≡ told.old.parts }

@@ -1,61 +1,65 @@
-//! The reading thread of a connection: it reads, asks the lock, and does what the reading side decides (the crate `slots`).
+//! The reading thread of a connection: it reads, asks the lock, and does what the reading side decides (the crate `readerloop`).
 
+ghost use mathlib.Core.List.{IsPrefix};
 ghost use Rattle.callhead.specs.declared.head.CallHead.{CallHead as Head};
-ghost use Rattle.std.specs.Prelude.{◌≡◌, ◌<◌, ◌≤◌, ◌++◌, ◌∷◌, ℕ, List, [], None, Some, Ok, IfOk, IfSome, OnErr, false, true, vec_capacity, vec_len};
-ghost use Rattle.callslot.specs.declared.report.Ending.TheVariants as ending;
-ghost use Rattle.callworker.specs.Works.{IsKnown};
+ghost use Rattle.std.specs.Prelude.{◌≡◌, ◌<◌, ◌≤◌, ◌++◌, ◌∷◌, ℕ, List, [], None, Some, Ok, IfOk, IfSome, OnErr, OnOk, false, true, length, vec_capacity, vec_len};
+ghost use Rattle.std.specs.Io.KnownBytes.{Consumes};
+ghost use Rattle.lane.specs.Ring.{in_name, out_name, put_in, taken};
+ghost use Rattle.callparts.specs.Blocks.{items_of};
+ghost use Rattle.callparts.specs.Workers.{IsKnown};
+ghost use Rattle.callparts.specs.declared.report.Ending.TheVariants as ending;
 ghost use Rattle.handlers.specs.Listed.{listed};
+ghost use Rattle.session.specs.CoreStates.{Reached};
 ghost use Rattle.session.specs.declared.event.InEvent.{InEvent as Event};
 ghost use Rattle.session.specs.declared.event.InEvent.TheVariants as events;
-ghost use Rattle.session.specs.CoreStates.{Reached};
 ghost use Rattle.session.specs.FlowBytes.{counted_told};
-ghost use Rattle.slots.specs.Calls.{AreNames, IsFirstWith};
-ghost use Rattle.lane.specs.RingLane.{out_name, ring_of};
-ghost use Rattle.slots.specs.Lines.{AreEndsOf, HasRoom, IsGivenIn, SlotCalls, calls_of, ring_at};
-ghost use Rattle.slots.specs.Readings.{Reads};
-ghost use Rattle.slots.specs.Seats.{IsNext, IsSeat, KeepsNext, jobs_of};
-ghost use Rattle.slots.specs.Steps.{Admitted, AreAbandoned, Lacks, Step, Told, events_of};
-ghost use Rattle.callslot.specs.declared.slot.Job.{Job as Called};
-ghost use Rattle.std.specs.Io.KnownBytes.{Consumes};
-ghost use Rattle.connection.specs.Heard.{Acts, CutsSome, EndsOrders, HasEnded, HasRead, KeptFor, ReadsTo, ReadsWith};
+ghost use Rattle.readerloop.specs.Calls.{AreNames, IsFirstWith, Sent, carried_in};
+ghost use Rattle.readerloop.specs.Kept.{unsettled};
+ghost use Rattle.readerloop.specs.Readings.{IsNext, KeepsNext, Reads, goaway_in, order_in};
+ghost use Rattle.readerloop.specs.Reports.{AreAccounts};
+ghost use Rattle.readerloop.specs.Seats.{HasPlacesAt};
+ghost use Rattle.readerloop.specs.Steps.{Lacks, Step, events_of, reported};
+ghost use Rattle.connection.specs.Heard.{Acts, AreCarried, Collects, CutsSome, Grows, HasEnded, HasRead, KeptFor, ReadsTo, ReadsWith};
 ghost use Rattle.connection.specs.Limits.{MayTurnAway, Tally, one_more};
-ghost use Rattle.connection.specs.Puts.{IsSame, put_of};
-ghost use Rattle.connection.specs.Sent.{Lined, LinedTo};
+ghost use Rattle.outwriter.specs.declared.control.Control.TheVariants as orders;
+ghost use Rattle.connection.specs.Puts.{IsOwn, IsSame, put_of};
+ghost use Rattle.connection.specs.Rest.{CarriesOpen, CarriesRest};
 
-use crate::hand::Hand;
 use crate::intake::Intake;
-use crate::orders::{Orders, Route};
-use crate::seats::{Made, open_seat};
+use crate::orders::{Orders, Route, STEP};
+use crate::seats::open_seat;
 use bytes::Bytes;
 use callhead::{CallHead, HeadFault};
-use callslot::{Ending, Job};
-use callworker::{Answering, Gate, moment};
+use callparts::{
+    Accounts, Answering, CallAccount, Ending, Front, Naming, Opening, Order, Register, Request,
+    Returning,
+};
+use callworker::{Gate, Hand, Ways, moment};
 use connbook::{AdmitFault, Receipt};
 use device::ConnRead;
 use h2frame::{ErrorCode, StreamId};
 use handlers::{Method, Methods};
+use lane::{RingIn, RingOut};
 use outwriter::Control;
+use readerloop::{Decided, Reading};
 use reasons::Reason;
 use session::{InCore, InEvent};
-use slots::{Decided, Ended, Reading, Worker};
 use std::alloc::{AllocError, Global};
 use std::sync::ledger::Ledger;
 use std::sync::{Arc, Wait};
 use std::thread::Threads;
 use std::time::{Clock, Duration, Instant};
+use writerloop::Senders;
 
 /// How many bytes are read at a time: the DATA that a window lets through, with the heads of its frames.
 const PIECE: usize = 65_664;
 
 /// How many bytes are read at a time until a read brought so many: a connection that is silent takes no more memory, on its reader's
 /// stack.
-const FIRST_PIECE: usize = 2_048;
+const FIRST_PIECE: usize = 1_024;
 
 /// From how many bytes on the writer isn't rung for what came, where it is DATA that are fed to calls: these ring once they have taken that.
 const LARGE_PIECE: usize = 8_192;
-
-/// How long the reader waits for a slot before it looks again, in milliseconds.
-const STEP: u64 = 1;
 
 /// The room for the next read: the first piece, until there is a whole one.
 fn room<'x>(first: &'x mut [u8], whole: &'x mut [u8]) -> &'x mut [u8] {
@@ -69,34 +73,47 @@ fn grow(whole: &mut Vec<u8>, count: usize) {
     }
 }
 
+/// The order that tells the client to open no streams behind this one, where there is one.
+fn goaway_of<J: Naming>(goaway: Option<StreamId>) -> Option<Order<J>>
+    ensures order { order_in result ≡ goaway_in goaway }
+    ensures own { IfSome result IsOwn }
+{
+    let last = goaway?;
+    let reason = Reason::Code(ErrorCode::NoError);
+    Some(Control::Goaway { last, reason })
+}
+
 /// What the reading thread of a connection has.
 #[derive(Drop)]
 pub(crate) struct Reader<
     A: Ledger,
     B: Ledger,
     C: Ledger,
+    J: Naming,
     M: Answering,
     N: Route,
-    R: Threads + Drop,
+    R,
     G: Drop,
->
-where
-    Hand<M, R>: Worker,
-{
+> {
     rt: R,
     alloc: Global,
-    pub(crate) orders: Orders<A, B, C, N>,
-    pub(crate) reading: Reading<Hand<M, R>>,
+    pub(crate) orders: Orders<A, B, C, J, N>,
+    pub(crate) reading: Reading<J, M>,
+    /// The threads of the workers.
+    hands: Vec<Hand<J, M>>,
+    /// How the reader's bell stood when it was looked for what came back. None where a half was shut since.
+    looked: Option<u64>,
     gate: Arc<G>,
     /// When the connection began.
     start: Instant,
 }
 
-impl<A, B, C, M, N, R, G> Reader<A, B, C, M, N, R, G>
+impl<A, B, C, J, M, N, R, G> Reader<A, B, C, J, M, N, R, G>
 where
     A: Ledger + Send + Sync + 'static,
     B: Ledger + Send + Sync + 'static,
     C: Ledger + Send + Sync + 'static,
+    J: Naming + Send + Sync + 'static,
     M: Answering + Send + Sync + 'static,
     N: Route,
     R: Threads + Wait + Clock + Copy + Send + Sync + Drop + 'static,
@@ -105,25 +122,32 @@ where
     pub(crate) fn new(
         rt: R,
         alloc: Global,
-        orders: Orders<A, B, C, N>,
+        orders: Orders<A, B, C, J, N>,
+        register: Register<J>,
+        front: Front<J>,
+        home: RingOut<Returning<J>>,
         gate: Arc<G>,
         start: Instant,
-    ) -> Reader<A, B, C, M, N, R, G>
-        ensures reads { Reads M.names [] result.reading }
-        ensures calls { calls_of result.reading.slots ≡ [] }
+    ) -> Reader<A, B, C, J, M, N, R, G>
+        ensures reads { (sent : List Sent)
+            → Reads M.known M.names (carried_in sent) [] result.reading }
+        ensures home { result.reading.home ≡ home }
         ensures orders { result.orders ≡ orders }
     {
         Reader {
             rt,
             alloc,
             orders,
-            reading: Reading::new(alloc),
+            reading: Reading::new(alloc, register, front, home),
+            hands: Vec::new(alloc),
+            looked: None,
             gate,
             start,
         }
     }
 
     /// Reads to the end, and says how the connection ended as far as the reader sees.
+    #[inline(never)]
     pub(crate) fn read<I: ConnRead>(
         &mut self,
         intake: &mut Intake<A, B, C>,
@@ -136,14 +160,16 @@ where
             (IsFirstWith (λ m. (⟦<dyn Method as Method>⟧ m.vtable).name m.value)
             (listed methods.now.value)) M.names }
         requires uncounted { (intake.old.calls ≡ 0) × (intake.old.came ≡ 0) }
-        ensures heard { KeptFor M.names [] self.old.reading self.old.orders → (came : List ℕ)
-            × Consumes (I.remaining input.old) (I.remaining input.new) came
-            × ((told : List Step) × HasRead M.names result came told self.new.reading
-            self.new.orders
+        ensures grows { Grows self.old.reading self.new.reading }
+        ensures heard { (sent : List Sent) → AreCarried sent (taken self.new.reading.home)
+            → KeptFor M.known M.names sent [] self.old.reading self.old.orders
+            → (came : List ℕ) × Consumes (I.remaining input.old) (I.remaining input.new) came
+            × ((told : List Step) × HasRead M.known M.names sent result came told
+            self.new.reading self.new.orders
             × (intake.new.came ≤ counted_told (events_of told))) }
-        ensures failed { KeptFor M.names [] self.old.reading self.old.orders
-            → result ≡ ending.ReadFailed
-            → I.failed input.new ≡ true }
+        ensures failed { (sent : List Sent) → AreCarried sent (taken self.new.reading.home)
+            → KeptFor M.known M.names sent [] self.old.reading self.old.orders
+            → result ≡ ending.ReadFailed → I.failed input.new ≡ true }
     {
         let mut core = InCore::new(self.alloc);
         let mut first_piece = [0u8; FIRST_PIECE];
@@ -161,6 +187,7 @@ where
                 self.heed_drain();
                 return self.reading.ending();
             }
+            self.collect();
             match self.take(intake, &mut core, &piece[..count], methods) {
                 Ok(None) => {}
                 Ok(Some(ending)) => {
@@ -181,47 +208,186 @@ where
         unreachable!()
     }
 
-    /// Behind the last event: ends all halves and workers, and lets the writer end. The rows of all calls, with the ends by which their
-    /// workers gave, and what was ordered.
-    pub(crate) fn end(self) -> (Ended, Orders<A, B, C, N>)
-        ensures { (told : List Step) → Reads M.names told self.reading
-            → (cuts : List Step) × (slots : List SlotCalls)
-            × HasEnded (λ rows. rows.items) M.known M.names (IsGivenIn slots result.0.ends.items)
-            told cuts result.0.calls
-            × AreAbandoned (cuts ++ told) result.0.abandoned.items
-            × AreEndsOf slots result.0.ends.items
-            × (Lined (calls_of self.reading.slots) self.orders → LinedTo slots (put_of result.1))
-            × EndsOrders told cuts self.orders result.1 }
+    /// Behind the last event: ends all halves and workers, and lets the writer end.
+    #[inline(never)]
+    pub(crate) fn end(&mut self)
+        ensures grows { Grows self.old.reading self.new.reading }
+        ensures ended { (sent : List Sent) (told : List Step)
+            → AreCarried sent (taken self.new.reading.home)
+            → Reads M.known M.names (carried_in sent) told self.old.reading
+            → (cuts : List Step) × HasEnded M.known M.names sent told cuts self.new.reading
+            self.old.orders self.new.orders }
+    {
+        self.cut_all();
+        let rt = self.rt;
+        self.orders.put(&rt, Control::InputEnded);
+        self.orders.ring();
+        self.reading.ring_noted();
+        self.reading.end();
+        self.join_all();
+        self.close();
+    }
+
+    /// Waits for the ends of all workers.
+    fn join_all(&mut self)
+        ensures reading { self.new.reading
+            ≡ record self.old.reading { seats = self.new.reading.seats } }
+        ensures orders { self.new.orders ≡ self.old.orders }
+    {
+        let rt = self.rt;
+        'hands: while let Some(hand) = self.hands.pop() {
+            let Ways { tasks, done } = hand.join(&rt);
+            let number = self.hands.len();
+            self.reading.meet(number, tasks, done);
+        }
+    }
+
+    /// Puts the last order, and waits where there is no room. Meanwhile it takes what comes home: the writer may wait for a place there.
+    fn close(&mut self)
+        ensures collects { Collects M.known M.names self.old.reading self.new.reading }
+        ensures put { put_of self.new.orders ≡ put_of self.old.orders ++ orders.Close ∷ [] }
+        ensures dropped { self.new.orders.has_dropped ≡ self.old.orders.has_dropped }
+        ensures unput { self.new.orders.unput ≡ self.old.orders.unput }
+    {
+        let rt = self.rt;
+        'tries: for _ in rt.forever() {
+            let mark = self.orders.shared.reader.mark();
+            self.settle_all();
+            if self.orders.try_close() {
+                return;
+            }
+            self.orders
+                .shared
+                .reader
+                .wait_past(&rt, mark, Duration::from_millis(STEP));
+        }
+        unreachable!()
+    }
+
+    /// Where the writer has ended, and handed these senders back: settles all calls. The accounts of all, and what was ordered.
+    #[inline(never)]
+    pub(crate) fn meet(self, rest: Senders<J>) -> (Accounts, Orders<A, B, C, J, N>)
+        requires way { out_name self.reading.home ≡ in_name rest.sends.home }
+        ensures came { IsPrefix (taken self.reading.home) (put_in rest.sends.home) }
+        ensures accounts { (sent : List Sent) (told : List Step)
+            → AreCarried sent (put_in rest.sends.home) → CarriesRest sent rest
+            → IfSome self.orders.unput (CarriesOpen sent)
+            → Reads M.known M.names (carried_in sent) told self.reading
+            → AreAccounts M.known M.names (carried_in sent) told (reported told)
+            (items_of result.0.full result.0.last) }
+        ensures outbox { result.1.outbox ≡ self.orders.outbox }
+        ensures dropped { result.1.has_dropped ≡ self.orders.has_dropped }
     {
         let mut reader = self;
-        reader.cut_all();
+        reader.take_unput();
+        let home = reader.take_rest(rest);
+        reader.settle_rest();
         let Reader {
-            rt,
-            mut orders,
+            orders,
             reading,
             ..
         } = reader;
-        orders.put(&rt, Control::InputEnded);
-        orders.shared.writer.ring();
-        let ended = reading.end();
-        orders.close(&rt);
-        orders.shared.writer.ring();
-        (ended, orders)
+        let mut reading = reading;
+        reading.meet_home(home);
+        (reading.into_accounts(), orders)
+    }
+
+    /// Takes the sender of a call back whose order wasn't put.
+    fn take_unput(&mut self)
+        ensures home { self.new.reading.home ≡ self.old.reading.home }
+        ensures stays { (sent : List Sent) (told : List Step)
+            → IfSome self.old.orders.unput (CarriesOpen sent)
+            → Reads M.known M.names (carried_in sent) told self.old.reading
+            → Reads M.known M.names (carried_in sent) told self.new.reading }
+        ensures outbox { self.new.orders.outbox ≡ self.old.orders.outbox }
+        ensures dropped { self.new.orders.has_dropped ≡ self.old.orders.has_dropped }
+    {
+        if let Some(Control::Open(_, opening)) = self.orders.unput.take() {
+            let Opening { sending, .. } = opening;
+            self.reading.take_back(Returning { sending });
+        }
+    }
+
+    /// Takes the senders back that the writer had at its end. Its end of the way home.
+    fn take_rest(&mut self, rest: Senders<J>) -> RingIn<Returning<J>>
+        ensures way { result ≡ rest.sends.home }
+        ensures home { self.new.reading.home ≡ self.old.reading.home }
+        ensures stays { (sent : List Sent) (told : List Step) → CarriesRest sent rest
+            → Reads M.known M.names (carried_in sent) told self.old.reading
+            → Reads M.known M.names (carried_in sent) told self.new.reading }
+        ensures orders { self.new.orders ≡ self.old.orders }
+    {
+        let mut rest = rest;
+        let rt = self.rt;
+        'senders: for _ in rt.forever() {
+            let Some(returning) = rest.next() else {
+                return rest.into_home();
+            };
+            self.reading.take_back(returning);
+        }
+        unreachable!()
+    }
+
+    /// Settles all calls, once all has come back of them.
+    fn settle_rest(&mut self)
+        ensures collects { Collects M.known M.names self.old.reading self.new.reading }
+        ensures none { unsettled self.new.reading.calls ≡ [] }
+        ensures orders { self.new.orders ≡ self.old.orders }
+    {
+        let rt = self.rt;
+        'looks: for _ in rt.forever() {
+            self.settle_all();
+            if self.reading.unsettled() == 0 {
+                return;
+            }
+        }
+        unreachable!()
+    }
+
+    /// Where something may have come back of calls since it was looked, takes that, and settles the calls that are over. Workers and the
+    /// writer ring for it.
+    fn collect(&mut self)
+        ensures collects { Collects M.known M.names self.old.reading self.new.reading }
+        ensures orders { self.new.orders ≡ self.old.orders }
+    {
+        let mark = self.orders.shared.reader.mark();
+        if self.looked != Some(mark) && self.reading.unsettled() > 0 {
+            self.looked = Some(mark);
+            self.settle_all();
+        }
+    }
+
+    /// Takes what came back of calls, and settles those that are over.
+    // (kept out of its caller, whose frame is on the stack of each connection that lives)
+    #[inline(never)]
+    fn settle_all(&mut self)
+        ensures collects { Collects M.known M.names self.old.reading self.new.reading }
+        ensures orders { self.new.orders ≡ self.old.orders }
+        ensures next { KeepsNext self.old.reading self.new.reading }
+        ensures draining { self.new.reading.is_draining ≡ self.old.reading.is_draining }
+    {
+        self.reading.collect();
+        'calls: for _ in 0..self.reading.unsettled() {
+            let Some(account) = self.reading.settle_next() else {
+                return;
+            };
+            self.gate.settled(&account);
+        }
     }
 
     /// Behind the last event: the calls that their clients neither ended nor reset are cut.
     fn cut_all(&mut self)
-        ensures { CutsSome M.names true self.old.reading self.old.orders
+        ensures cuts { CutsSome M.known M.names true self.old.reading self.old.orders
             self.new.reading self.new.orders }
     {
-        'places: for place in 0..self.reading.slots() {
+        'places: for place in 0..self.reading.unsettled() {
             self.cut_at(place);
         }
     }
 
-    /// The same for the slot of this number.
+    /// The same for the call at this place.
     fn cut_at(&mut self, place: usize)
-        ensures cuts { CutsSome M.names true self.old.reading self.old.orders
+        ensures cuts { CutsSome M.known M.names true self.old.reading self.old.orders
             self.new.reading self.new.orders }
     {
         if let Some(decided) = self.reading.cut_off(place) {
@@ -231,9 +397,9 @@ where
 
     /// Looks whether the server is to stop, and has the peer told where it is. Whether no call is live then: the connection ends.
     fn heed_drain(&mut self) -> bool
-        ensures cuts { CutsSome M.names false self.old.reading self.old.orders
+        ensures cuts { CutsSome M.known M.names false self.old.reading self.old.orders
             self.new.reading self.new.orders }
-        ensures draining { result ≡ true → self.new.reading.slots.is_draining ≡ true }
+        ensures draining { result ≡ true → self.new.reading.is_draining ≡ true }
     {
         let (is_closing, is_live) = self.look();
         if !is_closing {
@@ -251,9 +417,9 @@ where
 
     /// The server is to stop: the peer is told which calls go on, unless it was.
     fn drain(&mut self)
-        ensures cuts { CutsSome M.names false self.old.reading self.old.orders
+        ensures cuts { CutsSome M.known M.names false self.old.reading self.old.orders
             self.new.reading self.new.orders }
-        ensures draining { self.new.reading.slots.is_draining ≡ true }
+        ensures draining { self.new.reading.is_draining ≡ true }
     {
         if self.reading.is_draining() {
             return;
@@ -265,8 +431,10 @@ where
 
     /// There is no memory for what was read: the connection ends.
     fn lack(&mut self)
-        ensures { (told : List Step) → KeptFor M.names told self.old.reading self.old.orders
-            → KeptFor M.names (Lacks ∷ told) self.new.reading self.new.orders }
+        ensures home { self.new.reading.home ≡ self.old.reading.home }
+        ensures kept { (sent : List Sent) (told : List Step)
+            → KeptFor M.known M.names sent told self.old.reading self.old.orders
+            → KeptFor M.known M.names sent (Lacks ∷ told) self.new.reading self.new.orders }
     {
         let decided = self.reading.run_out();
         self.act(decided);
@@ -290,10 +458,11 @@ where
         requires named { AreNames
             (IsFirstWith (λ m. (⟦<dyn Method as Method>⟧ m.vtable).name m.value)
             (listed methods.now.value)) M.names }
+        ensures grows { Grows self.old.reading self.new.reading }
         ensures on { IfOk result (λ end. (bytes : List ℕ) (before : List Event)
             → Reached bytes before core.old
             → (given : List Event) × Reached (bytes ++ piece.now) (before ++ given) core.new
-            × ReadsWith M.names intake.old intake.new given end
+            × ReadsWith M.known M.names intake.old intake.new given end
             self.old.reading self.old.orders self.new.reading self.new.orders) }
         ensures uncounted { OnErr result (intake.new.came ≡ intake.old.came) }
         ensures same { OnErr result ((self.new.reading ≡ self.old.reading)
@@ -309,7 +478,8 @@ where
 
     /// Rings for so many bytes that came. The writer wakes while the calls are answered.
     fn ring(&mut self, count: usize)
-        ensures reading { self.new.reading ≡ self.old.reading }
+        ensures reading { self.new.reading
+            ≡ record self.old.reading { seats = self.new.reading.seats } }
         ensures same { IsSame self.old.orders self.new.orders }
     {
         self.reading.ring_noted();
@@ -331,7 +501,7 @@ where
         requires named { AreNames
             (IsFirstWith (λ m. (⟦<dyn Method as Method>⟧ m.vtable).name m.value)
             (listed methods.now.value)) M.names }
-        ensures reads { ReadsWith M.names intake.old intake.new events.items result
+        ensures reads { ReadsWith M.known M.names intake.old intake.new events.items result
             self.old.reading self.old.orders self.new.reading self.new.orders }
     {
         'events: for event in events {
@@ -355,7 +525,7 @@ where
         requires named { AreNames
             (IsFirstWith (λ m. (⟦<dyn Method as Method>⟧ m.vtable).name m.value)
             (listed methods.now.value)) M.names }
-        ensures reads { ReadsWith M.names intake.old intake.new (event ∷ []) result
+        ensures reads { ReadsWith M.known M.names intake.old intake.new (event ∷ []) result
             self.old.reading self.old.orders self.new.reading self.new.orders }
     {
         match event {
@@ -374,7 +544,7 @@ where
 
     /// A stream begins without the head of a call.
     fn refuse(&mut self, id: StreamId, fault: HeadFault) -> Option<Ending>
-        ensures reads { ReadsTo M.names (events.BadHead id fault ∷ []) result
+        ensures reads { ReadsTo M.known M.names (events.BadHead id fault ∷ []) result
             self.old.reading self.old.orders self.new.reading self.new.orders }
     {
         let decided = self.reading.refuse(id, fault);
@@ -383,7 +553,7 @@ where
 
     /// The client has reset a stream.
     fn reset(&mut self, id: StreamId, code: ErrorCode) -> Option<Ending>
-        ensures reads { ReadsTo M.names (events.Reset id code ∷ []) result
+        ensures reads { ReadsTo M.known M.names (events.Reset id code ∷ []) result
             self.old.reading self.old.orders self.new.reading self.new.orders }
     {
         let decided = self.reading.reset(id, code);
@@ -392,7 +562,7 @@ where
 
     /// The client has made an error on a stream.
     fn fail(&mut self, id: StreamId, code: ErrorCode) -> Option<Ending>
-        ensures reads { ReadsTo M.names (events.StreamError id code ∷ []) result
+        ensures reads { ReadsTo M.known M.names (events.StreamError id code ∷ []) result
             self.old.reading self.old.orders self.new.reading self.new.orders }
     {
         let decided = self.reading.fail(id, code);
@@ -401,7 +571,7 @@ where
 
     /// What the peer tells the side that writes.
     fn pass_on(&mut self, news: session::Control) -> Option<Ending>
-        ensures reads { ReadsTo M.names (events.Control news ∷ []) result
+        ensures reads { ReadsTo M.known M.names (events.Control news ∷ []) result
             self.old.reading self.old.orders self.new.reading self.new.orders }
     {
         let decided = self.reading.pass_on(news);
@@ -410,7 +580,7 @@ where
 
     /// The client has made an error that ends the connection.
     fn fatal(&mut self, reason: Reason) -> Option<Ending>
-        ensures reads { ReadsTo M.names (events.Fatal reason ∷ []) result
+        ensures reads { ReadsTo M.known M.names (events.Fatal reason ∷ []) result
             self.old.reading self.old.orders self.new.reading self.new.orders }
     {
         let decided = self.reading.fatal(reason);
@@ -419,7 +589,7 @@ where
 
     /// The peer opens no more streams.
     fn hear_goaway(&mut self) -> Option<Ending>
-        ensures reads { ReadsTo M.names (events.PeerGoaway ∷ []) result
+        ensures reads { ReadsTo M.known M.names (events.PeerGoaway ∷ []) result
             self.old.reading self.old.orders self.new.reading self.new.orders }
     {
         self.reading.hear_goaway();
@@ -427,24 +597,24 @@ where
     }
 
     /// Does what was decided: what is ordered first, then the half that is to be shut. How the connection ends, if it does.
-    fn act(&mut self, decided: Decided) -> Option<Ending>
-        ensures acts { Acts M.names decided self.old.reading self.old.orders self.new.reading
-            self.new.orders }
+    fn act(&mut self, decided: Decided<J>) -> Option<Ending>
+        ensures acts { Acts M.known M.names decided self.old.reading self.old.orders
+            self.new.reading self.new.orders }
         ensures ends { result ≡ decided.ends }
-        ensures draining { self.new.reading.slots.is_draining
-            ≡ self.old.reading.slots.is_draining }
-        ensures next { KeepsNext self.old.reading.slots self.new.reading.slots }
+        ensures draining { self.new.reading.is_draining ≡ self.old.reading.is_draining }
+        ensures next { KeepsNext self.old.reading self.new.reading }
     {
-        let rt = self.rt;
         let Decided {
-            first,
-            second,
+            goaway,
+            order,
             cut,
             ends,
         } = decided;
-        self.orders.put_some(&rt, first);
-        self.orders.put_some(&rt, second);
+        let rt = self.rt;
+        self.orders.put_some(&rt, goaway_of(goaway));
+        self.orders.put_some(&rt, order);
         if let Some(cut) = cut {
+            self.looked = None;
             self.reading.shut(cut);
             self.orders.shared.book.lock(&rt).cut(cut.id);
         }
@@ -452,6 +622,8 @@ where
     }
 
     /// A stream begins with the head of a call. A call of a method is to be admitted by the lock.
+    // (kept out of its caller, whose frame is on the stack of each connection that lives)
+    #[inline(never)]
     fn open(
         &mut self,
         intake: &mut Intake<A, B, C>,
@@ -464,7 +636,8 @@ where
         requires named { AreNames
             (IsFirstWith (λ m. (⟦<dyn Method as Method>⟧ m.vtable).name m.value)
             (listed methods.now.value)) M.names }
-        ensures reads { ReadsWith M.names intake.old intake.new (events.Open id head ∷ []) result
+        ensures reads { ReadsWith M.known M.names intake.old intake.new
+            (events.Open id head ∷ []) result
             self.old.reading self.old.orders self.new.reading self.new.orders }
     {
         let rt = self.rt;
@@ -474,7 +647,7 @@ where
             None => 0,
         };
         match self.reading.open(id, head, index, opened) {
-            Ok(job) => self.admit(intake, job, methods),
+            Ok(request) => self.admit(intake, request, methods),
             Err(decided) => self.act(decided),
         }
     }
@@ -483,190 +656,175 @@ where
     fn admit(
         &mut self,
         intake: &mut Intake<A, B, C>,
-        job: Job,
+        request: Request,
         methods: &Arc<Methods>,
     ) -> Option<Ending>
         requires known { IsKnown M.known (λ m. answers (m.vtable, m.value))
             (listed methods.now.value) }
-        requires named { M.names job.head.path job.index }
-        requires next { IsNext job.id self.old.reading.slots }
-        ensures reads { ReadsWith M.names intake.old intake.new
-            (events.Open job.id job.head ∷ []) result
+        requires named { M.names request.head.path request.index }
+        requires next { IsNext request.id self.old.reading }
+        ensures reads { ReadsWith M.known M.names intake.old intake.new
+            (events.Open request.id request.head ∷ []) result
             self.old.reading self.old.orders self.new.reading self.new.orders }
     {
         let rt = self.rt;
-        match intake.admit(&rt, job.id) {
-            Ok(()) => self.start(job, methods),
-            Err(AdmitFault::Draining) => self.turn_away_drained(job.id),
-            Err(fault) => self.turn_away(job.id, fault),
+        match intake.admit(&rt, request.id) {
+            Ok(()) => self.start(request, methods),
+            Err(fault) => self.turn_away(request.id, fault),
+        }
+    }
+
+    /// A call isn't admitted. Where that is since the server is to stop, the peer is told of it before.
+    fn turn_away(&mut self, id: StreamId, fault: AdmitFault) -> Option<Ending>
+        ensures reads { (head : Head) (tally : Tally) → MayTurnAway tally.calls true fault
+            → ReadsWith M.known M.names tally tally (events.Open id head ∷ []) result
+            self.old.reading self.old.orders self.new.reading self.new.orders }
+    {
+        match fault {
+            AdmitFault::Draining => self.turn_away_drained(id),
+            _ => self.decline(id, fault),
         }
     }
 
     /// A call isn't admitted since the server is to stop, of which the peer is told before.
     fn turn_away_drained(&mut self, id: StreamId) -> Option<Ending>
         ensures reads { (head : Head) (tally : Tally)
-            → ReadsWith M.names tally tally (events.Open id head ∷ []) result
+            → ReadsWith M.known M.names tally tally (events.Open id head ∷ []) result
             self.old.reading self.old.orders self.new.reading self.new.orders }
     {
         self.drain();
-        self.turn_away(id, AdmitFault::Draining)
+        self.decline(id, AdmitFault::Draining)
     }
 
-    /// A call isn't admitted.
-    fn turn_away(&mut self, id: StreamId, fault: AdmitFault) -> Option<Ending>
+    /// A call isn't admitted, for this fault.
+    fn decline(&mut self, id: StreamId, fault: AdmitFault) -> Option<Ending>
         ensures reads { (head : Head) (tally : Tally)
-            → MayTurnAway tally.calls self.old.reading.slots.is_draining fault
-            → ReadsWith M.names tally tally (events.Open id head ∷ []) result
+            → MayTurnAway tally.calls self.old.reading.is_draining fault
+            → ReadsWith M.known M.names tally tally (events.Open id head ∷ []) result
             self.old.reading self.old.orders self.new.reading self.new.orders }
     {
         let decided = self.reading.turn_away(id, fault);
         self.act(decided)
     }
 
-    /// Has a worker answer a call that was admitted: that of a free slot, or of a new one. Where there are as many slots as calls may be
-    /// live, one of them is at a call that is no longer live, and soon is free.
-    fn start(&mut self, job: Job, methods: &Arc<Methods>) -> Option<Ending>
+    /// Has a worker answer a call that was admitted: one that is free, or a new one. Where there are as many as calls may be live, one of
+    /// them is at a call that is no longer live, and soon is free. Once orders were dropped no call begins: the writer has stopped.
+    fn start(&mut self, request: Request, methods: &Arc<Methods>) -> Option<Ending>
         requires known { IsKnown M.known (λ m. answers (m.vtable, m.value))
             (listed methods.now.value) }
-        requires named { M.names job.head.path job.index }
-        requires next { IsNext job.id self.old.reading.slots }
-        ensures reads { (tally : Tally)
-            → ReadsWith M.names tally (one_more tally) (events.Open job.id job.head ∷ []) result
+        requires named { M.names request.head.path request.index }
+        requires next { IsNext request.id self.old.reading }
+        ensures reads { (tally : Tally) → ReadsWith M.known M.names tally (one_more tally)
+            (events.Open request.id request.head ∷ []) result
             self.old.reading self.old.orders self.new.reading self.new.orders }
     {
         let rt = self.rt;
-        let (id, index) = (job.id, job.index);
-        let mut job = job;
+        let (id, method) = (request.id, request.index);
+        if self.orders.has_dropped {
+            return self.pass_over(id, method);
+        }
         'looks: for _ in rt.forever() {
             let mark = self.orders.shared.reader.mark();
-            match self.reading.engage(job) {
-                Ok(decided) => return self.act(decided),
-                Err(back) => job = back,
+            if let Some(number) = self.find_free() {
+                return self.engage(number, request);
             }
-            self.abandon_all();
             if !self.reading.is_full() {
-                return self.open_slot(job, methods);
+                if let Err(AllocError) = self.hire(methods) {
+                    return self.lose(id, method);
+                }
+            } else if self.orders.shared.has_stopped() {
+                return self.pass_over(id, method);
+            } else {
+                self.wait(mark);
             }
-            if self.orders.shared.has_stopped() {
-                return self.pass_over(id, index);
-            }
-            self.wait(mark);
         }
         unreachable!()
     }
 
-    /// Waits until a slot may be free.
-    fn wait(&self, mark: u64) {
-        let shared = &self.orders.shared;
+    /// The number of a worker that is free, also of one that has just become so.
+    fn find_free(&mut self) -> Option<usize>
+        ensures collects { Collects M.known M.names self.old.reading self.new.reading }
+        ensures orders { self.new.orders ≡ self.old.orders }
+        ensures next { KeepsNext self.old.reading self.new.reading }
+        ensures places { IfSome result (λ number. HasPlacesAt number self.new.reading.seats) }
+    {
+        let found = self.reading.free();
+        if found.is_some() {
+            return found;
+        }
+        self.settle_all();
+        self.reading.free()
+    }
+
+    /// Waits until a worker may be free.
+    fn wait(&mut self, mark: u64)
+        ensures reading { self.new.reading
+            ≡ record self.old.reading { seats = self.new.reading.seats } }
+        ensures orders { self.new.orders ≡ self.old.orders }
+    {
         self.reading.ring_noted();
+        let shared = &self.orders.shared;
         shared.writer.ring();
         shared
             .reader
             .wait_past(&self.rt, mark, Duration::from_millis(STEP));
     }
 
-    /// Has the worker of a new slot answer a call. Where there is no memory or no thread for it the connection ends.
-    fn open_slot(&mut self, job: Job, methods: &Arc<Methods>) -> Option<Ending>
-        requires known { IsKnown M.known (λ m. answers (m.vtable, m.value))
-            (listed methods.now.value) }
-        requires named { M.names job.head.path job.index }
-        requires next { IsNext job.id self.old.reading.slots }
-        ensures reads { (tally : Tally)
-            → ReadsWith M.names tally (one_more tally) (events.Open job.id job.head ∷ []) result
+    /// Has the worker of this number answer a call. Where there is no memory for its lanes the connection ends.
+    fn engage(&mut self, number: usize, request: Request) -> Option<Ending>
+        requires named { M.names request.head.path request.index }
+        requires next { IsNext request.id self.old.reading }
+        requires places { HasPlacesAt number self.old.reading.seats }
+        ensures reads { (tally : Tally) → ReadsWith M.known M.names tally (one_more tally)
+            (events.Open request.id request.head ∷ []) result
             self.old.reading self.old.orders self.new.reading self.new.orders }
     {
-        let rt = self.rt;
-        let (id, index) = (job.id, job.index);
-        if let Err(AllocError) = self.reading.reserve() {
-            return self.lose(id, index);
-        }
-        let (shared, gate) = (&self.orders.shared, &self.gate);
-        match open_seat(rt, self.alloc, shared, gate, methods, self.start, job) {
-            Ok(made) => self.add(made, index),
-            Err(AllocError) => self.lose(id, index),
+        let (id, method) = (request.id, request.index);
+        match self.reading.engage(number, request) {
+            Ok(decided) => self.act(decided),
+            Err(AllocError) => self.lose(id, method),
         }
     }
 
-    /// A call of this method begins in a new slot.
-    fn add(&mut self, made: Made<M, R>, method: usize) -> Option<Ending>
-        requires room { HasRoom self.old.reading.slots }
-        requires next { IsNext made.seat.id self.old.reading.slots }
-        ensures reads { (job : Called) → made.seat.id ≡ job.id → method ≡ job.index
-            → jobs_of made.seat ≡ job ∷ []
-            → ((told : List Step) → IsSeat M.names
-            (Told (events.Open job.id job.head) Admitted ∷ told) made.seat)
-            → ring_at made.seat ≡ ring_of (out_name made.fresh.sender.rx)
-            → (tally : Tally)
-            → ReadsWith M.names tally (one_more tally) (events.Open job.id job.head ∷ []) result
-            self.old.reading self.old.orders self.new.reading self.new.orders }
+    /// Has one worker more.
+    fn hire(&mut self, methods: &Arc<Methods>) -> Result<(), AllocError>
+        requires known { IsKnown M.known (λ m. answers (m.vtable, m.value))
+            (listed methods.now.value) }
+        ensures reading { self.new.reading
+            ≡ record self.old.reading { seats = self.new.reading.seats } }
+        ensures orders { self.new.orders ≡ self.old.orders }
     {
-        let decided = self.reading.add(made.seat, method, made.fresh);
-        self.act(decided)
+        self.reading.reserve()?;
+        self.hands.reserve(1)?;
+        let (shared, gate) = (&self.orders.shared, &self.gate);
+        let (seat, hand) = open_seat(self.rt, self.alloc, shared, gate, methods, self.start)?;
+        self.hands.push_reserved(hand);
+        self.reading.add(seat);
+        Ok(())
     }
 
     /// There is no memory, or no thread, for a call of this method, which was admitted: the connection ends.
     fn lose(&mut self, id: StreamId, method: usize) -> Option<Ending>
-        requires next { IsNext id self.old.reading.slots }
+        requires next { IsNext id self.old.reading }
         ensures reads { (head : Head) (tally : Tally) → M.names head.path method
-            → ReadsWith M.names tally (one_more tally) (events.Open id head ∷ []) result
+            → ReadsWith M.known M.names tally (one_more tally) (events.Open id head ∷ []) result
             self.old.reading self.old.orders self.new.reading self.new.orders }
     {
+        self.gate.settled(&CallAccount::unserved(id, method));
         let decided = self.reading.lose(id, method);
         self.act(decided)
     }
 
     /// A call of this method was admitted, and the writer has stopped.
     fn pass_over(&mut self, id: StreamId, method: usize) -> Option<Ending>
-        requires next { IsNext id self.old.reading.slots }
+        requires next { IsNext id self.old.reading }
         ensures reads { (head : Head) (tally : Tally) → M.names head.path method
-            → ReadsWith M.names tally (one_more tally) (events.Open id head ∷ []) result
+            → ReadsWith M.known M.names tally (one_more tally) (events.Open id head ∷ []) result
             self.old.reading self.old.orders self.new.reading self.new.orders }
     {
+        self.gate.settled(&CallAccount::unserved(id, method));
         let decided = self.reading.pass_over(id, method);
         self.act(decided)
-    }
-
-    /// Cuts the calls that are no longer live, though their clients neither ended nor reset them: before that their slots aren't free.
-    fn abandon_all(&mut self)
-        ensures cuts { CutsSome M.names false self.old.reading self.old.orders
-            self.new.reading self.new.orders }
-        ensures next { KeepsNext self.old.reading.slots self.new.reading.slots }
-    {
-        'places: for place in 0..self.reading.slots() {
-            self.abandon_at(place);
-        }
-    }
-
-    /// The same for the slot of this number.
-    fn abandon_at(&mut self, place: usize)
-        ensures cuts { CutsSome M.names false self.old.reading self.old.orders
-            self.new.reading self.new.orders }
-        ensures next { KeepsNext self.old.reading.slots self.new.reading.slots }
-    {
-        let Some((id, has_trailers)) = self.reading.answered(place) else {
-            return;
-        };
-        if !self.is_lost(id) {
-            return;
-        }
-        self.abandon(id, has_trailers);
-    }
-
-    /// Cuts a call that is no longer live, unless there is no memory for that.
-    fn abandon(&mut self, id: StreamId, has_trailers: bool)
-        ensures cuts { CutsSome M.names false self.old.reading self.old.orders
-            self.new.reading self.new.orders }
-        ensures next { KeepsNext self.old.reading.slots self.new.reading.slots }
-    {
-        if let Some(decided) = self.reading.abandon(id, has_trailers) {
-            self.act(decided);
-        }
-    }
-
-    /// Whether a call is no longer live, but not since the writer has stopped.
-    fn is_lost(&self, id: StreamId) -> bool {
-        let book = self.orders.shared.book.lock(&self.rt);
-        !book.has_stopped() && !book.is_live(id)
     }
 
     /// DATA came on a stream, so many bytes of it by flow control.
@@ -677,7 +835,7 @@ where
         bytes: Bytes,
         flow: u32,
     ) -> Option<Ending>
-        ensures reads { ReadsWith M.names intake.old intake.new
+        ensures reads { ReadsWith M.known M.names intake.old intake.new
             (events.Data id bytes flow ∷ []) result
             self.old.reading self.old.orders self.new.reading self.new.orders }
     {
@@ -691,7 +849,8 @@ where
 
     /// Bytes came that count on the connection alone.
     fn loose(&mut self, intake: &mut Intake<A, B, C>, flow: u32) -> Option<Ending>
-        ensures reads { ReadsWith M.names intake.old intake.new (events.Loose flow ∷ []) result
+        ensures reads { ReadsWith M.known M.names intake.old intake.new
+            (events.Loose flow ∷ []) result
             self.old.reading self.old.orders self.new.reading self.new.orders }
     {
         let receipt = intake.receive(&self.rt, 0, flow, 0);
@@ -711,11 +870,12 @@ where
 
     /// The client has ended its half of a stream.
     fn end_half(&mut self, id: StreamId) -> Option<Ending>
-        ensures reads { ReadsTo M.names (events.End id ∷ []) result
+        ensures reads { ReadsTo M.known M.names (events.End id ∷ []) result
             self.old.reading self.old.orders self.new.reading self.new.orders }
     {
         let rt = self.rt;
         self.orders.shared.book.lock(&rt).end_remote(id);
+        self.looked = None;
         self.reading.end_half(id);
         None
     }

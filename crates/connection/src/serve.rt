@@ -1,45 +1,46 @@
 //! One connection from its first byte to its last.
 
-ghost use Rattle.std.specs.Prelude.{◌≡◌, ◌≢◌, ◌⊎◌, ◌<◌, ◌++◌, ℕ, List, [], Option, Some, false, true};
-ghost use Rattle.callslot.specs.declared.report.Ending.TheVariants as ending;
+ghost use mathlib.Core.List.{IsPrefix};
+ghost use Rattle.std.specs.Prelude.{◌≡◌, ◌≢◌, ◌⊎◌, ◌<◌, ◌≤◌, ◌++◌, ℕ, Bool, List, [], Option, Some, IfErr, IfOk, IfSome, false, true};
 ghost use Rattle.std.specs.Io.KnownBytes.{Consumes};
+ghost use Rattle.callparts.specs.Blocks.{items_of};
+ghost use Rattle.callparts.specs.Workers.{IsWithin, answers_by};
+ghost use Rattle.callparts.specs.declared.report.Ending.TheVariants as ending;
 ghost use Rattle.handlers.specs.Listed.{listed};
 ghost use Rattle.h2frame.specs.declared.error_code.ErrorCode.{ErrorCode as Code};
-ghost use Rattle.callslot.specs.Accounts.{IsWithin, answers_by};
-ghost use Rattle.slots.specs.Calls.{AreNames, IsFirstWith};
-ghost use Rattle.slots.specs.Reports.{is_heard_out};
 ghost use Rattle.lane.specs.Ring.{in_name, out_name, put_in, taken};
-ghost use Rattle.slotwriter.specs.Left.{AreAmong};
-ghost use Rattle.slotwriter.specs.Sent.{held_of, ids_of};
-ghost use Rattle.connection.specs.Left.{AreLeft};
-ghost use Rattle.connection.specs.Sent.{AreMeeting, HaveMet};
-ghost use Rattle.callslot.specs.declared.order.Opened.{Opened};
-ghost use Rattle.outwriter.specs.declared.control.Control.{Control};
-ghost use mathlib.Core.List.{IsPrefix};
+ghost use Rattle.session.specs.FlowBytes.{counted_told};
+ghost use Rattle.readerloop.specs.Calls.{AreNames, IsFirstWith, Sent, carried_in};
+ghost use Rattle.readerloop.specs.Readings.{Reads};
+ghost use Rattle.readerloop.specs.Reports.{AreAccounts, is_heard_out};
+ghost use Rattle.readerloop.specs.Steps.{Step, events_of, reported};
+ghost use Rattle.connection.specs.Heard.{AreCarried, HasRead, Hears, KeptFor};
+ghost use Rattle.connection.specs.Puts.{AreFirst};
+ghost use Rattle.connection.specs.Rest.{CarriesOpen, CarriesRest};
 ghost use Rattle.connection.specs.Served.{IsServed};
 
 use crate::drain::{DrainSeat, Drainer};
 use crate::intake::Intake;
-use crate::meeting::{is_one_answered, lacks_one, meet_slots};
 use crate::orders::{ORDERS, Orders, Route};
 use crate::outlet::Outlet;
 use crate::reader::Reader;
 use crate::served::Served;
 use crate::writer;
-use crate::writer::Parted;
-use callslot::{Ending, Order};
-use callworker::{Answering, Gate, Shared};
+use crate::writer::{Parted, WriterHand};
+use callparts::{
+    Accounts, Answering, ConnReport, Ending, HOME, Naming, NewRegister, Order, Returning,
+};
+use callworker::{Gate, Shared};
 use device::{ConnRead, ConnWrite};
 use handlers::{Method, Methods};
 use lane::{Ring, RingIn, RingOut};
-use slots::Ended;
-use slotwriter::Written;
 use std::alloc::{AllocError, Global};
 use std::marker::Brand;
 use std::sync::ledger::{Blank, Ledger};
 use std::sync::{Arc, Wait};
 use std::thread::Threads;
 use std::time::{Clock, Instant};
+use writerloop::Written;
 
 /// Serves one connection, and says what became of it. The caller's thread reads; one more writes, and up to 64 answer calls. It
 /// returns once the input has ended, or the connection was ended with an error or drained, and all that could be written was.
@@ -68,17 +69,16 @@ where
     requires told { (seat.told.parts ≡ C.parts) × (0 < C.parts) × (seat.told.amount ≡ 0) }
     // Over one list of what was heard, one of what was ordered, and one run of the writer.
     ensures served { (came : List ℕ) × Consumes (I.remaining input.old) (I.remaining input.new) came
-        × IsServed (λ rows. rows.items) O.contents O.failed
+        × IsServed (λ calls. items_of calls.full calls.last) O.contents O.failed
         (answers_by (λ method. answers (method.vtable, method.value)) (listed methods.value))
         (IsFirstWith (λ method. (⟦<dyn Method as Method>⟧ method.vtable).name method.value)
         (listed methods.value))
-        came (O.contents output) (I.failed input.new) result.ending result.calls result.output }
+        came (O.contents output) (I.failed input.new) result.report.ending result.report.calls
+        result.output }
 {
-    let Ok(ring) = Ring::open(alloc, ORDERS) else {
-        return unserved(alloc, output);
-    };
-    serve_over::<A, B, C, Brand, Brand, I, O, G, R>(
-        rt, alloc, seat, ring, input, output, methods, gate,
+    let register = NewRegister::new();
+    serve_named::<A, B, C, Brand, Brand, I, O, G, R>(
+        rt, alloc, seat, register, input, output, methods, gate,
     )
 }
 
@@ -97,11 +97,12 @@ where
     G: Gate + Send + Sync + Drop + 'static,
     R: Threads + Wait + Clock + Copy + Send + Sync + Drop + 'static,
     ensures served { (came : List ℕ) × Consumes (I.remaining input.old) (I.remaining input.new) came
-        × IsServed (λ rows. rows.items) O.contents O.failed
+        × IsServed (λ calls. items_of calls.full calls.last) O.contents O.failed
         (answers_by (λ method. answers (method.vtable, method.value)) (listed methods.value))
         (IsFirstWith (λ method. (⟦<dyn Method as Method>⟧ method.vtable).name method.value)
         (listed methods.value))
-        came (O.contents output) (I.failed input.new) result.ending result.calls result.output }
+        came (O.contents output) (I.failed input.new) result.report.ending result.report.calls
+        result.output }
 {
     let blanks = (Blank::new(1), Blank::new(1), Blank::new(1));
     serve_seated::<Brand, Brand, Brand, I, O, G, R>(rt, alloc, blanks, input, output, methods, gate)
@@ -129,11 +130,12 @@ where
     requires admitted { (blanks.1.name ≡ B.name) × (blanks.1.parts ≡ B.parts) × (0 < B.parts) }
     requires announced { (blanks.2.name ≡ C.name) × (blanks.2.parts ≡ C.parts) × (0 < C.parts) }
     ensures served { (came : List ℕ) × Consumes (I.remaining input.old) (I.remaining input.new) came
-        × IsServed (λ rows. rows.items) O.contents O.failed
+        × IsServed (λ calls. items_of calls.full calls.last) O.contents O.failed
         (answers_by (λ method. answers (method.vtable, method.value)) (listed methods.value))
         (IsFirstWith (λ method. (⟦<dyn Method as Method>⟧ method.vtable).name method.value)
         (listed methods.value))
-        came (O.contents output) (I.failed input.new) result.ending result.calls result.output }
+        came (O.contents output) (I.failed input.new) result.report.ending result.report.calls
+        result.output }
 {
     let Ok((_drainer, seat)) = Drainer::<A, B, C>::new(alloc, blanks) else {
         return unserved(alloc, output);
@@ -143,14 +145,42 @@ where
 
 /// Out of memory before the connection began.
 fn unserved<O: Drop>(alloc: Global, output: O) -> Served<O>
-    ensures ending { result.ending ≡ ending.OutOfMemory }
+    ensures ending { result.report.ending ≡ ending.OutOfMemory }
     ensures output { result.output ≡ output }
-    ensures calls { result.calls.items ≡ [] }
+    ensures calls { items_of result.report.calls.full result.report.calls.last ≡ [] }
 {
     Served {
-        ending: Ending::OutOfMemory,
+        report: ConnReport {
+            calls: Accounts::new(alloc),
+            ending: Ending::OutOfMemory,
+        },
         output,
-        calls: Vec::new(alloc),
+    }
+}
+
+/// The rings between a connection's reader and its writer.
+#[derive(Drop)]
+struct Rings<J: Naming> {
+    /// What the reader has the writer do.
+    orders: (RingIn<Order<J>>, RingOut<Order<J>>),
+    /// The senders that go back.
+    senders: (RingIn<Returning<J>>, RingOut<Returning<J>>),
+}
+
+impl<J: Naming> Rings<J> {
+    fn open(alloc: Global) -> Result<Rings<J>, AllocError>
+        ensures orders { IfOk result (λ rings. in_name rings.orders.0 ≡ out_name rings.orders.1) }
+        ensures senders { IfOk result
+            (λ rings. in_name rings.senders.0 ≡ out_name rings.senders.1) }
+        ensures unused { IfOk result (λ rings. (put_in rings.orders.0 ≡ [])
+            × (taken rings.orders.1 ≡ [])) }
+        ensures unsent { IfOk result (λ rings. (put_in rings.senders.0 ≡ [])
+            × (taken rings.senders.1 ≡ [])) }
+    {
+        Ok(Rings {
+            orders: Ring::open(alloc, ORDERS)?,
+            senders: Ring::open(alloc, HOME)?,
+        })
     }
 }
 
@@ -181,12 +211,12 @@ impl<A: Ledger, B: Ledger, C: Ledger, G: Drop> Common<A, B, C, G> {
     }
 }
 
-/// The same, with a ring for the orders.
-fn serve_over<A, B, C, M, N, I, O, G, R>(
+/// The same, with an empty register.
+fn serve_named<A, B, C, J, M, I, O, G, R>(
     rt: R,
     alloc: Global,
     seat: DrainSeat<A, B, C>,
-    ring: (RingIn<Order>, RingOut<Order>),
+    register: NewRegister,
     input: &mut I,
     output: O,
     methods: Arc<Methods>,
@@ -196,6 +226,52 @@ where
     A: Ledger + Send + Sync + 'static,
     B: Ledger + Send + Sync + 'static,
     C: Ledger + Send + Sync + 'static,
+    J: Naming + Send + Sync + 'static,
+    M: Answering + Send + Sync + 'static,
+    I: ConnRead,
+    O: ConnWrite + Send + Drop + 'static,
+    G: Gate + Send + Sync + Drop + 'static,
+    R: Threads + Wait + Clock + Copy + Send + Sync + Drop + 'static,
+    requires came { (seat.came.parts ≡ A.parts) × (0 < A.parts) × (seat.came.amount ≡ 0) }
+    requires calls { (seat.calls.parts ≡ B.parts) × (0 < B.parts) × (seat.calls.amount ≡ 0) }
+    requires told { (seat.told.parts ≡ C.parts) × (0 < C.parts) × (seat.told.amount ≡ 0) }
+    requires known { IsWithin M.known
+        (answers_by (λ method. answers (method.vtable, method.value)) (listed methods.value)) }
+    requires named { AreNames
+        (IsFirstWith (λ method. (⟦<dyn Method as Method>⟧ method.vtable).name method.value)
+        (listed methods.value)) M.names }
+    requires book { register.seen.book ≡ J.book }
+    ensures served { (came : List ℕ) × Consumes (I.remaining input.old) (I.remaining input.new) came
+        × IsServed (λ calls. items_of calls.full calls.last) O.contents O.failed M.known M.names
+        came (O.contents output) (I.failed input.new) result.report.ending result.report.calls
+        result.output }
+{
+    let Ok(rings) = Rings::open(alloc) else {
+        let _ends = register.named::<J>();
+        return unserved(alloc, output);
+    };
+    serve_over::<A, B, C, J, M, Brand, I, O, G, R>(
+        rt, alloc, seat, rings, register, input, output, methods, gate,
+    )
+}
+
+/// The same, with the rings between its threads.
+fn serve_over<A, B, C, J, M, N, I, O, G, R>(
+    rt: R,
+    alloc: Global,
+    seat: DrainSeat<A, B, C>,
+    rings: Rings<J>,
+    register: NewRegister,
+    input: &mut I,
+    output: O,
+    methods: Arc<Methods>,
+    gate: Arc<G>,
+) -> Served<O>
+where
+    A: Ledger + Send + Sync + 'static,
+    B: Ledger + Send + Sync + 'static,
+    C: Ledger + Send + Sync + 'static,
+    J: Naming + Send + Sync + 'static,
     M: Answering + Send + Sync + 'static,
     N: Route,
     I: ConnRead,
@@ -210,12 +286,98 @@ where
     requires named { AreNames
         (IsFirstWith (λ method. (⟦<dyn Method as Method>⟧ method.vtable).name method.value)
         (listed methods.value)) M.names }
-    requires ring { (N.ring ≡ Some (in_name ring.0)) × (in_name ring.0 ≡ out_name ring.1) }
-    requires unused { (put_in ring.0 ≡ []) × (taken ring.1 ≡ []) }
+    requires rings { (N.ring ≡ Some (in_name rings.orders.0))
+        × (in_name rings.orders.0 ≡ out_name rings.orders.1)
+        × (in_name rings.senders.0 ≡ out_name rings.senders.1) }
+    requires unused { (put_in rings.orders.0 ≡ []) × (taken rings.orders.1 ≡ []) }
+    requires unsent { (put_in rings.senders.0 ≡ []) × (taken rings.senders.1 ≡ []) }
+    requires book { register.seen.book ≡ J.book }
     ensures served { (came : List ℕ) × Consumes (I.remaining input.old) (I.remaining input.new) came
-        × IsServed (λ rows. rows.items) O.contents O.failed M.known M.names
-        came (O.contents output) (I.failed input.new) result.ending result.calls result.output }
+        × IsServed (λ calls. items_of calls.full calls.last) O.contents O.failed M.known M.names
+        came (O.contents output) (I.failed input.new) result.report.ending result.report.calls
+        result.output }
 {
+    let begun = match begin::<A, B, C, J, M, N, O, G, R>(
+        rt, alloc, seat, rings, register, output, gate,
+    ) {
+        Ok(begun) => begun,
+        Err(served) => return served,
+    };
+    let Begun {
+        mut reader,
+        mut intake,
+        writing,
+    } = begun;
+    let read = reader.read(&mut intake, input, &methods);
+    end(rt, reader, intake, writing, read)
+}
+
+/// A connection that was begun: its reader, the reader's hold on the credit book, and the thread that writes.
+#[derive(Drop)]
+struct Begun<
+    A: Ledger,
+    B: Ledger,
+    C: Ledger,
+    J: Naming,
+    M: Answering,
+    N: Route,
+    O: ConnWrite + Drop,
+    R,
+    G: Drop,
+> {
+    reader: Reader<A, B, C, J, M, N, R, G>,
+    intake: Intake<A, B, C>,
+    writing: WriterHand<C, J, O>,
+}
+
+/// Begins a connection, or serves it to its end where there is no memory for that.
+// (kept out of its caller, whose frame is on the stack of each connection that lives)
+#[inline(never)]
+fn begin<A, B, C, J, M, N, O, G, R>(
+    rt: R,
+    alloc: Global,
+    seat: DrainSeat<A, B, C>,
+    rings: Rings<J>,
+    register: NewRegister,
+    output: O,
+    gate: Arc<G>,
+) -> Result<Begun<A, B, C, J, M, N, O, R, G>, Served<O>>
+where
+    A: Ledger + Send + Sync + 'static,
+    B: Ledger + Send + Sync + 'static,
+    C: Ledger + Send + Sync + 'static,
+    J: Naming + Send + Sync + 'static,
+    M: Answering + Send + Sync + 'static,
+    N: Route,
+    O: ConnWrite + Send + Drop + 'static,
+    G: Gate + Send + Sync + Drop + 'static,
+    R: Threads + Wait + Clock + Copy + Send + Sync + Drop + 'static,
+    requires came { (seat.came.parts ≡ A.parts) × (0 < A.parts) × (seat.came.amount ≡ 0) }
+    requires calls { (seat.calls.parts ≡ B.parts) × (0 < B.parts) × (seat.calls.amount ≡ 0) }
+    requires told { (seat.told.parts ≡ C.parts) × (0 < C.parts) × (seat.told.amount ≡ 0) }
+    requires rings { (N.ring ≡ Some (in_name rings.orders.0))
+        × (in_name rings.orders.0 ≡ out_name rings.orders.1)
+        × (in_name rings.senders.0 ≡ out_name rings.senders.1) }
+    requires unused { (put_in rings.orders.0 ≡ []) × (taken rings.orders.1 ≡ []) }
+    requires unsent { (put_in rings.senders.0 ≡ []) × (taken rings.senders.1 ≡ []) }
+    requires book { register.seen.book ≡ J.book }
+    ensures kept { IfOk result (λ begun. (sent : List Sent) → KeptFor M.known M.names sent []
+        begun.reader.reading begun.reader.orders) }
+    ensures none_home { IfOk result (λ begun. taken begun.reader.reading.home ≡ []) }
+    ensures uncounted { IfOk result (λ begun. (begun.intake.calls ≡ 0)
+        × (begun.intake.came ≡ 0)) }
+    ensures device { IfOk result (λ begun. O.contents begun.writing.promise.device.value
+        ≡ O.contents output) }
+    ensures route { IfOk result (λ begun. N.ring
+        ≡ Some (out_name begun.writing.promise.orders.value)) }
+    ensures way { IfOk result (λ begun. out_name begun.reader.reading.home
+        ≡ in_name begun.writing.promise.home.value) }
+    ensures served { IfErr result (λ served. (read_failed : Bool) → IsServed
+        (λ calls. items_of calls.full calls.last) O.contents O.failed M.known M.names
+        [] (O.contents output) read_failed served.report.ending served.report.calls
+        served.output) }
+{
+    let (register, front) = register.named::<J>();
     let DrainSeat {
         shared,
         came,
@@ -223,110 +385,192 @@ where
         told,
     } = seat;
     let Ok(common) = Common::new(&rt, shared, &gate) else {
-        return unserved(alloc, output);
+        return Err(unserved(alloc, output));
     };
-    let (putting, taking) = ring;
+    let Rings { orders, senders } = rings;
+    let (putting, taking) = orders;
+    let (giving, home) = senders;
     let outlet = Outlet::new(common.for_writer, told);
-    let mut intake = Intake::new(common.for_reader, came, calls);
-    let mut orders: Orders<A, B, C, N> = Orders::new(putting, common.for_orders);
-    let writing = match writer::start(rt, alloc, taking, outlet, common.gate, output, &mut orders) {
-        Ok(writing) => writing,
-        Err(Parted { written, told }) => {
-            intake.audit(&rt, told);
-            let ended = Ended {
-                calls: Vec::new(alloc),
-                ends: Vec::new(alloc),
-                abandoned: Vec::new(alloc),
-            };
-            return meet(Ending::OutOfMemory, ended, orders, written);
-        }
-    };
-    let mut reader: Reader<A, B, C, M, N, R, G> = Reader::new(
+    let intake = Intake::new(common.for_reader, came, calls);
+    let mut orders: Orders<A, B, C, J, N> = Orders::new(putting, common.for_orders);
+    match writer::start(
         rt,
         alloc,
-        orders,
-        gate,
-        common.start,
-    );
-    let read = reader.read(&mut intake, input, &methods);
-    let (ended, orders) = reader.end();
-    let Parted { written, told } = writing.join(&rt);
-    intake.audit(&rt, told);
-    meet(read, ended, orders, written)
+        taking,
+        giving,
+        outlet,
+        common.gate,
+        output,
+        &mut orders,
+    ) {
+        Ok(writing) => {
+            Ok(Begun {
+                reader: Reader::new(rt, alloc, orders, register, front, home, gate, common.start),
+                intake,
+                writing,
+            })
+        }
+        Err(Parted { written, told }) => {
+            intake.audit(&rt, told);
+            let Written {
+                ending,
+                device,
+                orders: rx,
+                is_faultless,
+                ..
+            } = written;
+            let calls = Accounts::new(alloc);
+            let read = Ending::OutOfMemory;
+            Err(meet(read, ending, calls, orders, rx, is_faultless, device))
+        }
+    }
 }
 
-/// What became of a connection, where its reader meets its writer.
-fn meet<A, B, C, N, O>(
+/// Ends a connection that was read so.
+#[inline(never)]
+fn end<A, B, C, J, M, N, O, G, R>(
+    rt: R,
+    reader: Reader<A, B, C, J, M, N, R, G>,
+    intake: Intake<A, B, C>,
+    writing: WriterHand<C, J, O>,
     read: Ending,
-    ended: Ended,
-    orders: Orders<A, B, C, N>,
-    written: Written<O>,
 ) -> Served<O>
 where
-    A: Ledger,
-    B: Ledger,
-    C: Ledger,
+    A: Ledger + Send + Sync + 'static,
+    B: Ledger + Send + Sync + 'static,
+    C: Ledger + Send + Sync + 'static,
+    J: Naming + Send + Sync + 'static,
+    M: Answering + Send + Sync + 'static,
     N: Route,
     O: ConnWrite + Send + Drop + 'static,
+    G: Gate + Send + Sync + Drop + 'static,
+    R: Threads + Wait + Clock + Copy + Send + Sync + Drop + 'static,
+    requires route { N.ring ≡ Some (out_name writing.promise.orders.value) }
+    requires way { out_name reader.reading.home ≡ in_name writing.promise.home.value }
+    requires heard { Hears M.known M.names reader.reading reader.orders }
+    // For what was sent, as far as it came home by then, whatever was heard: so it is served.
+    ensures served { (sent : List Sent) × AreCarried sent (taken reader.reading.home)
+        × ((came : List ℕ) (told : List Step) (read_failed : Bool)
+        → HasRead M.known M.names sent read came told reader.reading reader.orders
+        → intake.came ≤ counted_told (events_of told)
+        → (read ≡ ending.ReadFailed → read_failed ≡ true)
+        → IsServed (λ calls. items_of calls.full calls.last) O.contents O.failed M.known M.names
+        came (O.contents writing.promise.device.value) read_failed result.report.ending
+        result.report.calls result.output) }
+{
+    let mut reader = reader;
+    reader.end();
+    let Parted { written, told } = writing.join(&rt);
+    intake.audit(&rt, told);
+    meet_writer(reader, written, read)
+}
+
+/// What became of a connection, where its reader meets its writer, and takes the senders back that this had.
+fn meet_writer<A, B, C, J, M, N, O, G, R>(
+    reader: Reader<A, B, C, J, M, N, R, G>,
+    written: Written<J, O>,
+    read: Ending,
+) -> Served<O>
+where
+    A: Ledger + Send + Sync + 'static,
+    B: Ledger + Send + Sync + 'static,
+    C: Ledger + Send + Sync + 'static,
+    J: Naming + Send + Sync + 'static,
+    M: Answering + Send + Sync + 'static,
+    N: Route,
+    O: ConnWrite + Send + Drop + 'static,
+    G: Gate + Send + Sync + Drop + 'static,
+    R: Threads + Wait + Clock + Copy + Send + Sync + Drop + 'static,
     requires route { N.ring ≡ Some (out_name written.orders) }
-    requires rings { IsPrefix (taken written.orders) (put_in orders.outbox.ring)
-        → AreMeeting (held_of written.senders.places.items) ended.ends.items }
-    // The orders that the run obeyed begin those that were put; and where the ending doesn't tell why not, they are all of them.
-    ensures obeyed { (left : List (Control Opened))
-        × (taken written.orders ++ left ≡ put_in orders.outbox.ring)
-        × (result.ending ≢ ending.OutOfMemory → result.ending ≢ ending.WriteFailed → left ≡ []) }
+    requires way { out_name reader.reading.home ≡ in_name written.rest.sends.home }
+    ensures obeyed { AreFirst (taken written.orders) (put_in reader.orders.outbox.ring)
+        ((result.report.ending ≢ ending.OutOfMemory)
+        × (result.report.ending ≢ ending.WriteFailed)) }
+    ensures came { IsPrefix (taken reader.reading.home) (put_in written.rest.sends.home) }
+    ensures accounts { (sent : List Sent) (told : List Step)
+        → AreCarried sent (put_in written.rest.sends.home) → CarriesRest sent written.rest
+        → IfSome reader.orders.unput (CarriesOpen sent)
+        → Reads M.known M.names (carried_in sent) told reader.reading
+        → AreAccounts M.known M.names (carried_in sent) told (reported told)
+        (items_of result.report.calls.full result.report.calls.last) }
     ensures output { result.output ≡ written.device }
     ensures memory { written.ending ≡ Some ending.OutOfMemory
-        → result.ending ≡ ending.OutOfMemory }
+        → result.report.ending ≡ ending.OutOfMemory }
     ensures broken { written.ending ≡ Some ending.WriteFailed
-        → result.ending ≢ ending.OutOfMemory → result.ending ≡ ending.WriteFailed }
-    ensures marked { result.ending ≡ ending.WriteFailed
+        → result.report.ending ≢ ending.OutOfMemory
+        → result.report.ending ≡ ending.WriteFailed }
+    ensures marked { result.report.ending ≡ ending.WriteFailed
         → written.ending ≡ Some ending.WriteFailed }
-    // What was sent of each call begins what was given of it, and in its row is noted how much that was.
-    ensures met { HaveMet (ids_of written.senders.places.items)
-        (held_of written.senders.places.items) ended.ends.items
-        ended.calls.items result.calls.items }
-    // No call has a status whose stream was reset since it was left.
-    ensures left { result.ending ≢ ending.OutOfMemory
-        → AreLeft written.resets.items result.calls.items }
-    // For each call that was cut though it was answered the writer has blamed its peer.
-    ensures overran { result.ending ≢ ending.OutOfMemory
-        → AreAmong ended.abandoned.items written.blamed.items }
-    // None was dropped, unless the ending tells why.
-    ensures dropped { result.ending ≢ ending.OutOfMemory → result.ending ≢ ending.WriteFailed
-        → ((code : Code) → result.ending ≢ ending.ProtocolError code) → orders.has_dropped ≡ false }
-    // None with an error was told, where the connection drained.
-    ensures faultless { result.ending ≡ ending.Drained → written.is_faultless ≡ true }
-    ensures input { is_heard_out result.ending ≡ true → result.ending ≡ read }
-    ensures blamed { (code : Code) → result.ending ≡ ending.ProtocolError code
+    ensures dropped { result.report.ending ≢ ending.OutOfMemory
+        → result.report.ending ≢ ending.WriteFailed
+        → ((code : Code) → result.report.ending ≢ ending.ProtocolError code)
+        → reader.orders.has_dropped ≡ false }
+    ensures faultless { result.report.ending ≡ ending.Drained → written.is_faultless ≡ true }
+    ensures input { is_heard_out result.report.ending ≡ true → result.report.ending ≡ read }
+    ensures blamed { (code : Code) → result.report.ending ≡ ending.ProtocolError code
         → (read ≡ ending.ProtocolError code)
         ⊎ (written.ending ≡ Some (ending.ProtocolError code)) }
-    ensures lacked { read ≡ ending.OutOfMemory → result.ending ≡ ending.OutOfMemory }
 {
     let Written {
         ending,
         device,
         orders: rx,
-        senders,
         is_faultless,
-        resets,
-        blamed,
+        rest,
     } = written;
+    let (calls, orders) = reader.meet(rest);
+    meet(read, ending, calls, orders, rx, is_faultless, device)
+}
+
+/// The same by what either saw.
+fn meet<A, B, C, J, N, O>(
+    read: Ending,
+    written: Option<Ending>,
+    calls: Accounts,
+    orders: Orders<A, B, C, J, N>,
+    rx: RingOut<Order<J>>,
+    is_faultless: bool,
+    output: O,
+) -> Served<O>
+where
+    A: Ledger,
+    B: Ledger,
+    C: Ledger,
+    J: Naming,
+    N: Route,
+    O: ConnWrite + Send + Drop + 'static,
+    requires route { N.ring ≡ Some (out_name rx) }
+    // The orders that the run obeyed begin those that were put; and where the ending doesn't tell why not, they are all of them.
+    ensures obeyed { AreFirst (taken rx) (put_in orders.outbox.ring)
+        ((result.report.ending ≢ ending.OutOfMemory)
+        × (result.report.ending ≢ ending.WriteFailed)) }
+    ensures output { result.output ≡ output }
+    ensures calls { result.report.calls ≡ calls }
+    ensures memory { written ≡ Some ending.OutOfMemory
+        → result.report.ending ≡ ending.OutOfMemory }
+    ensures broken { written ≡ Some ending.WriteFailed
+        → result.report.ending ≢ ending.OutOfMemory
+        → result.report.ending ≡ ending.WriteFailed }
+    ensures marked { result.report.ending ≡ ending.WriteFailed
+        → written ≡ Some ending.WriteFailed }
+    // None was dropped, unless the ending tells why.
+    ensures dropped { result.report.ending ≢ ending.OutOfMemory
+        → result.report.ending ≢ ending.WriteFailed
+        → ((code : Code) → result.report.ending ≢ ending.ProtocolError code)
+        → orders.has_dropped ≡ false }
+    // None with an error was told, where the connection drained.
+    ensures faultless { result.report.ending ≡ ending.Drained → is_faultless ≡ true }
+    ensures input { is_heard_out result.report.ending ≡ true → result.report.ending ≡ read }
+    ensures blamed { (code : Code) → result.report.ending ≡ ending.ProtocolError code
+        → (read ≡ ending.ProtocolError code) ⊎ (written ≡ Some (ending.ProtocolError code)) }
+    ensures lacked { read ≡ ending.OutOfMemory → result.report.ending ≡ ending.OutOfMemory }
+{
     let has_dropped = orders.has_dropped;
     let are_all = orders.meet(rx);
-    let Ended {
-        mut calls,
-        ends,
-        abandoned,
-    } = ended;
-    meet_slots(ends, senders, &mut calls);
-    let seen = by_orders(of_both(read, ending), are_all, has_dropped, is_faultless);
-    let is_one_answered = is_one_answered(calls.as_slice(), resets.as_slice());
-    let is_one_unblamed = lacks_one(abandoned.as_slice(), blamed.as_slice());
+    let ending = by_orders(of_both(read, written), are_all, has_dropped, is_faultless);
     Served {
-        ending: by_calls(seen, is_one_answered, is_one_unblamed),
-        output: device,
-        calls,
+        report: ConnReport { calls, ending },
+        output,
     }
 }
 
@@ -371,20 +615,5 @@ fn by_orders(seen: Ending, are_all: bool, has_dropped: bool, is_faultless: bool)
         _ if has_dropped => Ending::OutOfMemory,
         Ending::Drained if !is_faultless => Ending::OutOfMemory,
         _ => seen,
-    }
-}
-
-/// The same by whether a call was answered whose stream was reset as that of a call that was left, and whether one was cut though it was
-/// answered, for which the writer hadn't blamed its peer. Either counts as want of memory; but that doesn't come.
-fn by_calls(seen: Ending, is_one_answered: bool, is_one_unblamed: bool) -> Ending
-    ensures memory { seen ≡ ending.OutOfMemory → result ≡ ending.OutOfMemory }
-    ensures same { result ≢ ending.OutOfMemory → result ≡ seen }
-    ensures left { result ≢ ending.OutOfMemory → is_one_answered ≡ false }
-    ensures overran { result ≢ ending.OutOfMemory → is_one_unblamed ≡ false }
-{
-    if is_one_answered || is_one_unblamed {
-        Ending::OutOfMemory
-    } else {
-        seen
     }
 }

@@ -1,13 +1,11 @@
 //! What is told of a connection that was served.
 
-use callslot::{CallReport, Ending};
+use callparts::ConnReport;
 
 /// What became of a connection.
 #[derive(Drop)]
 pub struct Served<O: Drop> {
-    pub ending: Ending,
+    pub report: ConnReport,
     /// What was written to.
     pub output: O,
-    /// A row for each call that was admitted, in the order of their streams.
-    pub calls: Vec<CallReport>,
 }

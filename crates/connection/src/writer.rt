@@ -1,73 +1,99 @@
-//! The writing thread of a connection: it turns a `SlotWriter`, takes the lock for it, rings and waits.
+//! The writing thread of a connection: it turns a `Writing`, takes the lock for it, rings and waits.
 
-ghost use Rattle.std.specs.Prelude.{◌≡◌, ◌⊎◌, ℕ, List, [], Option, IfErr, IfOk, OnErr, OnOk, true};
-ghost use Rattle.lane.specs.Ring.{out_name, taken};
-ghost use Rattle.connwriter.specs.declared.filled.Filled.TheVariants as filling;
-ghost use Rattle.connection.specs.Heard.{EndsOrders};
-ghost use Rattle.slotwriter.specs.Orders.{orders_of};
-ghost use Rattle.slotwriter.specs.Written.{HasSent, HasWritten, IsFlushed, Led, LeadsOn, LeadsOutTo, LeadsTo, Stays};
+ghost use Rattle.std.specs.Prelude.{◌≡◌, ◌⊎◌, ℕ, List, [], ◌∷◌, Option, IfErr, IfOk, OnErr, OnOk, true};
+ghost use Rattle.lane.specs.Ring.{in_name, out_name, put_in, taken};
+ghost use Rattle.writerloop.specs.declared.filled.Filled.TheVariants as filling;
+ghost use Rattle.outwriter.specs.declared.control.Control.TheVariants as controls;
+ghost use Rattle.writerloop.specs.Orders.{orders_of};
+ghost use Rattle.writerloop.specs.Written.{HasSent, HasWritten, IsFlushed, Led, LedOut, LeadsOn, LeadsOutTo, LeadsTo, Stays};
+ghost use Rattle.connection.specs.Puts.{Closed, Ordered};
 
 use crate::orders::{Orders, Route};
 use crate::outlet::Outlet;
-use callslot::Order;
+use callparts::{Naming, Order, Returning};
 use callworker::{Gate, STACK};
-use connwriter::Filled;
 use device::ConnWrite;
 use h2frame::StreamId;
-use lane::RingOut;
+use lane::{RingIn, RingOut};
 use outwriter::Control;
-use slotwriter::{Rest, SlotWriter, Took, Waiting, Written};
 use std::alloc::Global;
 use std::snapshot::Snapshot;
 use std::sync::ledger::{Ledger, Share};
 use std::sync::{Arc, Wait};
 use std::thread::{Builder, Promise, PromisedHandle, Threads};
 use std::time::Duration;
+use writerloop::{Filled, Rest, Took, Waiting, Writing, Written};
 
 /// How long the writer waits at most before it looks again, in milliseconds.
 const STEP: u64 = 1000;
 
-/// How many turns that write something come at most before it looks for calls that were left, which looks at each slot.
+/// How many turns that write something come at most before it looks for calls that were left, which looks at each call.
 const TURNS: u32 = 16;
 
 /// What the writing thread of a connection has.
 #[derive(Drop)]
-struct Writer<A: Ledger, B: Ledger, C: Ledger, W: ConnWrite, G: Drop> {
+struct Writer<A: Ledger, B: Ledger, C: Ledger, J: Naming, W: ConnWrite, G: Drop> {
     outlet: Outlet<A, B, C>,
     gate: Arc<G>,
-    writing: SlotWriter<W>,
+    writing: Writing<J, W>,
     /// How many more turns that write something come before it looks for calls that were left.
     turns: u32,
 }
 
-impl<A: Ledger, B: Ledger, C: Ledger, W: ConnWrite + Drop, G: Gate + Drop> Writer<A, B, C, W, G> {
+impl<A, B, C, J, W, G> Writer<A, B, C, J, W, G>
+where
+    A: Ledger,
+    B: Ledger,
+    C: Ledger,
+    J: Naming,
+    W: ConnWrite + Drop,
+    G: Gate + Drop,
+{
     /// Writes until no more is to be written.
-    fn write(self, rt: &impl Wait) -> Parted<C, W>
+    fn write(self, rt: &impl Wait) -> Parted<C, J, W>
         // The run granted on the connection what the share counts.
         ensures sent { (before : Option (List ℕ))
             → Led W.contents W.failed before self.outlet self.writing
             → HasSent W.contents W.failed before result.told.amount
-            (taken result.written.orders) result.written.senders.places.items
-            result.written.ending result.written.is_faultless result.written.resets.items
-            result.written.blamed.items result.written.device }
+            (taken result.written.orders) result.written.rest result.written.ending
+            result.written.is_faultless result.written.device }
         ensures name { out_name result.written.orders ≡ out_name self.writing.inbox.ring }
+        ensures way { in_name result.written.rest.sends.home ≡ in_name self.writing.sends.home }
         ensures parts { result.told.parts ≡ C.parts }
     {
         let mut writer = self;
         'turns: for _ in rt.forever() {
             if writer.turn(rt) {
-                let Writer {
-                    outlet,
-                    writing,
-                    ..
-                } = writer;
-                return Parted {
-                    written: writing.into_end(),
-                    told: outlet.into_share(),
-                };
+                return writer.part();
             }
         }
         unreachable!()
+    }
+
+    /// What is handed back once no more is to be written.
+    // (kept out of its caller, whose frame is on the stack of each connection that lives)
+    #[inline(never)]
+    fn part(self) -> Parted<C, J, W>
+        requires flushed { IsFlushed self.writing }
+        ensures sent { (before : Option (List ℕ)) (credit : ℕ)
+            → LedOut W.contents W.failed before credit self.writing
+            → HasSent W.contents W.failed before credit
+            (taken result.written.orders) result.written.rest result.written.ending
+            result.written.is_faultless result.written.device }
+        ensures name { out_name result.written.orders ≡ out_name self.writing.inbox.ring }
+        ensures way { in_name result.written.rest.sends.home ≡ in_name self.writing.sends.home }
+        ensures amount { result.told.amount ≡ self.outlet }
+        ensures parts { result.told.parts ≡ C.parts }
+    {
+        let Writer {
+            outlet,
+            writing,
+            ..
+        } = self;
+        Parted {
+            written: writing.into_end(),
+            told: outlet.into_share(),
+        }
     }
 
     /// Writes what can be written, and waits where that is nothing. Whether no more is to be written.
@@ -328,8 +354,8 @@ impl<A: Ledger, B: Ledger, C: Ledger, W: ConnWrite + Drop, G: Gate + Drop> Write
         }
         let outlet = &self.outlet;
         let mut book = outlet.shared().book.lock(rt);
-        for number in 0..self.writing.slots() {
-            let Some(id) = self.writing.stuck(number) else {
+        for place in 0..self.writing.calls() {
+            let Some(id) = self.writing.stuck(place) else {
                 continue;
             };
             if book.is_live(id) {
@@ -349,56 +375,65 @@ impl<A: Ledger, B: Ledger, C: Ledger, W: ConnWrite + Drop, G: Gate + Drop> Write
 
 /// What a writing thread comes to: what it hands back, and the share of the one who announced credit.
 #[derive(Drop)]
-pub(crate) struct Parted<C: Ledger, W: ConnWrite + Drop> {
-    pub(crate) written: Written<W>,
+pub(crate) struct Parted<C: Ledger, J: Naming, W: ConnWrite + Drop> {
+    pub(crate) written: Written<J, W>,
     pub(crate) told: Share<C>,
 }
 
-/// What a writer writes to and takes its orders from, as it was before. It promises that behind what was written stand the frames of a
-/// lawful run, which obeyed the orders that it took, and granted on the connection what its share counts; and that the slots' senders tell what was sent.
+/// What a writer writes to, takes its orders from, and hands senders back by, as it was before. It promises that behind what was written stand
+/// the frames of a lawful run, which obeyed the orders that it took, and granted on the connection what its share counts; and that no sender is lost.
 #[derive(Drop)]
-pub(crate) struct Begun<W: ConnWrite> {
+pub(crate) struct Begun<J: Naming, W: ConnWrite> {
     pub(crate) device: Snapshot<W>,
-    pub(crate) orders: Snapshot<RingOut<Order>>,
+    pub(crate) orders: Snapshot<RingOut<Order<J>>>,
+    pub(crate) home: Snapshot<RingIn<Returning<J>>>,
 }
 
-impl<C: Ledger, W: ConnWrite + Drop> Promise<Parted<C, W>> for Begun<W> {
+impl<C: Ledger, J: Naming, W: ConnWrite + Drop> Promise<Parted<C, J, W>> for Begun<J, W> {
     ghost kept_by = { λ begun r. (out_name r.written.orders ≡ out_name begun.orders.value)
-        × HasSent W.contents W.failed (W.contents begun.device.value) r.told.amount (taken r.written.orders) r.written.senders.places.items
-        r.written.ending r.written.is_faultless r.written.resets.items r.written.blamed.items
+        × (in_name r.written.rest.sends.home ≡ in_name begun.home.value)
+        × HasSent W.contents W.failed (W.contents begun.device.value) r.told.amount
+        (taken r.written.orders) r.written.rest r.written.ending r.written.is_faultless
         r.written.device
         × (r.told.parts ≡ C.parts) };
 }
 
 /// The thread that writes, and what it comes to.
-pub(crate) type Writing<C, W> = PromisedHandle<Parted<C, W>, Begun<W>>;
+pub(crate) type WriterHand<C, J, W> = PromisedHandle<Parted<C, J, W>, Begun<J, W>>;
 
 /// Starts the thread that writes. Where it can't be made, it is ordered that the input has ended, and no more: this thread writes what is to
 /// be written then. So Close isn't the first order, for which there may be no memory.
-pub(crate) fn start<A, B, C, N, W, G, R>(
+// (kept out of its caller, whose frame is on the stack of each connection that lives)
+#[inline(never)]
+pub(crate) fn start<A, B, C, J, N, W, G, R>(
     rt: R,
     alloc: Global,
-    taking: RingOut<Order>,
+    taking: RingOut<Order<J>>,
+    home: RingIn<Returning<J>>,
     outlet: Outlet<A, B, C>,
     gate: Arc<G>,
     device: W,
-    orders: &mut Orders<A, B, C, N>,
-) -> Result<Writing<C, W>, Parted<C, W>>
+    orders: &mut Orders<A, B, C, J, N>,
+) -> Result<WriterHand<C, J, W>, Parted<C, J, W>>
 where
     A: Ledger + Send + Sync + 'static,
     B: Ledger + Send + Sync + 'static,
     C: Ledger + Send + Sync + 'static,
+    J: Naming + Send + Sync + 'static,
     N: Route,
     W: ConnWrite + Send + Drop + 'static,
     G: Gate + Send + Sync + Drop + 'static,
     R: Threads + Wait + Copy + Send + Sync + Drop + 'static,
     requires none { taken taking ≡ [] }
+    requires none_back { put_in home ≡ [] }
     requires untold { outlet ≡ 0 }
     ensures begun { IfOk result (λ writing. W.contents writing.promise.device.value
         ≡ W.contents device) }
     ensures ring { IfOk result (λ writing. writing.promise.orders.value ≡ taking) }
+    ensures way { IfOk result (λ writing. writing.promise.home.value ≡ home) }
     ensures same { OnOk result (orders.new ≡ orders.old) }
-    ensures put { OnErr result (EndsOrders [] [] orders.old orders.new) }
+    ensures put { OnErr result (Ordered [] orders.old
+        → Closed (controls.InputEnded ∷ []) orders.new) }
     ensures name { IfErr result (λ parted. out_name parted.written.orders ≡ out_name taking) }
     ensures written { IfErr result (λ parted. HasWritten W.contents W.failed (W.contents device)
         parted.told.amount (orders_of (taken parted.written.orders)) parted.written.ending
@@ -408,22 +443,23 @@ where
     let begun = Begun {
         device: Snapshot::of(&device),
         orders: Snapshot::of(&taking),
+        home: Snapshot::of(&home),
     };
-    let writing = SlotWriter::new(alloc, taking, device, &begun.device);
+    let writing = Writing::new(alloc, taking, home, device, &begun.device);
     let writer = Writer {
         outlet,
         gate,
         writing,
         turns: TURNS,
     };
-    let write = move || -> Parted<C, W>
+    let write = move || -> Parted<C, J, W>
         ensures name { out_name result.written.orders ≡ out_name writer.writing.inbox.ring }
+        ensures way { in_name result.written.rest.sends.home ≡ in_name writer.writing.sends.home }
         ensures sent { (before : Option (List ℕ))
             → Led W.contents W.failed before writer.outlet writer.writing
             → HasSent W.contents W.failed before result.told.amount
-            (taken result.written.orders) result.written.senders.places.items
-            result.written.ending result.written.is_faultless result.written.resets.items
-            result.written.blamed.items result.written.device }
+            (taken result.written.orders) result.written.rest result.written.ending
+            result.written.is_faultless result.written.device }
         ensures parts { result.told.parts ≡ C.parts }
     { writer.write(&rt) };
     match Builder::new()

@@ -43,12 +43,18 @@ where
 
 /// Whether the connection ended with its input or by the drain, and each call that was admitted is answered.
 fn are_answered(served: &Served<Sink>) -> bool {
-    let has_ended = matches!(served.ending, Ending::InputEnded | Ending::Drained);
-    has_ended
-        && served
-            .calls
-            .iter()
-            .all(|call| call.trailers_sent && call.status == Some(0))
+    if !matches!(served.report.ending, Ending::InputEnded | Ending::Drained) {
+        return false;
+    }
+    let calls = &served.report.calls;
+    for place in 0..calls.len() {
+        if let Some(call) = calls.get(place) {
+            if !call.output.trailers_sent || call.status != Some(0) {
+                return false;
+            }
+        }
+    }
+    true
 }
 
 /// Serves a plan's connection, which another thread drains at the gate's turn, or else behind it.

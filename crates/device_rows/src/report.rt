@@ -4,7 +4,7 @@ use crate::devices::{Sink, Source};
 use crate::gates::MOST;
 use account::Told;
 use anyhow::Result;
-use connection::{CallReport, Served};
+use connection::{Accounts, CallAccount, Served, Traffic};
 use std::alloc::Global;
 
 /// Prints what became of a connection that was read from here. Where there is no memory for that it prints nothing.
@@ -16,8 +16,8 @@ pub fn print_served(
 ) -> Result<()> {
     print_written(rt, alloc, &served.output)?;
     println!(rt; "read {}{}", source.at, failure(source.has_failed))?;
-    println!(rt; "ending {}", served.ending.code())?;
-    print_calls(rt, served.calls.as_slice())?;
+    println!(rt; "ending {}", served.report.ending.code())?;
+    print_calls(rt, &served.report.calls)?;
     println!(rt; "over")?;
     Ok(())
 }
@@ -25,7 +25,7 @@ pub fn print_served(
 /// Prints whether a gate needn't have given up, which was asked so many times in vain, and what became of the calls behind it.
 pub fn print_held(rt: &impl Print, times: u32, served: &Served<Sink>) -> Result<()> {
     println!(rt; "held {}", times < MOST)?;
-    print_calls(rt, served.calls.as_slice())?;
+    print_calls(rt, &served.report.calls)?;
     println!(rt; "over")?;
     Ok(())
 }
@@ -37,10 +37,12 @@ fn print_written(rt: &impl Print, alloc: Global, sink: &Sink) -> Result<()> {
     Ok(())
 }
 
-fn print_calls(rt: &impl Print, calls: &[CallReport]) -> Result<()> {
+fn print_calls(rt: &impl Print, calls: &Accounts) -> Result<()> {
     println!(rt; "calls {}", calls.len())?;
-    for call in calls {
-        print_call(rt, call)?;
+    for place in 0..calls.len() {
+        if let Some(call) = calls.get(place) {
+            print_call(rt, call)?;
+        }
     }
     Ok(())
 }
@@ -49,28 +51,42 @@ fn failure(has_failed: bool) -> &'static str {
     if has_failed { " failed" } else { "" }
 }
 
+/// How many items the call was answered with, and how many of them were sent. Where no trailers were given, the last item is the word that
+/// the call was left, which isn't told.
+fn items_of(call: &CallAccount) -> (u64, u64) {
+    let (given, sent) = (call.output.given, call.output.sent);
+    if call.output.trailers_given {
+        return (given, sent);
+    }
+    let given = given.saturating_sub(1);
+    (given, sent.min(given))
+}
+
 /// How far the trailers came.
-fn trailers_of(call: &CallReport) -> &'static str {
-    match (call.trailers_given, call.trailers_sent) {
+fn trailers_of(call: &CallAccount) -> &'static str {
+    match (call.output.trailers_given, call.output.trailers_sent) {
         (_, true) => "sent",
         (true, false) => "given",
         (false, false) => "none",
     }
 }
 
-fn print_call(rt: &impl Print, call: &CallReport) -> Result<()> {
-    let CallReport {
+fn print_call(rt: &impl Print, call: &CallAccount) -> Result<()> {
+    let CallAccount {
         id,
         method,
-        messages,
+        input,
+        traffic,
+        ..
+    } = call;
+    let messages = input.taken;
+    let (given, sent) = items_of(call);
+    let Traffic {
         bytes,
         replies,
         reply_bytes,
-        given,
-        sent,
-        ..
-    } = call;
-    let told = match call.told {
+    } = traffic;
+    let told = match input.told {
         Some(Told::End) => "end",
         Some(Told::Reset(_)) => "reset",
         Some(Told::Fault(_)) => "fault",

@@ -89,17 +89,17 @@ const ALL: [Command; 9] = [
         text: "  serve          serve grpc.testing.TestService on port P of H (127.0.0.1 if no host is given),
                  or on a port that the system chooses, until it is interrupted, or N connections
                  were served; the line listening HOST:PORT tells where; with --report print a
-                 line of each connection that ends, and of each call on it; with --log print at
-                 once what happens, and why: a line as each call begins and ends, as each stream and
-                 connection ends, and where a call waits; with --log json each line of standard
-                 output is an object of JSON. --time says when: in seconds since the start, or by
-                 the clock (utc), in front of each line of a log. With --drain-on-eof it stops once
-                 standard input has ended: calls that began are answered, others refused, and so
-                 where the last of N connections has ended. What lives after S seconds of that (10
-                 if not given) is named, and left, with status 1. ./interop does the same on SIGINT
-                 and SIGTERM; a second one ends it at once. Once it listens --port-file has the
-                 port, and --ready-file, which is written last, the address. --record DIR has what
-                 passed on the Nth connection in N.txt, which frames and parts take",
+                 line of each call that was settled, and of each connection that ends; with --log
+                 print at once what happens, and why: a line as each call begins and ends, as each
+                 stream and connection ends, and where a call waits; with --log json each line of
+                 standard output is an object of JSON. --time says when: in seconds since the start,
+                 or by the clock (utc), in front of each line of a log. With --drain-on-eof it stops
+                 once standard input has ended: calls that began are answered, others refused, and
+                 so where the last of N connections has ended. What lives after S seconds of that
+                 (10 if not given) is named, and left, with status 1. ./interop does the same on
+                 SIGINT and SIGTERM; a second one ends it at once. Once it listens --port-file has
+                 the port, and --ready-file, which is written last, the address. --record DIR has
+                 what passed on the Nth connection in N.txt, which frames and parts take",
     },
     Command {
         name: "wire",

@@ -8,7 +8,7 @@ use mathlib.Core.List.{IsPrefix}
 use Rattle.lane.specs.Notes.{known_item, holds_item}
 use Rattle.lane.specs.KnownCells.{item_of, items_of}
 use Rattle.lane.specs.Lawful.{last_of}
-use Rattle.lane.specs.declared.known_cell.Known.{Known}
+use Rattle.lane.specs.declared.row_lane.known_cell.Known.{Known}
 
 length_known_item : {T : Type 0} → (k : Option (Option T)) → holds_item k ≡ true → length (known_item k) ≡ 1
 length_known_item None h = cc

@@ -1,5 +1,6 @@
 pub mod Examples
 pub mod KnownItems
 pub mod Prefixes
-pub mod CutLemmas
-pub mod Settling
+pub mod StepLemmas
+pub mod LinkLemmas
+pub mod MeetLemmas

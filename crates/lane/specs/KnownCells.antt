@@ -4,7 +4,7 @@ use Rattle.std.specs.List.{flat_map}
 use Rattle.std.specs.declared.alloc.Global.{Global}
 use Rattle.once_cell.specs.Once.{cell_name}
 use Rattle.lane.specs.Notes.{known_item}
-use Rattle.lane.specs.declared.known_cell.Known.{Known}
+use Rattle.lane.specs.declared.row_lane.known_cell.Known.{Known}
 
 -- the names of a row of cells
 abbrev pub names_of : List (Global × ℕ) → List ℕ

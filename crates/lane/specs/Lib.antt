@@ -3,8 +3,10 @@ pub mod End
 pub mod PutFault
 pub mod RingEnds
 pub mod Ring
-pub mod Cuts
-pub mod Follows
+pub mod Second
+pub mod Steps
+pub mod Linked
+pub mod Firsts
 pub mod RingLane
 pub mod Notes
 pub mod KnownCells

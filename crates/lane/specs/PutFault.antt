@@ -1,5 +1,5 @@
 -- Why an item was not put.
-use Rattle.std.specs.Prelude.{◌≡◌, ℕ, ◌+◌, ◌≤◌, Bool, false}
+use Rattle.std.specs.Prelude.{◌≡◌, ℕ, ◌+◌, ◌≤◌}
 use Rattle.lane.specs.declared.fault.PutFault.{PutFault}
 use Rattle.lane.specs.declared.fault.PutFault.TheVariants.{Full, OutOfMemory, NotTaken}
 
@@ -15,11 +15,11 @@ module _ {T : Type 0} where
   item_of (OutOfMemory item) = item
   item_of (NotTaken item) = item
 
-  -- Full tells how many of the items that were put had not been seen taken, and there are at least as many as the queue has room for. A queue that only fills has no other fault
-  abbrev pub MayRefuse : Bool → ℕ → ℕ → ℕ → PutFault T → Type 0
-  MayRefuse only_fills room put seen_taken (Full item waiting) = (waiting + seen_taken ≡ put) × (room ≤ waiting)
-  MayRefuse only_fills room put seen_taken (OutOfMemory item) = only_fills ≡ false
-  MayRefuse only_fills room put seen_taken (NotTaken item) = only_fills ≡ false
+  -- Full tells how many of the items that were put had not been seen taken, and there are at least as many as the queue has room for. Of the other faults a queue has those that are its own
+  abbrev pub MayRefuse : (ℕ → Type 0) → Type 0 → ℕ → ℕ → ℕ → PutFault T → Type 0
+  MayRefuse WantsMemory MayMiss room put seen_taken (Full item waiting) = (waiting + seen_taken ≡ put) × (room ≤ waiting)
+  MayRefuse WantsMemory MayMiss room put seen_taken (OutOfMemory item) = WantsMemory room
+  MayRefuse WantsMemory MayMiss room put seen_taken (NotTaken item) = MayMiss
 
   -- the one refusal of a ring: as many items as it has slots were put and not seen taken
   abbrev pub IsFull : ℕ → ℕ → ℕ → PutFault T → Type 0

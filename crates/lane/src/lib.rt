@@ -1,29 +1,22 @@
 //! Queues from one writer to one reader, whose ends may go to threads of their own.
 //!
-//! A queue may carry one segment of items after another, each ended by a last item. In every schedule what the reading
-//! end got is a prefix of what the writing end put, segment by segment. Neither end can say so alone: what each did is
-//! known to it, and the two are compared where both are in one place again, by `settle`, `settle_all` or `meet`. No call of an end waits, so no lock fits into one; who has to
-//! wait does so at a `Bell`.
+//! In every schedule what the reading end got is a prefix of what the writing end put. Neither end can say so alone: what
+//! each did is known to it, and the two are compared where both are in one place again, by `settle` or `meet`. No call of
+//! an end waits, so no lock fits into one; who has to wait does so at a `Bell`.
 //!
-//! Read `specs/Lawful.antt` first, which says what a queue may do, then `specs/Follows.antt`, which says it of many
-//! segments, and then
+//! Read `specs/Lawful.antt` first, which says what a queue may do, and then
 //! - `lane`: the trait `Lane`, a queue with room for a number of items and for one last item;
 //! - `fault`: why an item is handed back;
-//! - `ring_lane`, with `marked`: the lane over a ring, which has room again as items are got, and serves one segment after
-//!   another;
-//! - `row_lane`, with `cells` and `known_cell`: a second lane, over cells that are set once, for tests of
-//!   what is generic over lanes;
+//! - `ring_lane`: the lane over a ring, which takes memory as it fills;
+//! - `row_lane`: a second lane, over cells that are set once, for tests of what is generic over lanes;
 //! - `ring`: a ring of slots whose items move out to the reader, without a last one;
 //! - `bell`: waiting for what another thread does;
 //! - `uses::two_threads`: any lane between two threads.
 #![tactic(auto)]
 
 mod bell;
-mod cells;
 mod fault;
-mod known_cell;
 mod lane;
-mod marked;
 mod ring;
 mod ring_lane;
 mod row_lane;

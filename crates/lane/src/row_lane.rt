@@ -8,10 +8,13 @@ ghost use Rattle.rtrb.specs.Ring.{sent, known_free, producer_capacity, received}
 ghost use Rattle.lane.specs.KnownCells.{names_of, cells_of};
 ghost use Rattle.lane.specs.Lawful.{last_count};
 
-use crate::cells::{Cells, compare, item_at, look_at, set_at, unset_cells};
+mod cells;
+mod known_cell;
+
 use crate::fault::PutFault;
-use crate::known_cell::Known;
 use crate::lane::{End, Lane, Settled};
+use cells::{Cells, compare, item_at, look_at, set_at, unset_cells};
+use known_cell::Known;
 use rtrb::{Consumer, Producer, RingBuffer};
 use std::alloc::{AllocError, Global};
 use std::marker::PhantomData;
@@ -74,9 +77,7 @@ pub struct RowLane<T> {
 
 #[tactic(auto, using(crate::proofs::KnownItems::length_items_of))]
 impl<T: Send + Sync + Drop> Lane for RowLane<T> {
-    ghost use Rattle.std.specs.Prelude.{[], ◌∷◌, ◌++◌, false};
-    ghost use mathlib.Core.List.{IsPrefix};
-    ghost use Rattle.lane.specs.Follows.{Follows};
+    ghost use Rattle.std.specs.Prelude.{[], ◌∷◌, ◌++◌, ⊤};
     ghost use Rattle.lane.specs.End.{of_end, has_last};
     ghost use Rattle.lane.specs.Lawful.{IsLawful, count_of};
     ghost use Rattle.lane.specs.RowLane.{RowName, RowName_set, room_of, in_name, shut_name, out_name, put_in, put_shut, was_placed, got};
@@ -99,16 +100,6 @@ impl<T: Send + Sync + Drop> Lane for RowLane<T> {
 
     ghost shut_name = { shut_name };
 
-    ghost ring_of = { λ name. name };
-
-    ghost next_name = { λ name. name };
-
-    ghost past_in = { λ _. [] };
-
-    ghost past_shut = { λ _. [] };
-
-    ghost past_out = { λ _. [] };
-
     ghost room_of = { room_of };
 
     ghost put_in = { put_in };
@@ -123,7 +114,9 @@ impl<T: Send + Sync + Drop> Lane for RowLane<T> {
 
     ghost ahead = { λ _. [] };
 
-    ghost only_fills = { false };
+    ghost WantsMemory = { λ _. ⊤ };
+
+    ghost MayMiss = { ⊤ };
 
     fn open(alloc: Global, room: usize) -> Result<(RowLaneIn<T>, RowLaneOut<T>), AllocError> {
         let count = room.checked_add(1).ok_or(AllocError)?;
@@ -231,29 +224,12 @@ impl<T: Send + Sync + Drop> Lane for RowLane<T> {
         Some(item_at(&rx.cells, at, again))
     }
 
-    fn again(rx: &mut RowLaneOut<T>) -> Option<&T> {
+    fn polled(rx: &mut RowLaneOut<T>) -> Option<&T> {
         let mut last = rx.got.pop()?;
         let same = last.again();
         let index = rx.got.len();
         rx.got.push_reserved(last);
         Some(item_at(&rx.cells, index, same))
-    }
-
-    fn begin(shut: RowLaneShut<T>) -> Result<RowLaneIn<T>, RowLaneShut<T>> {
-        Err(shut)
-    }
-
-    fn go_on(_rx: &mut RowLaneOut<T>) -> bool {
-        false
-    }
-
-    fn settle_all(end: End<RowLaneIn<T>, RowLaneShut<T>>, rx: RowLaneOut<T>)
-        requires { of_end in_name shut_name end ≡ out_name rx }
-        ensures ended { IsPrefix [] (of_end (λ _. []) (λ s. put_shut s ∷ []) end) }
-        ensures follows { Follows
-            (of_end (λ _. []) (λ _. []) end ++ of_end put_in put_shut end ∷ []) [] (got rx) }
-    {
-        Self::settle(end, rx);
     }
 
     fn settle(end: End<RowLaneIn<T>, RowLaneShut<T>>, rx: RowLaneOut<T>) -> Settled

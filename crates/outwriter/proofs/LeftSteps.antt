@@ -1,13 +1,12 @@
 -- What a core keeps where a sender is asked for the item that it gave last.
-use Rattle.std.proofs.Common.{◌≡◌, ℕ, inl, inr, refl, sym, ap, subst, ◌∙◌, Bool, true, false, List, [], ◌∷◌, ◌++◌, Option, Some, None, length, get_or, arith, true≢false}
-use Rattle.std.specs.Prelude.{◌≢◌, All, Contains, map, set}
+use Rattle.std.proofs.Common.{◌≡◌, ℕ, refl, sym, ap, subst, ◌∙◌, Bool, true, false, List, [], ◌∷◌, ◌++◌, Option, Some, None, length, get_or, arith, true≢false}
+use Rattle.std.specs.Prelude.{◌≢◌, ◌<◌, ◌≤◌, Contains, map, set}
 use Rattle.std.proofs.lemmas.List.{get_or-map, length-map}
-use Rattle.std.proofs.lemmas.List.Elements.{All-map}
 use Rattle.std.proofs.Math.Seq.{map-set_same}
 use Rattle.account.specs.declared.call.OutItem.{OutItem}
 use Rattle.account.specs.declared.call.OutItem.TheVariants.{Head, Message, Trailers, Left}
 use Rattle.lane.specs.Lawful.{last_of}
-use Rattle.callbox.specs.Counts.{is_left}
+use Rattle.callbox.specs.OutSides.{is_left}
 use Rattle.callbox.specs.declared.sender.Sender.{Sender}
 use Rattle.outwriter.specs.declared.out_core.OutCore.{OutCore}
 use Rattle.outwriter.specs.declared.outbound.Outbound.{Outbound}
@@ -15,8 +14,7 @@ use Rattle.outwriter.specs.declared.sending.Sending.{Sending}
 use Rattle.outwriter.specs.Calls.{TellFronts}
 use Rattle.outwriter.specs.CallState.{Kept}
 use Rattle.outwriter.specs.Cores.{LeadsStill, calls}
-use Rattle.outwriter.specs.LeftCalls.{WasLeft, WasNotLeft}
-use Rattle.outwriter.specs.Releases.{HasNone, IsAt}
+use Rattle.outwriter.specs.LeftCalls.{WasLeft, WasNotLeftAt}
 
 -- ---- the item
 
@@ -41,36 +39,38 @@ module _ {L In Out Shut : Type 0} (got : Out → List OutItem) where
       (ap (λ (items : List OutItem). (entry.0, items)) same ∙ ap (λ (call : ℕ × Sender L In Out Shut). (call.0, got call.1.rx)) is)
 
   -- what it gave is that of its stream
-  call-at : (senders : List (ℕ × Sender L In Out Shut)) (id place : ℕ) (entry : ℕ × Sender L In Out Shut) → IsAt id place senders → entry ≡ get_or senders place entry
-      → Contains (calls got senders) (id, got entry.1.rx)
-  call-at senders id place entry at is =
+  call-at : (senders : List (ℕ × Sender L In Out Shut)) (place : ℕ) (entry : ℕ × Sender L In Out Shut) → place < length senders → entry ≡ get_or senders place entry
+      → Contains (calls got senders) (entry.0, got entry.1.rx)
+  call-at senders place entry within is =
       let f : ℕ × Sender L In Out Shut → ℕ × List OutItem = λ call. (call.0, got call.1.rx) in (
         place,
-        omega (arith, at.0, length-map senders f),
-        get_or-map f senders place entry (id, got entry.1.rx) at.0
-            ∙ (ap f (sym is) ∙ ap (λ (n : ℕ). (n, got entry.1.rx)) (ap (λ (call : ℕ × Sender L In Out Shut). call.0) is ∙ at.1 entry)),
+        omega (arith, within, length-map senders f),
+        get_or-map f senders place entry (entry.0, got entry.1.rx) within ∙ ap f (sym is),
       )
 
   -- whether that ends with the word that its call was left
-  pub was-left : (senders : List (ℕ × Sender L In Out Shut)) (id place : ℕ) (entry : ℕ × Sender L In Out Shut) (new : Sender L In Out Shut) (answer : Bool) → IsAt id place senders
+  pub was-left : (senders : List (ℕ × Sender L In Out Shut)) (place : ℕ) (entry : ℕ × Sender L In Out Shut) (new : Sender L In Out Shut) (answer : Bool) → place < length senders
       → entry ≡ get_or senders place entry → got new.rx ≡ got entry.1.rx → answer ≡ is_left (last_of (got entry.1.rx)) → answer ≡ true
-      → WasLeft id (calls got (set senders place (entry.0, new)))
-  was-left senders id place entry new answer at is same answers says =
-      subst (λ (all : List (ℕ × List OutItem)). WasLeft id all) (sym (calls-same senders place entry new is same))
-      (got entry.1.rx, call-at senders id place entry at is, item-left (last_of (got entry.1.rx)) (sym answers ∙ says))
+      → WasLeft entry.0 (calls got (set senders place (entry.0, new)))
+  was-left senders place entry new answer within is same answers says =
+      subst (λ (all : List (ℕ × List OutItem)). WasLeft entry.0 all) (sym (calls-same senders place entry new is same))
+      (got entry.1.rx, call-at senders place entry within is, item-left (last_of (got entry.1.rx)) (sym answers ∙ says))
 
-  pub not-left : (senders : List (ℕ × Sender L In Out Shut)) (id place : ℕ) (entry : ℕ × Sender L In Out Shut) (new : Sender L In Out Shut) (answer : Bool) → IsAt id place senders
+  pub not-left : (senders : List (ℕ × Sender L In Out Shut)) (place : ℕ) (entry : ℕ × Sender L In Out Shut) (new : Sender L In Out Shut) (answer : Bool)
       → entry ≡ get_or senders place entry → got new.rx ≡ got entry.1.rx → answer ≡ is_left (last_of (got entry.1.rx)) → answer ≡ false
-      → WasNotLeft id (calls got (set senders place (entry.0, new)))
-  not-left senders id place entry new answer at is same answers denies =
-      subst (λ (all : List (ℕ × List OutItem)). WasNotLeft id all) (sym (calls-same senders place entry new is same))
-      (inr (got entry.1.rx, call-at senders id place entry at is, item-other (last_of (got entry.1.rx)) (sym answers ∙ denies)))
-
-  -- none of a stream is kept
-  pub none-left : (senders : List (ℕ × Sender L In Out Shut)) (id : ℕ) → HasNone id senders → WasNotLeft id (calls got senders)
-  none-left senders id none =
+      → WasNotLeftAt place (calls got (set senders place (entry.0, new)))
+  not-left senders place entry new answer is same answers denies =
+      subst (λ (all : List (ℕ × List OutItem)). WasNotLeftAt place all) (sym (calls-same senders place entry new is same)) (λ within d.
       let f : ℕ × Sender L In Out Shut → ℕ × List OutItem = λ call. (call.0, got call.1.rx) in
-      inl (All-map (λ (call : ℕ × List OutItem). call.0 ≢ id) f senders none)
+      let there : place < length senders = omega (arith, within, length-map senders f) in
+      let at : get_or (calls got senders) place d ≡ f entry = get_or-map f senders place entry d there ∙ ap f (sym is) in
+      subst (λ (call : ℕ × List OutItem). last_of call.1 ≢ Some Left) (sym at) (item-other (last_of (got entry.1.rx)) (sym answers ∙ denies)))
+
+  -- there is none at a place behind them
+  pub none-left : (senders : List (ℕ × Sender L In Out Shut)) (place : ℕ) → length senders ≤ place → WasNotLeftAt place (calls got senders)
+  none-left senders place past within d =
+      let f : ℕ × Sender L In Out Shut → ℕ × List OutItem = λ call. (call.0, got call.1.rx) in
+      absurd (omega (arith, past, within, length-map senders f))
 
   -- ---- the core
 

@@ -34,4 +34,5 @@ pub mod LawExamples
 pub mod CreditGranted
 pub mod Drained
 pub mod ReturnSteps
+pub mod GaveSteps
 pub mod LeftSteps

@@ -15,7 +15,7 @@ use Rattle.outwriter.specs.Cores.{Leads, LeadsOn, calls}
 use Rattle.outwriter.specs.Parts.{Mark, marks_on, spelled, IsPart, IsFrontOf}
 use Rattle.outwriter.specs.CallState.{IsEnded, IsExact, Serves, bytes_marks}
 use Rattle.outwriter.specs.OpenStreams.{OpenStreams, PlaceIs, Shown, shown, shows, with_place}
-use Rattle.outwriter.specs.Releases.{IsAt, MovedTo, Releases, HasEnded}
+use Rattle.outwriter.specs.Releases.{HasNoneBelow, IsAt, MovedTo, Releases, HasEnded}
 use Rattle.outwriter.specs.RunState.{HasOver, MirrorsOf, SameButOpen}
 use Rattle.outwriter.specs.States.{over_on, open_at}
 use Rattle.outwriter.specs.Steps.{Step, Returned}
@@ -373,11 +373,11 @@ module _ {L In Out Shut : Type 0} (got : Out → List OutItem) where
           call none
 
   pub released-entry : (old new : List (ℕ × Sender L In Out Shut)) (place id : ℕ) (entry : ℕ × Sender L In Out Shut) → IsAt id place old → entry ≡ get_or old place entry
-      → new ≡ swap_remove old place entry → Releases id entry.1 old new
-  released-entry old new place id entry at is removed =
+      → new ≡ swap_remove old place entry → HasNoneBelow place id old → Releases id entry.1 old new
+  released-entry old new place id entry at is removed first =
       let same : entry.0 ≡ id = ap (λ (e : ℕ × Sender L In Out Shut). e.0) is ∙ at.1 entry in
       let pair : entry ≡ (id, entry.1) = ap (λ n. (n, entry.1)) same in
-      (place, at.0, subst (λ (e : ℕ × Sender L In Out Shut). e ≡ get_or old place e) pair is, subst (λ (e : ℕ × Sender L In Out Shut). new ≡ swap_remove old place e) pair removed)
+      (place, at.0, subst (λ (e : ℕ × Sender L In Out Shut). e ≡ get_or old place e) pair is, subst (λ (e : ℕ × Sender L In Out Shut). new ≡ swap_remove old place e) pair removed, first)
 
   pub has-ended : (core : OutCore L In Out Shut) (id : ℕ) → (open_at core.sending.outbound.states) id ≡ None → HasEnded got id core
   has-ended core id none run l alive there served = let k = l.keeps alive in by k.mirrors.stand.over (k.serves.stays id served there none)

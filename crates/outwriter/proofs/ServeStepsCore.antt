@@ -61,7 +61,7 @@ module _ {L In Out Shut : Type 0} where
   fronts-then got old mid new f g run all = g run (f run all)
 
   pub gives-then : {Name : Type 0} (got : Out → List OutItem) (name : Out → Name) (old mid new : Sending L In Out Shut) → Gives got name old mid → Gives got name mid new → Gives got name old new
-  gives-then got name old mid new a b = (fronts-then got old mid new a.0 b.0, b.1 ∙ a.1)
+  gives-then got name old mid new a b = (fronts-then got old mid new a.0 b.0, b.1 ∙ a.1, λ id gave. b.2 id (a.2 id gave))
 
   -- no frame came, and then this one did, if any
   pub picks-then : (got : Out → List OutItem) (old mid new : Sending L In Out Shut) (o : Option Frame) → Picks got None old mid → Picks got o mid new → Picks got o old new

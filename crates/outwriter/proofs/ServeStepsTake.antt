@@ -13,7 +13,7 @@ use Rattle.outwriter.specs.OpenStreams.{Shown, shown}
 use Rattle.outwriter.specs.declared.stream.OpenStream.{OpenStream}
 use Rattle.outwriter.specs.declared.stream.Polled.{Polled}
 use Rattle.outwriter.specs.declared.stream.Polled.TheVariants as polled
-use Rattle.outwriter.specs.Cores.{calls, lanes, lane_and_past}
+use Rattle.outwriter.specs.Cores.{calls, lanes}
 use Rattle.outwriter.specs.StreamLooks.{with_item, one_more, TakesHand, TakesAt, SameAhead, aheads}
 use Rattle.outwriter.specs.NextOn.{GetsOne}
 use Rattle.outwriter.specs.Polls.{Polls, block_item, GotNone, to_write}
@@ -61,12 +61,6 @@ module _ {L In Out Shut : Type 0} where
   ahead-elsewhere ahead senders place call k ne =
       ap (λ (l : List (List OutItem)). get_or l k []) (map-set (λ (c : ℕ × Sender L In Out Shut). ahead c.1.rx) senders place call)
       ∙ get_or-set_other (map (λ (c : ℕ × Sender L In Out Shut). ahead c.1.rx) senders) place k (ahead call.1.rx) [] ne
-
--- an end stays of the same lane, with the same calls before
-pub end-same : {Out Name : Type 0} (name : Out → Name) (past : Out → List (List OutItem)) (new old : Out) → name new ≡ name old → past new ≡ past old
-    → lane_and_past name past new ≡ lane_and_past name past old
-end-same {Out} {Name} name past new old same_name same_past =
-    ap (λ (n : Name). (n, past new)) same_name ∙ ap (λ (p : List (List OutItem)). (name old, p)) same_past
 
 module _ {L In Out Shut Name : Type 0} where
   -- the senders are ends of the same lanes

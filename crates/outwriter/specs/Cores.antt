@@ -35,10 +35,6 @@ abbrev pub AreStuck : Outbound → OpenStreams → List (List OutItem) → Type 
 AreStuck o streams aheads = (id : ℕ) (stream : OpenStream) → streams id ≡ Some stream
     → IsStuck (room o.states.windows id) stream.in_hand (get_or aheads stream.place [])
 
--- what stays of a sender's end while its call is sent: the lane of which it is one, and what was got of the calls before
-abbrev pub lane_and_past : {Out Name : Type 0} → (Out → Name) → (Out → List (List OutItem)) → Out → Name × List (List OutItem)
-lane_and_past name past rx = (name rx, past rx)
-
 module _ {L In Out Shut : Type 0} where
   -- what is kept of a stream, if it is open
   abbrev pub open_stream : OutCore L In Out Shut → ℕ → Option OpenStream

@@ -1,5 +1,5 @@
 -- Calls that were left without trailers, by what their senders gave.
-use Rattle.std.specs.Prelude.{◌≡◌, ◌≢◌, ◌⊎◌, ℕ, All, Contains, List, Some}
+use Rattle.std.specs.Prelude.{◌≡◌, ◌≢◌, ◌<◌, ℕ, Contains, List, Some, get_or, length}
 use Rattle.account.specs.declared.call.OutItem.{OutItem}
 use Rattle.account.specs.declared.call.OutItem.TheVariants.{Left}
 use Rattle.lane.specs.Lawful.{last_of}
@@ -8,7 +8,10 @@ use Rattle.lane.specs.Lawful.{last_of}
 abbrev pub WasLeft : ℕ → List (ℕ × List OutItem) → Type 0
 WasLeft id calls = (items : List OutItem) × Contains calls (id, items) × (last_of items ≡ Some Left)
 
--- it didn't, or there is none of this stream
-abbrev pub WasNotLeft : ℕ → List (ℕ × List OutItem) → Type 0
-WasNotLeft id calls = All (λ call. call.0 ≢ id) calls
-    ⊎ ((items : List OutItem) × Contains calls (id, items) × (last_of items ≢ Some Left))
+-- among what that of this stream gave is that its call was left
+abbrev pub GaveLeft : ℕ → List (ℕ × List OutItem) → Type 0
+GaveLeft id calls = (items : List OutItem) × Contains calls (id, items) × Contains items Left
+
+-- that of the call at this place didn't give it last, or there is none
+abbrev pub WasNotLeftAt : ℕ → List (ℕ × List OutItem) → Type 0
+WasNotLeftAt place calls = place < length calls → (d : ℕ × List OutItem) → last_of (get_or calls place d).1 ≢ Some Left

@@ -38,9 +38,9 @@ module _ {L In Out Shut : Type 0} where
   MovedTo place senders streams left = ((moved : ℕ × Sender L In Out Shut) × (moved ≡ get_or senders place moved) × PlaceIs moved.0 (length senders) place streams left)
       ⊎ ((left ≡ streams) × (place < length senders → ⊥))
 
-  -- the sender of a stream is taken out, and the last takes its place
+  -- the first sender of a stream is taken out, and the last takes its place
   abbrev pub Releases : ℕ → Sender L In Out Shut → List (ℕ × Sender L In Out Shut) → List (ℕ × Sender L In Out Shut) → Type 0
-  Releases id sender old new = (place : ℕ) × (place < length old) × ((id, sender) ≡ get_or old place (id, sender)) × (new ≡ swap_remove old place (id, sender))
+  Releases id sender old new = (place : ℕ) × (place < length old) × ((id, sender) ≡ get_or old place (id, sender)) × (new ≡ swap_remove old place (id, sender)) × HasNoneBelow place id old
 
   -- the end of a call's stream was written, or a Reset of it was taken
   abbrev pub HasEnded : (Out → List OutItem) → ℕ → OutCore L In Out Shut → Type 0

@@ -17,6 +17,7 @@ use Rattle.outwriter.specs.declared.stream.Looked.TheVariants as looked
 use Rattle.outwriter.specs.Calls.{TellFronts}
 use Rattle.outwriter.specs.Frames.{IsSound}
 use Rattle.outwriter.specs.Cores.{calls, lanes, IsStuck, AreStuck, IsQuiet}
+use Rattle.outwriter.specs.LeftCalls.{GaveLeft}
 use Rattle.outwriter.specs.Parts.{Mark}
 use Rattle.outwriter.specs.Polls.{block_item, GotNone}
 use Rattle.outwriter.specs.CallState.{Serves, Heeds}
@@ -84,9 +85,13 @@ module _ {L In Out Shut : Type 0} where
   abbrev pub KeepsFronts : (Out → List OutItem) → Sending L In Out Shut → Sending L In Out Shut → Type 0
   KeepsFronts got old new = (run : List Step) → TellFronts run (calls got old.senders.items) → TellFronts run (calls got new.senders.items)
 
-  -- what the senders gave has what was told as a front still, and each sender is an end of the same lane
+  -- of whom a sender gave that its call was left, one did still
+  abbrev pub KeepsLeft : (Out → List OutItem) → Sending L In Out Shut → Sending L In Out Shut → Type 0
+  KeepsLeft got old new = (id : ℕ) → GaveLeft id (calls got old.senders.items) → GaveLeft id (calls got new.senders.items)
+
+  -- what the senders gave has what was told as a front still, each sender is an end of the same lane, and none forgets that its call was left
   abbrev pub Gives : {Name : Type 0} → (Out → List OutItem) → (Out → Name) → Sending L In Out Shut → Sending L In Out Shut → Type 0
-  Gives got name old new = KeepsFronts got old new × (lanes name new.senders.items ≡ lanes name old.senders.items)
+  Gives got name old new = KeepsFronts got old new × (lanes name new.senders.items ≡ lanes name old.senders.items) × KeepsLeft got old new
 
   -- A frame is sound, might be written, and is the next step. Where there is none, what is due and what is owed is the same, and what is kept follows
   -- from the run still.

@@ -1,6 +1,6 @@
 //! Which calls were left without trailers, as their senders say.
 
-ghost use Rattle.std.specs.Prelude.{◌≡◌, true, false};
+ghost use Rattle.std.specs.Prelude.{◌≡◌, length, IfNone, IfSome};
 
 use crate::out_core::OutCore;
 use account::OutItem;
@@ -8,34 +8,40 @@ use h2frame::StreamId;
 use lane::Lane;
 
 impl<L: Lane<Item = OutItem>> OutCore<L> {
-    ghost use Rattle.outwriter.specs.Cores.{LeadsStill, calls, lane_and_past, lanes};
-    ghost use Rattle.outwriter.specs.LeftCalls.{WasLeft, WasNotLeft};
+    ghost use Rattle.outwriter.specs.Cores.{LeadsStill, calls, lanes};
+    ghost use Rattle.outwriter.specs.LeftCalls.{WasLeft, WasNotLeftAt};
 
-    /// Whether the sender of this stream's call gave last that the call was left: so all else that was given of it
-    /// was taken. It takes no memory, and looks through the senders.
-    pub fn was_left(&mut self, id: StreamId) -> bool
-        ensures left { result ≡ true
-            → WasLeft id (calls L.got self.new.sending.senders.items) }
-        ensures not_left { result ≡ false
-            → WasNotLeft id (calls L.got self.new.sending.senders.items) }
+    /// How many senders are kept.
+    pub fn calls(&self) -> usize
+        ensures { result ≡ length self.now.sending.senders.items }
+    {
+        self.sending.senders.len()
+    }
+
+    /// The stream of the call whose sender stands at this place, where that gave last that the call was left: so all
+    /// else that was given of it was taken. It takes no memory.
+    pub fn left_at(&mut self, place: usize) -> Option<StreamId>
+        ensures left { IfSome result (λ id. WasLeft id
+            (calls L.got self.new.sending.senders.items)) }
+        ensures not_left { IfNone result (WasNotLeftAt place
+            (calls L.got self.new.sending.senders.items)) }
 
         // Nothing more is got of a sender, so whatever run led to the core leads to it still.
         ensures calls { calls L.got self.new.sending.senders.items
             ≡ calls L.got self.old.sending.senders.items }
-        ensures senders { lanes (lane_and_past L.out_name L.past_out) self.new.sending.senders.items
-            ≡ lanes (lane_and_past L.out_name L.past_out) self.old.sending.senders.items }
+        ensures senders { lanes L.out_name self.new.sending.senders.items
+            ≡ lanes L.out_name self.old.sending.senders.items }
         ensures leads { LeadsStill L.got self.old self.new }
         ensures rest { self.new ≡ record
             self.old {
               sending = record self.old.sending { senders = self.new.sending.senders };
             } }
     {
-        let Some(place) = self.sending.place_of(id) else {
-            return false;
-        };
-        match self.sending.senders.get_mut(place) {
-            Some(call) => call.1.was_left(),
-            None => false,
+        let call = self.sending.senders.get_mut(place)?;
+        if call.1.was_left() {
+            Some(call.0)
+        } else {
+            None
         }
     }
 }

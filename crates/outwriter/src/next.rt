@@ -3,7 +3,7 @@
 //! An open stream that isn't among those that take turns is looked at once in a while, one of them with each frame. A
 //! stream that a window holds isn't among them, so it costs the others that look and no more.
 
-ghost use Rattle.std.specs.Prelude.{◌≡◌, ◌<◌, List, true, false, None, Err, IfOk, IfErr, IfSome, IfNone};
+ghost use Rattle.std.specs.Prelude.{◌≡◌, ◌<◌, ℕ, List, true, false, None, Err, IfOk, IfErr, IfSome, IfNone};
 
 use crate::control::OutFault;
 use crate::out_core::OutCore;
@@ -33,7 +33,8 @@ impl<L: Lane<Item = OutItem>> OutCore<L> {
     ghost use Rattle.outwriter.specs.declared.next.Next.TheVariants as next_kind;
     ghost use Rattle.h2frame.specs.declared.frame.Frame.{Frame as FrameOf};
     ghost use Rattle.outwriter.specs.Frames.{IsSound};
-    ghost use Rattle.outwriter.specs.Cores.{Leads, LeadsNext, RestsNext, lanes, lane_and_past};
+    ghost use Rattle.outwriter.specs.Cores.{Leads, LeadsNext, RestsNext, calls, lanes};
+    ghost use Rattle.outwriter.specs.LeftCalls.{GaveLeft};
     ghost use Rattle.outwriter.specs.Polls.{coming};
     ghost use Rattle.outwriter.specs.Steps.{Step};
 
@@ -52,9 +53,13 @@ impl<L: Lane<Item = OutItem>> OutCore<L> {
             × (self.new.is_dead ≡ true)) }
         ensures over { IfOk result (λ next. next ≡ next_kind.Over → self.new.closed ≡ true) }
 
-        // Each sender stays at its place, an end of the same lane, and what was got of the calls before its own stays too.
-        ensures senders { lanes (lane_and_past L.out_name L.past_out) self.new.sending.senders.items
-            ≡ lanes (lane_and_past L.out_name L.past_out) self.old.sending.senders.items }
+        // Each sender stays at its place, an end of the same lane.
+        ensures senders { lanes L.out_name self.new.sending.senders.items
+            ≡ lanes L.out_name self.old.sending.senders.items }
+
+        // None forgets that its call was left.
+        ensures left { (id : ℕ) → GaveLeft id (calls L.got self.old.sending.senders.items)
+            → GaveLeft id (calls L.got self.new.sending.senders.items) }
 
         // Where none comes, all was written that could be, what was found ahead of the senders included. It is over exactly where a Close was
         // taken: that no more comes from the peer is none.
@@ -80,7 +85,6 @@ impl<L: Lane<Item = OutItem>> OutCore<L> {
 
 impl<L: Lane<Item = OutItem>> Sending<L> {
     ghost use Rattle.outwriter.specs.Frames.{IsSound};
-    ghost use Rattle.outwriter.specs.Cores.{lane_and_past};
     ghost use Rattle.outwriter.specs.Polls.{coming};
     ghost use Rattle.outwriter.specs.StreamLooks.{AllStuck, GetsQuiet, GetsStuck, Gives, HoldsOn, LooksAt, Picks, frame_in};
     ghost use Rattle.outwriter.specs.RunState.{IsSpent, Progresses, IsBetween};
@@ -91,7 +95,7 @@ impl<L: Lane<Item = OutItem>> Sending<L> {
         ensures frame { IfOk result (λ o. Progresses o self.old.outbound self.new.outbound) }
         ensures spent { IfOk result (λ o. IfNone o (IsSpent self.new.outbound)) }
         ensures served { IfOk result (λ o. HoldsOn L.got o self.old self.new) }
-        ensures gives { Gives L.got (lane_and_past L.out_name L.past_out) self.old self.new }
+        ensures gives { Gives L.got L.out_name self.old self.new }
         ensures quiet { IfOk result
             (λ o. IfNone o (GetsQuiet L.got (coming L.got L.ahead) self.old self.new)) }
     {
@@ -111,7 +115,7 @@ impl<L: Lane<Item = OutItem>> Sending<L> {
     fn stream_frame(&mut self) -> Result<Option<Frame>, AllocError>
         requires { IsBetween self.old.outbound }
         ensures picks { IfOk result (λ o. Picks L.got o self.old self.new) }
-        ensures gives { Gives L.got (lane_and_past L.out_name L.past_out) self.old self.new }
+        ensures gives { Gives L.got L.out_name self.old self.new }
         ensures quiet { IfOk result
             (λ o. IfNone o (AllStuck L.got (coming L.got L.ahead) self.old self.new)) }
     {
@@ -129,7 +133,7 @@ impl<L: Lane<Item = OutItem>> Sending<L> {
     fn frame_out_of_turn(&mut self) -> Result<Option<Frame>, AllocError>
         requires { IsBetween self.old.outbound }
         ensures picks { IfOk result (λ o. Picks L.got o self.old self.new) }
-        ensures gives { Gives L.got (lane_and_past L.out_name L.past_out) self.old self.new }
+        ensures gives { Gives L.got L.out_name self.old self.new }
     {
         if self.ready.len() >= self.senders.len() {
             return Ok(None);
@@ -151,7 +155,7 @@ impl<L: Lane<Item = OutItem>> Sending<L> {
     fn frame_in_turn(&mut self) -> Result<Option<Frame>, AllocError>
         requires { IsBetween self.old.outbound }
         ensures picks { IfOk result (λ o. Picks L.got o self.old self.new) }
-        ensures gives { Gives L.got (lane_and_past L.out_name L.past_out) self.old self.new }
+        ensures gives { Gives L.got L.out_name self.old self.new }
     {
         for _ in 0..self.ready.len() {
             let Some(id) = self.ready.pop_front() else {
@@ -170,7 +174,7 @@ impl<L: Lane<Item = OutItem>> Sending<L> {
     fn frame_of_any(&mut self) -> Result<Option<Frame>, AllocError>
         requires { IsBetween self.old.outbound }
         ensures picks { IfOk result (λ o. Picks L.got o self.old self.new) }
-        ensures gives { Gives L.got (lane_and_past L.out_name L.past_out) self.old self.new }
+        ensures gives { Gives L.got L.out_name self.old self.new }
         ensures quiet { IfOk result
             (λ o. IfNone o (AllStuck L.got (coming L.got L.ahead) self.old self.new)) }
     {
@@ -190,7 +194,7 @@ impl<L: Lane<Item = OutItem>> Sending<L> {
     fn frame_of(&mut self, id: StreamId) -> Result<Option<Frame>, AllocError>
         requires { IsBetween self.old.outbound }
         ensures picks { IfOk result (λ o. Picks L.got o self.old self.new) }
-        ensures gives { Gives L.got (lane_and_past L.out_name L.past_out) self.old self.new }
+        ensures gives { Gives L.got L.out_name self.old self.new }
         ensures quiet { IfOk result
             (λ o. IfNone o (GetsStuck L.got (coming L.got L.ahead) id self.old self.new)) }
     {
@@ -206,7 +210,7 @@ impl<L: Lane<Item = OutItem>> Sending<L> {
     fn look(&mut self, id: StreamId) -> Result<Option<Frame>, AllocError>
         requires { IsBetween self.old.outbound }
         ensures picks { IfOk result (λ o. Picks L.got o self.old self.new) }
-        ensures gives { Gives L.got (lane_and_past L.out_name L.past_out) self.old self.new }
+        ensures gives { Gives L.got L.out_name self.old self.new }
         ensures quiet { IfOk result
             (λ o. IfNone o (GetsStuck L.got (coming L.got L.ahead) id self.old self.new)) }
     {
@@ -224,7 +228,7 @@ impl<L: Lane<Item = OutItem>> Sending<L> {
     fn look_once(&mut self, id: StreamId) -> Result<Looked, AllocError>
         requires { IsBetween self.old.outbound }
         ensures picks { IfOk result (λ l. Picks L.got (frame_in l) self.old self.new) }
-        ensures gives { Gives L.got (lane_and_past L.out_name L.past_out) self.old self.new }
+        ensures gives { Gives L.got L.out_name self.old self.new }
         ensures looks { IfOk result
             (λ l. LooksAt L.got (coming L.got L.ahead) id l self.old self.new) }
     {

@@ -241,10 +241,8 @@ impl<L: Lane<Item = OutItem>> OutCore<L> {
     }
 
     /// Owes n bytes more of credit, which a WINDOW_UPDATE will tell: on a stream, or on the connection where it is 0. At
-    /// most 2^31 - 1 are owed at once. Nothing changes of a dead core.
+    /// most 2^31 - 1 are owed at once. Nothing changes of a dead core, nor where credit doesn't count on the stream.
     pub fn grant(&mut self, id: StreamId, n: u32)
-        // So none is lost that was granted.
-        requires counts { takes_credit self.old id ≡ true }
         // That it is granted is the next step of the run, by which what is owed is counted.
         ensures leads { LeadsOn L.got (Granted id n) self.old self.new }
         ensures dead_stays { self.old.is_dead ≡ true → self.new ≡ self.old }

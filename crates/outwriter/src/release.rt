@@ -27,7 +27,7 @@ impl<L: Lane<Item = OutItem>> OutCore<L> {
         ensures leads { IfSome result
             (λ sender. LeadsOn L.got (Returned id (L.got sender.rx)) self.old self.new) }
 
-        // It is one of this stream's that were kept, and the last takes its place.
+        // It is the first of this stream's that are kept, and the last takes its place.
         ensures releases { IfSome result
             (λ sender. Releases id sender self.old.sending.senders.items
             self.new.sending.senders.items) }
@@ -64,7 +64,7 @@ impl<L: Lane<Item = OutItem>> OutCore<L> {
 }
 
 impl<L: Lane<Item = OutItem>> Sending<L> {
-    ghost use Rattle.outwriter.specs.Releases.{HasNone, IsAt, IsWhole};
+    ghost use Rattle.outwriter.specs.Releases.{HasNone, HasNoneBelow, IsAt, IsWhole};
 
     /// Whether a header block of this stream is unfinished.
     fn is_in_block(&self, id: StreamId) -> bool
@@ -80,6 +80,7 @@ impl<L: Lane<Item = OutItem>> Sending<L> {
     /// Where the first sender of this stream stands.
     pub(crate) fn place_of(&self, id: StreamId) -> Option<usize>
         ensures some { IfSome result (λ place. IsAt id place self.now.senders.items) }
+        ensures first { IfSome result (λ place. HasNoneBelow place id self.now.senders.items) }
         ensures none { IfNone result (HasNone id self.now.senders.items) }
     {
         for place in 0..self.senders.len() {

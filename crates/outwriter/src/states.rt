@@ -10,7 +10,7 @@ ghost use Rattle.flow.specs.WindowHistory.{Step as WindowStep};
 ghost use Rattle.flow.specs.Windows.{CreditFault, Meets, room};
 ghost use Rattle.outwriter.specs.States.{nothing_known, open_at, is_reset, pays, state_on, amount_of, by_reset, more, is_heard, can_write, balance_after as balance_after_of, fits_with, room_in, steps_of, Changes, CreditsEntry, CreditsStream, IsAfter, KeepsAmount, PutsAfter, SetsBalance, Hears, Opens, BecomesOpen, Grants, Moves, Resets, SameButWindows, SameEnds, SameOver, SameOwed, SameOpen, StandAs, SetsEnd, Edits, TakesAll, Adds, AllFit, IsSettledBut, IsSettledFrom, TakesAt, TakesLast, opened_of, opening};
 ghost use Rattle.outwriter.specs.Resizes.{FitsOn};
-ghost use Rattle.outwriter.specs.Cores.{calls, lanes, lane_and_past};
+ghost use Rattle.outwriter.specs.Cores.{calls, lanes};
 ghost use Rattle.outwriter.specs.Data.{BeginsOnStream, LooksAtStream};
 ghost use Rattle.outwriter.specs.NextOn.{EndsStream, GetsOne, NextAtEntry, NextOnStream, TakesNext, TakesUpStream};
 ghost use Rattle.outwriter.specs.Polls.{coming};
@@ -98,8 +98,8 @@ impl Stream {
             (NextOnStream L.got (coming L.got L.ahead) id self.old self.new window.old
             window.new senders.old.items senders.new.items encoder.old encoder.new) }
         ensures got { GetsOne (calls L.got senders.old.items) (calls L.got senders.new.items) }
-        ensures senders { lanes (lane_and_past L.out_name L.past_out) senders.new.items
-            ≡ lanes (lane_and_past L.out_name L.past_out) senders.old.items }
+        ensures senders { lanes L.out_name senders.new.items
+            ≡ lanes L.out_name senders.old.items }
     {
         let place = match self.look(id, window)? {
             Hand::Shut => return Ok(Found::Nothing),
@@ -479,8 +479,8 @@ impl StreamStates {
             (TakesNext L.got (coming L.got L.ahead) id self.old self.new senders.old.items
             senders.new.items encoder.old encoder.new) }
         ensures got { GetsOne (calls L.got senders.old.items) (calls L.got senders.new.items) }
-        ensures senders { lanes (lane_and_past L.out_name L.past_out) senders.new.items
-            ≡ lanes (lane_and_past L.out_name L.past_out) senders.old.items }
+        ensures senders { lanes L.out_name senders.new.items
+            ≡ lanes L.out_name senders.old.items }
     {
         next_at(&mut self.streams, id, &mut self.window, senders, encoder)
     }
@@ -618,8 +618,8 @@ fn next_at<L: Lane<Item = OutItem>>(
         (NextAtEntry L.got (coming L.got L.ahead) id streams.old.entries streams.new.entries
         window.old window.new senders.old.items senders.new.items encoder.old encoder.new) }
     ensures got { GetsOne (calls L.got senders.old.items) (calls L.got senders.new.items) }
-    ensures senders { lanes (lane_and_past L.out_name L.past_out) senders.new.items
-        ≡ lanes (lane_and_past L.out_name L.past_out) senders.old.items }
+    ensures senders { lanes L.out_name senders.new.items
+        ≡ lanes L.out_name senders.old.items }
 {
     match streams.get_mut(&id) {
         Some(stream) => stream.next(id, window, senders, encoder),

@@ -3,7 +3,7 @@
 ghost use Rattle.std.specs.Prelude.{◌≡◌, [], ◌∷◌, ◌++◌, min, None, IfOk, OnErr};
 ghost use Rattle.hpack_codec.specs.Codec.{Writes};
 ghost use Rattle.outwriter.specs.Polls.{Polls, coming};
-ghost use Rattle.outwriter.specs.Cores.{calls, lanes, lane_and_past};
+ghost use Rattle.outwriter.specs.Cores.{calls, lanes};
 ghost use Rattle.outwriter.specs.StreamLooks.{aheads, TakesHand, SameElsewhere};
 ghost use Rattle.outwriter.specs.Data.{CutsData, LooksAtOpen, Spends};
 ghost use Rattle.outwriter.specs.States.{room_in};
@@ -147,8 +147,8 @@ pub(crate) fn poll_at<L: Lane<Item = OutItem>>(
         (aheads (coming L.got L.ahead) senders.new.items) encoder.old encoder.new result }
     ensures ahead { SameElsewhere place (aheads (coming L.got L.ahead) senders.old.items)
         (aheads (coming L.got L.ahead) senders.new.items) }
-    ensures senders { lanes (lane_and_past L.out_name L.past_out) senders.new.items
-        ≡ lanes (lane_and_past L.out_name L.past_out) senders.old.items }
+    ensures senders { lanes L.out_name senders.new.items
+        ≡ lanes L.out_name senders.old.items }
 {
     match senders.get_mut(place) {
         Some(call) => poll(&mut call.1, encoder),
@@ -163,7 +163,6 @@ pub(crate) fn poll<L: Lane<Item = OutItem>>(
     encoder: &mut Encoder,
 ) -> Result<Polled, AllocError>
     ensures name { L.out_name sender.new.rx ≡ L.out_name sender.old.rx }
-    ensures past { L.past_out sender.new.rx ≡ L.past_out sender.old.rx }
     ensures id { sender.new.id ≡ sender.old.id }
     ensures ok { IfOk result
         (Polls (L.got sender.old.rx) (L.got sender.new.rx)

@@ -8,11 +8,12 @@ use std::rt::Files;
 /// What stands between what a row gives and what it wants.
 const ARROW: &str = "->";
 
-/// What a row gives: its text, and the words of it.
+/// What a row gives, its text and the words of it, and the answer that it wants.
 #[derive(Clone, Copy)]
 pub struct Given<'a> {
     pub text: &'a str,
     pub words: &'a [&'a str],
+    pub wanted: &'a str,
 }
 
 /// What the rows of a file are tried on.
@@ -22,14 +23,6 @@ pub trait Subject {
 
     /// Writes the answer to what a row gives, in the words of its file, behind nothing.
     fn answer(&mut self, alloc: Global, given: Given<'_>, answer: &mut String) -> Result<()>;
-}
-
-/// A line of a file.
-enum Line<'a> {
-    /// Nothing, or a comment.
-    Blank,
-    Heading,
-    Row { given: &'a str, wanted: &'a str },
 }
 
 /// The line without its comment: all of one that begins with `#`, or what stands behind ` # `.
@@ -43,91 +36,29 @@ fn without_comment(line: &str) -> &str {
     }
 }
 
-fn read_line(line: &str) -> Result<Line<'_>> {
-    let line = without_comment(line);
-    if line.is_empty() {
-        return Ok(Line::Blank);
-    }
-    if line.starts_with('[') {
-        return Ok(Line::Heading);
-    }
-    let (given, wanted) = line.split_once(ARROW).context("the row has no arrow")?;
-    Ok(Line::Row {
-        given: given.trim(),
-        wanted: wanted.trim(),
-    })
-}
-
-/// The rows of a file that were tried.
-#[derive(Clone, Copy)]
-struct Tried {
-    rows: u32,
-    differing: u32,
-}
-
 /// Tries a row: whether its answer is the wanted one, which is printed if it isn't.
-fn holds<S: Subject>(
-    rt: &(impl Print + AllocGlobal),
-    subject: &mut S,
-    given: &str,
-    wanted: &str,
-) -> Result<bool> {
-    let words: Vec<&str> = given.split_whitespace().collect(rt.alloc())?;
-    let row = Given {
-        text: given,
-        words: words.as_slice(),
+fn holds<S: Subject>(rt: &(impl Print + AllocGlobal), subject: &mut S, row: &str) -> Result<bool> {
+    let (text, wanted) = row.split_once(ARROW).context("the row has no arrow")?;
+    let (text, wanted) = (text.trim(), wanted.trim());
+    let words: Vec<&str> = text.split_whitespace().collect(rt.alloc())?;
+    let words = words.as_slice();
+    let given = Given {
+        text,
+        words,
+        wanted,
     };
     let mut answer = String::new(rt.alloc());
-    subject.answer(rt.alloc(), row, &mut answer)?;
-    let holds = answer.as_str() == wanted;
-    if !holds {
-        println!(rt; "{given}: wanted {wanted}, got {answer}")?;
+    subject.answer(rt.alloc(), given, &mut answer)?;
+    if answer.as_str() == wanted {
+        return Ok(true);
     }
-    Ok(holds)
+    tell(rt, text, wanted, answer.as_str())?;
+    Ok(false)
 }
 
-/// Tries a line: what was tried with it.
-fn try_line<S: Subject>(
-    rt: &(impl Print + AllocGlobal),
-    subject: &mut S,
-    line: &str,
-    tried: Tried,
-) -> Result<Tried> {
-    match read_line(line)? {
-        Line::Blank => Ok(tried),
-        Line::Heading => {
-            subject.restart(rt.alloc());
-            Ok(tried)
-        }
-        Line::Row { given, wanted } => {
-            let differs = !holds(rt, subject, given, wanted)?;
-            Ok(Tried {
-                rows: tried.rows.saturating_add(1),
-                differing: tried.differing.saturating_add(u32::from(differs)),
-            })
-        }
-    }
-}
-
-fn try_lines<S: Subject>(
-    rt: &(impl Print + AllocGlobal),
-    name: &str,
-    text: &str,
-    subject: &mut S,
-) -> Result<Tried> {
-    let mut tried = Tried {
-        rows: 0,
-        differing: 0,
-    };
-    for (place, line) in text.lines().enumerate() {
-        let before = tried.differing;
-        let number = place.saturating_add(1);
-        tried = try_line(rt, subject, line, tried).context(format_args!("{name}, line {number}"))?;
-        if tried.differing != before {
-            println!(rt; "  in {name}, line {number}")?;
-        }
-    }
-    Ok(tried)
+fn tell(rt: &impl Print, text: &str, wanted: &str, answer: &str) -> Result<()> {
+    println!(rt; "{text}: wanted {wanted}, got {answer}")?;
+    Ok(())
 }
 
 /// Tries the rows of a file, prints those whose answer isn't the wanted one and how many rows there are, and answers how
@@ -141,9 +72,21 @@ pub fn try_file<S: Subject>(
     name: &str,
     subject: &mut S,
 ) -> Result<u32> {
-    let text = fs::read_to_string(rt, name).context(format_args!("{name}"))?;
-    let tried = try_lines(rt, name, text.as_str(), subject)?;
-    let rows = tried.rows;
+    let file = fs::read_to_string(rt, name).context(format_args!("{name}"))?;
+    let (mut rows, mut differing) = (0u32, 0u32);
+    for (place, line) in file.as_str().lines().enumerate() {
+        let number = place.saturating_add(1);
+        let row = without_comment(line);
+        if row.starts_with('[') {
+            subject.restart(rt.alloc());
+        } else if !row.is_empty() {
+            rows = rows.saturating_add(1);
+            if !holds(rt, subject, row).context(format_args!("{name}, line {number}"))? {
+                differing = differing.saturating_add(1);
+                println!(rt; "  in {name}, line {number}")?;
+            }
+        }
+    }
     println!(rt; "{name}: {rows} rows")?;
-    Ok(tried.differing)
+    Ok(differing)
 }

@@ -1,10 +1,12 @@
-//! Connections in one thread, over what the server's threads run: the reading side of `slots`, the writing side of `slotwriter`, the
-//! calls of `callrun`. Each step of the reader, of the slots' workers and of the writer comes in an order that a row gives, or that
-//! follows from a number. `data/README.md` says how rows are written.
+//! Connections in one thread, over what the server's threads run: `readerloop` decides what the
+//! reader does, `writerloop` what the writer does, and each worker answers its calls by `callrun`,
+//! or by the whole of `callworker`. Each step of the reader, of the workers and of the writer comes
+//! in an order that a row gives, or that follows from a number. `data/README.md` says how rows are
+//! written.
 //!
-//! To be read in this order: `driver`, the connection with its steps; `worker`, `work` and `running`, who answers the calls of a slot;
-//! `seats`, `outbox`, `writing`, `credit` and `pipe`, the other parts; `schedule` and `runs`, the orders; `told`, what a peer reads of
-//! what was written; `digits` and `subject`, the rows.
+//! To be read in this order: `serial`, what a connection has; `reader`, `worker` and `writer`, its
+//! steps; `pipe`, what it writes to; `runs`, the orders; `told`, what a peer reads of what was
+//! written; `digits`, `words` and `subject`, the rows.
 #![tactic(auto)]
 
 use anyhow::{Result, ensure};
@@ -14,20 +16,16 @@ use handlers::{
 };
 use rows::try_file;
 
-mod credit;
 mod digits;
-mod driver;
-mod outbox;
 mod pipe;
-mod running;
+mod reader;
 mod runs;
-mod schedule;
-mod seats;
+mod serial;
 mod subject;
 mod told;
-mod work;
+mod words;
 mod worker;
-mod writing;
+mod writer;
 
 fn main(rt: HostRuntime) -> Result<()> {
     let alloc = rt.alloc();

@@ -1,7 +1,12 @@
 //! What a connection is written to.
 
+use anyhow::Result;
+use std::alloc::Global;
 use std::io;
 use std::io::Write;
+
+/// How many bytes most runs write at most.
+const WRITTEN: usize = 65_536;
 
 /// Keeps what is written, so many bytes a call at most, and fails from one of the calls on.
 #[derive(Drop)]
@@ -16,13 +21,13 @@ pub struct Pipe {
 }
 
 impl Pipe {
-    pub fn new(bytes: Vec<u8>, most: usize, fails_at: Option<u64>) -> Pipe {
-        Pipe {
-            bytes,
+    pub fn new(alloc: Global, most: usize, fails_at: Option<u64>) -> Result<Pipe> {
+        Ok(Pipe {
+            bytes: Vec::with_capacity(alloc, WRITTEN)?,
             most,
             fails_at,
             calls: 0,
-        }
+        })
     }
 }
 

@@ -1,157 +1,200 @@
-//! The worker of a slot, which has turns.
+//! The turns of the workers. A worker waits in none of them; else it does what the thread of
+//! `callworker::Worker` does.
 
-ghost use Rattle.std.specs.Prelude.{◌≡◌, IsSomeAnd};
-ghost use Rattle.std.specs.Option.{IsSomeAnd-prop};
-ghost use Rattle.lane.specs.Ring as ring;
-ghost use Rattle.lane.specs.RingLane.{LaneName_set, out_name, ring_of};
-ghost use Rattle.serial_rows.specs.Works.{ring_in};
+use crate::serial::Serial;
+use anyhow::{Result, bail};
+use callparts::{
+    CallNumber, DoneOut, EachAnswered, EachFresh, Finished, InLane, Job, Line, OutLane, PLACES,
+    TasksIn, Traffic,
+};
+use callrun::{CallRun, Turn};
+use callworker::{OpenGate, Ways, Worker};
+use h2frame::StreamId;
+use handlers::Methods;
+use lane::End;
+use rtrb::RingBuffer;
+use std::alloc::{AllocError, Global};
+use std::marker::Brand;
+use std::sync::{Arc, Wait};
+use std::time::{Clock, Instant};
 
-use crate::running::Moment;
-use crate::work::{Came, Work};
-use callbox::{Giver, Taker};
-use callslot::{CallReport, InLane, Job, OutLane, Seen, Slot};
-use connbook::ConnBook;
-use lane::{End, RingOut};
-use slots::Worker;
-use std::alloc::Global;
-use std::snapshot::Snapshot;
-use std::sync::Arc;
-use std::sync::ledger::Ledger;
-
-/// The worker of a slot: what a thread has in the server.
+/// A worker that has turns.
 #[derive(Drop)]
-pub struct SerialWorker {
+pub struct InTurns {
+    line: Arc<Line>,
+    ways: Ways<Brand, Brand>,
+    call: Option<Running>,
+}
+
+/// The rings by which a worker is handed its calls and hands them back: the reader's ends, and the
+/// worker's.
+pub fn open_ways(
     alloc: Global,
-    slot: Arc<Slot>,
-    /// Where its calls come from.
-    pub(crate) jobs: RingOut<Job>,
-    /// A call that waits until the last one was sent.
-    next: Option<Job>,
-    work: Work,
-    /// The end that it began with.
-    pub(crate) first: Snapshot<Taker<InLane>>,
-    ghost one_ring: { IsSomeAnd (ring_in work) (λ ring. ring ≡ ring_of (out_name first.value.rx)) } by { IsSomeAnd-prop (ring_in work) (λ ring. ring ≡ ring_of (out_name first.value.rx)) (λ ring. LaneName_set ring (ring_of (out_name first.value.rx))) },
+) -> Result<(TasksIn<Brand>, DoneOut<Brand, Brand>, Ways<Brand, Brand>), AllocError> {
+    let (handing, tasks) = RingBuffer::with_protocol::<Global, EachFresh>(alloc, PLACES)?;
+    let (done, taking) = RingBuffer::with_protocol::<Global, EachAnswered<Brand>>(alloc, PLACES)?;
+    Ok((handing, taking, Ways { tasks, done }))
 }
 
-impl SerialWorker {
-    /// A worker with these ends.
-    pub fn new(
-        alloc: Global,
-        slot: Arc<Slot>,
-        jobs: RingOut<Job>,
-        taker: Taker<InLane>,
-        giver: Giver<OutLane>,
-    ) -> SerialWorker
-        ensures lane { ring_of (out_name result.first.value.rx) ≡ ring_of (out_name taker.rx) }
-        ensures jobs { ring.out_name result.jobs ≡ ring.out_name jobs }
-    {
-        SerialWorker {
-            alloc,
-            slot,
-            jobs,
-            next: None,
-            first: Snapshot::of(&taker),
-            work: Work::Free(taker, End::Open(giver)),
+impl InTurns {
+    pub fn new(line: Arc<Line>, ways: Ways<Brand, Brand>) -> InTurns {
+        InTurns {
+            line,
+            ways,
+            call: None,
         }
     }
 
-    /// A turn: it takes up the next call, or gives its call a turn, or gets what is left of it.
-    pub fn turn<A: Ledger, B: Ledger, C: Ledger>(
-        &mut self,
-        moment: Moment<'_>,
-        book: &ConnBook<A, B, C>,
-    ) -> Came
-        ensures lane { self.new.first ≡ self.old.first }
-        ensures jobs { ring.out_name self.new.jobs ≡ ring.out_name self.old.jobs }
-    {
-        if self.work.is_free() {
-            if let Some(came) = self.begin(moment, book) {
-                return came;
-            }
-        }
-        let SerialWorker {
-            alloc,
-            slot,
-            work,
-            ..
-        } = self;
-        match work.stream() {
-            Some(id) => work.answer(moment, &**slot, book.is_live(id)),
-            None => Came::of(None, work.rest(*alloc, &**slot)),
+    /// The next call that it was handed, if one is there.
+    fn next(&mut self) -> Option<Job<Brand>> {
+        match self.ways.tasks.pop() {
+            Ok(task) => task,
+            Err(_empty) => None,
         }
     }
 
-    /// Takes up the next call. What came of it, where it didn't: where not all that was given for the last one is seen sent, the call
-    /// waits while it is live; else it isn't answered, nor is any behind it.
-    fn begin<A: Ledger, B: Ledger, C: Ledger>(
-        &mut self,
-        moment: Moment<'_>,
-        book: &ConnBook<A, B, C>,
-    ) -> Option<Came>
-        ensures lane { self.new.first ≡ self.old.first }
-        ensures jobs { ring.out_name self.new.jobs ≡ ring.out_name self.old.jobs }
-    {
-        let SerialWorker {
-            alloc,
-            jobs,
-            next,
-            work,
-            ..
-        } = self;
-        let job = match next.take() {
-            Some(job) => job,
-            None => match jobs.take() {
-                Some(job) => job,
-                None => return Some(Came::of(None, false)),
-            },
-        };
-        let (id, index) = (job.id, job.index);
-        match work.take_up(*alloc, moment, job) {
-            Ok(()) => None,
-            Err(job) if book.is_live(id) => {
-                *next = Some(job);
-                Some(Came::of(Some(id), false))
-            }
-            Err(_job) => {
-                work.close();
-                let mut came = Came::of(Some(id), true);
-                came.row = Some(CallReport::unanswered(id, index));
-                Some(came)
-            }
+    fn hand_back(&mut self, finished: Finished<Brand>) -> Result<()> {
+        if self.ways.done.push(finished).is_err() {
+            bail!("no room for a call that is over");
         }
+        Ok(())
+    }
+
+    pub fn into_ways(self) -> Ways<Brand, Brand> {
+        self.ways
     }
 }
 
-impl Worker for SerialWorker {
-    ghost lane = { λ worker. ring_of (out_name worker.first.value.rx) };
+/// A call that is being answered.
+#[derive(Drop)]
+struct Running {
+    id: StreamId,
+    number: CallNumber<Brand>,
+    run: CallRun<InLane, OutLane>,
+    turns: u64,
+    bytes: u64,
+}
 
-    ghost jobs = { λ worker. ring.out_name worker.jobs };
+impl Running {
+    fn new(alloc: Global, methods: &Methods, job: Job<Brand>) -> Running {
+        let (work, number) = (job.work, job.number);
+        let (request, taker, giver) = (work.request, work.taker, work.giver);
+        let (id, index, head) = (request.id, request.index, request.head);
+        Running {
+            id,
+            number,
+            run: CallRun::new(alloc, methods, index, head, taker, giver, request.opened),
+            turns: 0,
+            bytes: 0,
+        }
+    }
 
-    // Since it doesn't say that it keeps its rows, nothing follows from this.
-    ghost gives = { λ worker. ring_of (out_name worker.first.value.rx) };
+    /// A turn; one that finds no memory, not even for trailers that say so, leaves the call.
+    fn turn(&mut self, methods: &Methods, clock: u64, lacks: Option<(StreamId, u64)>) -> Turn {
+        if let Some((id, turns)) = lacks {
+            if self.id == id && self.turns >= turns {
+                self.run.leave(methods);
+                return Turn::Over;
+            }
+        }
+        self.turns += 1;
+        let now = if self.run.has_deadline() { clock } else { 0 };
+        self.run.turn(methods, now)
+    }
 
-    ghost known = { λ index messages ended answer. ⊥ };
-
-    ghost names = { λ path index. Unit {0} };
-
-    ghost tells = { ⊥ };
-
-    /// Its ends as they are. Its rows were handed out as the calls were over.
-    fn end(self) -> Seen {
-        let SerialWorker {
-            alloc,
-            jobs,
-            work,
-            ..
-        } = self;
-        let Some((taker, end)) = work.into_ends() else {
-            unreachable!();
+    /// What its worker hands back.
+    fn into_finished(self) -> Finished<Brand> {
+        let (number, run, bytes) = (self.number, self.run, self.bytes);
+        let (replies, reply_bytes) = run.given();
+        let (taker, end, status) = run.into_ends();
+        let given = match end {
+            End::Open(giver) => giver.leave(),
+            End::Shut(shut) => shut,
         };
-        Seen {
+        Finished {
+            number,
             taker,
-            end,
-            jobs,
-            calls: Vec::new(alloc),
+            given,
+            status,
+            traffic: Traffic {
+                bytes,
+                replies,
+                reply_bytes,
+            },
         }
+    }
+}
+
+impl<'a, R: Wait + Clock> Serial<'a, R> {
+    /// Gives the worker of this number a turn; whether it did something.
+    pub fn turn_of(&mut self, number: usize) -> Result<bool> {
+        let Some(worker) = self.workers.get_mut(number) else {
+            return Ok(false);
+        };
+        if worker.call.is_none() {
+            if let Some(job) = worker.next() {
+                worker.call = Some(Running::new(self.alloc, self.methods, job));
+            }
+        }
+        let Some(mut call) = worker.call.take() else {
+            return Ok(false);
+        };
+        self.turns += 1;
+        let turn = call.turn(self.methods, self.clock, self.course.lacks);
+        self.ran_out = self.ran_out || call.run.ran_out();
+        if turn == Turn::Went {
+            worker.call = Some(call);
+            return Ok(true);
+        }
+        let credit = call.run.credit();
+        call.bytes += u64::from(credit);
+        let mut book = self.shared.book.lock(self.rt);
+        if credit > 0 {
+            // Where the call is no longer live, its bytes were returned already.
+            let _ = book.give_back(call.id, credit);
+        }
+        if turn != Turn::Over {
+            if book.is_live(call.id) {
+                worker.call = Some(call);
+                return Ok(false);
+            }
+            while call.run.turn(self.methods, 0) == Turn::Went {}
+            call.run.leave(self.methods);
+        }
+        let id = call.id;
+        let finished = call.into_finished();
+        if finished.status.is_none() {
+            book.cut(id);
+        }
+        worker.hand_back(finished)?;
+        Ok(true)
+    }
+
+    /// Has `callworker::Worker` answer the next call of the worker of this number, from its head to
+    /// its trailers: all that comes on it is there, and there is room for all that it is answered
+    /// with. Whether there was a call.
+    pub fn work(&mut self, number: usize) -> Result<bool> {
+        let Some(worker) = self.workers.get_mut(number) else {
+            return Ok(false);
+        };
+        let Some(job) = worker.next() else {
+            return Ok(false);
+        };
+        let (mut tasks, mut done, ways) = open_ways(self.alloc)?;
+        let _ = tasks.push(Some(job));
+        let _ = tasks.push(None);
+        let threads = Worker {
+            alloc: self.alloc,
+            line: Arc::try_clone(&worker.line)?,
+            shared: Arc::try_clone(&self.shared)?,
+            gate: Arc::new(self.alloc, OpenGate)?,
+            start: Instant::now(self.rt)?,
+        };
+        let _ways = threads.work::<Brand, Brand, R>(self.rt, self.methods, ways);
+        let Ok(finished) = done.pop() else {
+            bail!("a call didn't come back");
+        };
+        worker.hand_back(finished)?;
+        Ok(true)
     }
 }

@@ -1,132 +1,99 @@
 //! The frames of bytes: `frames.rows`, and `faults.rows` for when a fault stands.
 
-use anyhow::Result;
+use anyhow::{Result, ensure};
 use h2frame::{Frame, FrameFault, FrameReader};
-use rows::{Given, Subject, bytes_of};
+use rows::bytes_of;
 use std::alloc::Global;
 
 /// Of bytes that have no frame and no fault.
 const NOTHING: &str = "nothing";
 
-/// What a reader answers to bytes that come in pieces.
-#[derive(Drop)]
-struct Reading {
-    reader: FrameReader,
-    text: String,
-    last: Option<FrameFault>,
-}
-
-/// Whether a fault is one after which nothing else is answered.
-fn is_last(fault: &FrameFault) -> bool {
-    match fault {
-        FrameFault::ZeroIncrement(stream) => *stream == 0,
-        _ => true,
+/// Adds what a reader answers: a frame's type, flags, stream, payload's length and content, or a fault.
+fn push_answer(alloc: Global, text: &mut String, answer: &Result<Frame, FrameFault>) -> Result<()> {
+    if !text.is_empty() {
+        text.push_str("; ")?;
     }
-}
-
-/// Adds a frame: type, flags, stream, the payload's length and the content.
-fn print_frame(text: &mut String, frame: &Frame) -> Result<()> {
-    let head = &frame.head;
-    let kind = head.kind;
-    let flags = head.flags.bits;
-    let stream = head.stream;
-    let length = head.length;
-    write!(text, "{kind:?} {flags:02x} {stream} {length} ")?;
-    if frame.content.is_empty() {
-        text.push('-')?;
-    }
-    for byte in frame.content.as_slice() {
-        write!(text, "{byte:02x}")?;
+    match answer {
+        Ok(frame) => {
+            let head = frame.head;
+            let (kind, flags, stream, length) = (
+                head.kind,
+                head.flags.bits,
+                head.stream,
+                head.length,
+            );
+            write!(text, "{kind:?} {flags:02x} {stream} {length} ")?;
+            if frame.content.is_empty() {
+                text.push('-')?;
+            }
+            text.push_str(hex::encode(alloc, frame.content.as_slice())?.as_str())?;
+        }
+        Err(fault) => write!(text, "{fault:?}")?,
     }
     Ok(())
 }
 
-impl Reading {
-    fn new(alloc: Global) -> Reading {
-        Reading {
-            reader: FrameReader::new(alloc),
-            text: String::new(alloc),
-            last: None,
-        }
-    }
-
-    /// Reads the next piece. After its last fault a reader takes none, and answers that fault.
-    fn piece(&mut self, bytes: &[u8]) -> Result<()> {
-        let fed = self.reader.feed(bytes);
-        let Some(fault) = self.last else {
-            fed?;
-            return self.drain();
+/// Feeds a piece, and adds what is answered to it, up to the last fault, behind which a reader reads no more.
+fn take(
+    alloc: Global,
+    reader: &mut FrameReader,
+    piece: &[u8],
+    text: &mut String,
+) -> Result<Option<FrameFault>> {
+    reader.feed(piece)?;
+    for _ in 0..u64::MAX {
+        let Some(answer) = reader.next() else {
+            break;
         };
-        let refused = match fed {
-            Ok(()) => false,
-            Err(other) => other == fault,
-        };
-        if !refused {
-            self.text
-                .push_str(" and a piece behind it that isn't refused")?;
-        }
-        self.repeat(fault)
-    }
-
-    /// Adds what the reader answers, up to where it has nothing or the last fault.
-    fn drain(&mut self) -> Result<()> {
-        for _ in 0..u64::MAX {
-            let Some(answer) = self.reader.next() else {
-                return Ok(());
-            };
-            self.print(&answer)?;
-            if let Err(fault) = answer {
-                if is_last(&fault) {
-                    self.last = Some(fault);
-                    return self.repeat(fault);
-                }
-            }
-        }
-        Ok(())
-    }
-
-    /// After its last fault a reader answers that fault again.
-    fn repeat(&mut self, fault: FrameFault) -> Result<()> {
-        let again = match self.reader.next() {
-            Some(Err(other)) => other == fault,
-            _ => false,
-        };
-        if !again {
-            self.text.push_str(" that isn't repeated")?;
-        }
-        Ok(())
-    }
-
-    fn print(&mut self, answer: &Result<Frame, FrameFault>) -> Result<()> {
-        if !self.text.is_empty() {
-            self.text.push_str("; ")?;
-        }
+        push_answer(alloc, text, &answer)?;
         match answer {
-            Ok(frame) => print_frame(&mut self.text, frame)?,
-            Err(fault) => write!(self.text, "{fault:?}")?,
+            Ok(_) => {}
+            // This one uses up its frame.
+            Err(FrameFault::ZeroIncrement(stream)) if stream != 0 => {}
+            Err(fault) => return Ok(Some(fault)),
         }
-        Ok(())
     }
-
-    /// Reads bytes that come in two parts, the first of them in pieces of a size.
-    fn parts(&mut self, bytes: &[u8], cut: usize, size: usize) -> Result<()> {
-        let (first, second) = bytes.split_at(cut.min(bytes.len()));
-        for piece in first.chunks(size.max(1)) {
-            self.piece(piece)?;
-        }
-        self.piece(second)?;
-        if self.text.is_empty() {
-            self.text.push_str(NOTHING)?;
-        }
-        Ok(())
-    }
+    Ok(None)
 }
 
-/// What is answered to bytes that come in two parts, the first of them in pieces of a size.
+/// Takes the next piece. Behind the last fault none is taken, and that fault is answered again.
+fn take_next(
+    alloc: Global,
+    reader: &mut FrameReader,
+    last: Option<FrameFault>,
+    piece: &[u8],
+    text: &mut String,
+) -> Result<Option<FrameFault>> {
+    let Some(fault) = last else {
+        return take(alloc, reader, piece, text);
+    };
+    ensure!(
+        reader.feed(piece) == Err(fault),
+        "a piece behind {fault:?} isn't refused"
+    );
+    let is_repeated = match reader.next() {
+        Some(Err(other)) => other == fault,
+        _ => false,
+    };
+    ensure!(is_repeated, "{fault:?} isn't repeated");
+    Ok(last)
+}
+
+/// What is answered to bytes that come in two parts, the first of them in pieces of a size, and then to no bytes.
 fn answers(alloc: Global, bytes: &[u8], cut: usize, size: usize) -> Result<String> {
-    let mut reading = Reading::new(alloc);
-    reading.parts(bytes, cut, size)?;
-    Ok(reading.text)
+    let mut reader = FrameReader::new(alloc);
+    let mut text = String::new(alloc);
+    let (first, second) = bytes.split_at(cut.min(bytes.len()));
+    let mut last = None;
+    for piece in first.chunks(size.max(1)) {
+        last = take_next(alloc, &mut reader, last, piece, &mut text)?;
+    }
+    last = take_next(alloc, &mut reader, last, second, &mut text)?;
+    let _last = take_next(alloc, &mut reader, last, &[], &mut text)?;
+    if text.is_empty() {
+        text.push_str(NOTHING)?;
+    }
+    Ok(text)
 }
 
 /// Whether that is answered to the bytes in such parts and pieces.
@@ -134,38 +101,20 @@ fn is_answered(alloc: Global, bytes: &[u8], cut: usize, size: usize, wanted: &st
     Ok(answers(alloc, bytes, cut, size)?.as_str() == wanted)
 }
 
-/// Whether that is answered to the bytes in every two parts, and in pieces of every size. Where it isn't, `answer` says so.
-fn try_cuts(alloc: Global, bytes: &[u8], whole: &str, answer: &mut String) -> Result<()> {
-    let len = bytes.len();
-    for cut in 0..len {
-        if !is_answered(alloc, bytes, cut, len, whole)? {
-            write!(answer, ", but not where {cut} bytes come first")?;
-            return Ok(());
-        }
-    }
+/// Bytes, and their frames and faults, which have to be the same in every two parts and in pieces of every size.
+pub fn whole(alloc: Global, given: &str, answer: &mut String) -> Result<()> {
+    let bytes = bytes_of(alloc, given)?;
+    let (bytes, len) = (bytes.as_slice(), bytes.len());
+    answer.push_str(answers(alloc, bytes, len, len)?.as_str())?;
     for size in 1..len {
-        if !is_answered(alloc, bytes, len, size, whole)? {
-            write!(answer, ", but not in pieces of {size} bytes")?;
-            return Ok(());
-        }
+        let is_same = is_answered(alloc, bytes, size, len, answer.as_str())?
+            && is_answered(alloc, bytes, len, size, answer.as_str())?;
+        ensure!(
+            is_same,
+            "another answer in two parts at {size}, or in pieces of that"
+        );
     }
     Ok(())
-}
-
-/// Bytes, and the list of their frames and of their faults, up to the last.
-#[derive(Drop)]
-pub struct Lists;
-
-impl Subject for Lists {
-    fn restart(&mut self, _alloc: Global) {}
-
-    /// Reads the bytes whole, in every two parts, and in pieces of every size.
-    fn answer(&mut self, alloc: Global, given: Given<'_>, answer: &mut String) -> Result<()> {
-        let bytes = bytes_of(alloc, given.text)?;
-        let whole = answers(alloc, bytes.as_slice(), bytes.len(), bytes.len())?;
-        answer.push_str(whole.as_str())?;
-        try_cuts(alloc, bytes.as_slice(), whole.as_str(), answer)
-    }
 }
 
 /// Adds what is answered to these bytes, a byte at a time, if the answer doesn't end with it.
@@ -176,26 +125,16 @@ fn add_news(alloc: Global, bytes: &[u8], answer: &mut String) -> Result<()> {
     if answered == NOTHING || answer.as_str().ends_with(answered) {
         return Ok(());
     }
-    if !answer.is_empty() {
-        answer.push_str(", then ")?;
-    }
-    write!(answer, "{len} {answered}")?;
+    let behind = if answer.is_empty() { "" } else { ", then " };
+    write!(answer, "{behind}{len} {answered}")?;
     Ok(())
 }
 
-/// Bytes, and how many of them must be there until a fault is answered, and which.
-#[derive(Drop)]
-pub struct FirstBytes;
-
-impl Subject for FirstBytes {
-    fn restart(&mut self, _alloc: Global) {}
-
-    /// Reads the first bytes, however many, a byte at a time.
-    fn answer(&mut self, alloc: Global, given: Given<'_>, answer: &mut String) -> Result<()> {
-        let bytes = bytes_of(alloc, given.text)?;
-        for len in 0..=bytes.len() {
-            add_news(alloc, bytes.as_slice().get(..len).unwrap_or(&[]), answer)?;
-        }
-        Ok(())
+/// Bytes, and how many of them must be there until a fault is answered, and which. They come a byte at a time.
+pub fn first_bytes(alloc: Global, given: &str, answer: &mut String) -> Result<()> {
+    let bytes = bytes_of(alloc, given)?;
+    for len in 0..=bytes.len() {
+        add_news(alloc, bytes.as_slice().get(..len).unwrap_or(&[]), answer)?;
     }
+    Ok(())
 }

@@ -1,13 +1,10 @@
 //! Each type of frame with payloads of the least and the greatest length: `kinds.rows` for those that are read, and
 //! written again, and `refused.rows` for those that aren't written. In `lengths.rows` each length is read.
 
-ghost use Rattle.std.specs.Prelude.{◌≡◌, ◌<◌, ◌^◌, length};
-ghost use Rattle.h2frame.specs.Kind.{kind_of, code_of};
-
 use anyhow::{Context, Result, bail, ensure};
 use bytes::Bytes;
-use h2frame::{Flags, Frame, FrameFault, FrameHead, FrameKind, FrameReader, StreamId, write_frame};
-use rows::{Given, Subject, number};
+use h2frame::{Flags, Frame, FrameFault, FrameHead, FrameKind, FrameReader, write_frame};
+use rows::number;
 use std::alloc::Global;
 
 /// The most bytes that stand before a content: the padding's length, and five of priority.
@@ -19,68 +16,42 @@ const SIZES: [usize; 7] = [1, 2, 3, 9, 10, 1_000, 20_000];
 /// What stands where a frame is written behind it.
 const KEPT: &[u8] = b"kept";
 
-/// A frame as a row gives it.
-#[derive(Clone, Copy)]
-struct Sample {
-    /// The type's code.
-    code: u8,
-    flags: u8,
-    stream: StreamId,
-    length: u32,
-    /// The payload's first byte, which is the padding's length where there is padding.
-    first: u8,
+/// The head of which a row says the type's code, the flags, the stream and the length.
+fn head_of(words: &[&str]) -> Result<FrameHead> {
+    let [code, flags, stream, length, _] = words else {
+        bail!("the row hasn't five words");
+    };
+    Ok(FrameHead {
+        kind: FrameKind::from_code(code.parse::<u8>()?),
+        flags: Flags {
+            bits: u8::from_str_radix(flags, 16)?,
+        },
+        stream: number(stream)?,
+        length: number(length)?,
+    })
 }
 
-fn sample_of(words: &[&str]) -> Result<Sample> {
-    match words {
-        [code, flags, stream, length, first] => {
-            let stream = number(stream)?;
-            let length = number(length)?;
-            ensure!(stream < 0x8000_0000, "the stream has 32 bits");
-            ensure!(length < 0x0100_0000, "the length has more than 24 bits");
-            Ok(Sample {
-                code: code.parse::<u8>()?,
-                flags: u8::from_str_radix(flags, 16)?,
-                stream,
-                length,
-                first: first.parse::<u8>()?,
-            })
-        }
-        _ => bail!("the row hasn't five words"),
+/// A payload's first byte, which a row's last word says, and then bytes that are their place, modulo 251.
+fn payload_of(alloc: Global, words: &[&str], len: u32) -> Result<Vec<u8>> {
+    let first = words.last().context("no words")?.parse::<u8>()?;
+    let mut payload = Vec::new(alloc);
+    for place in 0..len {
+        payload.push(if place == 0 {
+            first
+        } else {
+            (place % 251) as u8
+        })?;
     }
+    Ok(payload)
 }
 
-impl Sample {
-    fn head(&self) -> FrameHead {
-        FrameHead {
-            kind: FrameKind::from_code(self.code),
-            flags: Flags { bits: self.flags },
-            stream: self.stream,
-            length: self.length,
-        }
-    }
-
-    /// The first byte, and then bytes that each differ from those near them: a byte is its place, modulo 251.
-    fn payload(&self, alloc: Global) -> Result<Vec<u8>> {
-        let mut payload = Vec::new(alloc);
-        for place in 0..self.length {
-            payload.push(if place == 0 {
-                self.first
-            } else {
-                (place % 251) as u8
-            })?;
-        }
-        Ok(payload)
-    }
-
-    /// The bytes of the frame, by RFC 9113, section 4.1.
-    fn bytes(&self, alloc: Global, payload: &[u8]) -> Result<Vec<u8>> {
-        let [_, a, b, c] = self.length.to_be_bytes();
-        let mut bytes = Vec::from_slice(alloc, &[a, b, c, self.code, self.flags])?;
-        bytes.extend_from_slice(&self.stream.to_be_bytes())?;
-        bytes.extend_from_slice(payload)?;
-        Ok(bytes)
-    }
+/// The bytes of a frame, by RFC 9113, section 4.1.
+fn spelled(alloc: Global, head: &FrameHead, payload: &[u8]) -> Result<Vec<u8>> {
+    let [_, a, b, c] = head.length.to_be_bytes();
+    let mut bytes = Vec::from_slice(alloc, &[a, b, c, head.kind.code(), head.flags.bits])?;
+    bytes.extend_from_slice(&head.stream.to_be_bytes())?;
+    bytes.extend_from_slice(payload)?;
+    Ok(bytes)
 }
 
 /// The frame that is read of bytes in pieces of a size, which has to come with the last piece and not before.
@@ -92,173 +63,131 @@ fn next_frame(reader: &mut FrameReader, bytes: &[u8], size: usize) -> Result<Fra
     Ok(reader.next().context("there is no frame")??)
 }
 
-/// The one frame that is read of bytes in pieces of a size.
-fn read_in_pieces(alloc: Global, bytes: &[u8], size: usize) -> Result<Frame> {
+/// The one frame that is read of bytes in pieces of a size, whose head has to be this one.
+fn read_in_pieces(alloc: Global, bytes: &[u8], size: usize, head: &FrameHead) -> Result<Frame> {
     let mut reader = FrameReader::new(alloc);
     let frame = next_frame(&mut reader, bytes, size)?;
     ensure!(reader.next().is_none(), "there is a second answer");
+    ensure!(frame.head == *head, "another head");
     Ok(frame)
 }
 
 /// Which bytes of the payload the content is: from where, and to where.
-fn print_place(text: &mut String, payload: &[u8], content: &[u8]) -> Result<()> {
+fn push_place(answer: &mut String, payload: &[u8], content: &[u8]) -> Result<()> {
     if content.is_empty() {
-        text.push_str(" no bytes")?;
+        answer.push_str(" no bytes")?;
         return Ok(());
     }
     for start in 0..=MOST_BEFORE {
-        let after = payload.get(start..).unwrap_or(&[]);
-        if after.starts_with(content) {
+        if payload.get(start..).unwrap_or(&[]).starts_with(content) {
             let end = start.saturating_add(content.len());
-            write!(text, " {start}..{end}")?;
+            write!(answer, " {start}..{end}")?;
             return Ok(());
         }
     }
-    text.push_str(" other bytes")?;
-    Ok(())
+    bail!("the content is no part of the payload")
 }
 
-/// What becomes of a frame that is to be written.
-#[derive(Clone, Copy, Debug)]
-enum Writing {
-    Done,
-    Refused(FrameFault),
-    /// It has padding or priority: no such frame is written.
-    Never,
-}
-
-/// Writes the frame of a kind whose payload is all content.
-fn write(alloc: Global, sample: &Sample, content: &[u8], out: &mut Vec<u8>) -> Result<Writing> {
+/// Writes the frame whose payload is all content.
+fn write(
+    alloc: Global,
+    head: &FrameHead,
+    content: &[u8],
+    out: &mut Vec<u8>,
+) -> Result<Option<FrameFault>> {
     let content = Bytes::copy_from_slice(alloc, content)?;
     ensure!(content.len() < 0x0100_0000, "the content is too long");
-    ensure!(sample.stream < 0x8000_0000, "the stream has 32 bits");
-    let kind = FrameKind::from_code(sample.code);
-    let flags = Flags { bits: sample.flags };
-    let frame = Frame::new(kind, flags, sample.stream, content);
+    ensure!(head.stream < 0x8000_0000, "the stream has 32 bits");
+    let kind = FrameKind::from_code(head.kind.code());
+    let frame = Frame::new(kind, head.flags, head.stream, content);
     if frame.head.is_padded() || frame.head.has_priority() {
-        return Ok(Writing::Never);
+        bail!("no frame with padding or priority is written");
     }
-    Ok(match write_frame(&frame, out) {
-        Ok(()) => Writing::Done,
-        Err(fault) => Writing::Refused(fault),
-    })
+    Ok(write_frame(&frame, out).err())
 }
 
-/// Writes the frame behind what stands there, which stays. It is written as these bytes, or nothing is.
-fn write_behind(alloc: Global, sample: &Sample, content: &[u8], bytes: &[u8]) -> Result<Writing> {
+/// Writes the frame behind what stands there, which stays: as these bytes, or nothing, for a fault.
+fn write_behind(
+    alloc: Global,
+    head: &FrameHead,
+    content: &[u8],
+    bytes: &[u8],
+) -> Result<Option<FrameFault>> {
     let mut out = Vec::from_slice(alloc, KEPT)?;
-    let writing = write(alloc, sample, content, &mut out)?;
-    let wanted: &[u8] = match writing {
-        Writing::Done => bytes,
-        Writing::Refused(_) | Writing::Never => &[],
-    };
-    ensure!(
-        out.as_slice().strip_prefix(KEPT) == Some(wanted),
-        "other bytes were written"
-    );
-    Ok(writing)
+    let fault = write(alloc, head, content, &mut out)?;
+    let wanted: &[u8] = if fault.is_some() { &[] } else { bytes };
+    let written = out.as_slice().strip_prefix(KEPT);
+    ensure!(written == Some(wanted), "other bytes were written");
+    Ok(fault)
 }
 
 /// Reads the frame in pieces of several sizes, which has to be this one.
-fn try_pieces(alloc: Global, sample: &Sample, bytes: &[u8], whole: &Frame) -> Result<()> {
-    ensure!(
-        whole.head == sample.head(),
-        "another head: {:?}",
-        whole.head
-    );
+fn try_sizes(alloc: Global, bytes: &[u8], whole: &Frame) -> Result<()> {
     for size in SIZES {
-        let is_same = read_in_pieces(alloc, bytes, size)? == *whole;
-        ensure!(is_same, "another frame in pieces of {size} bytes");
+        let frame = read_in_pieces(alloc, bytes, size, &whole.head)?;
+        ensure!(frame == *whole, "another frame in pieces of {size} bytes");
     }
     Ok(())
 }
 
-/// A frame, and its type with the place of its content in the payload, and whether it was written again.
-#[derive(Drop)]
-pub struct Kinds;
-
-impl Kinds {
-    /// Reads the frame in pieces of several sizes. One without padding and priority is written, too, as the same bytes.
-    fn try_sample(
-        alloc: Global,
-        sample: &Sample,
-        payload: &[u8],
-        bytes: &[u8],
-        answer: &mut String,
-    ) -> Result<()> {
-        let whole = read_in_pieces(alloc, bytes, bytes.len())?;
-        try_pieces(alloc, sample, bytes, &whole)?;
-        write!(answer, "{:?}", whole.head.kind)?;
-        print_place(answer, payload, whole.content.as_slice())?;
-        match write_behind(alloc, sample, payload, bytes)? {
-            Writing::Done => answer.push_str(", written")?,
-            Writing::Refused(fault) => bail!("it isn't written: {fault}"),
-            Writing::Never => {}
-        }
-        Ok(())
-    }
+/// A frame, and its type with the place of its content, in whatever pieces it comes. One without padding and priority is
+/// written, too, as the same bytes.
+pub fn kinds(alloc: Global, words: &[&str], answer: &mut String) -> Result<()> {
+    let head = head_of(words)?;
+    let payload = payload_of(alloc, words, head.length)?;
+    let bytes = spelled(alloc, &head, payload.as_slice())?;
+    push_kind(alloc, &head, payload.as_slice(), bytes.as_slice(), answer)
 }
 
-impl Subject for Kinds {
-    fn restart(&mut self, _alloc: Global) {}
-
-    fn answer(&mut self, alloc: Global, given: Given<'_>, answer: &mut String) -> Result<()> {
-        let sample = sample_of(given.words)?;
-        let payload = sample.payload(alloc)?;
-        let bytes = sample.bytes(alloc, payload.as_slice())?;
-        Kinds::try_sample(alloc, &sample, payload.as_slice(), bytes.as_slice(), answer)
+fn push_kind(
+    alloc: Global,
+    head: &FrameHead,
+    payload: &[u8],
+    bytes: &[u8],
+    answer: &mut String,
+) -> Result<()> {
+    let whole = read_in_pieces(alloc, bytes, bytes.len(), head)?;
+    try_sizes(alloc, bytes, &whole)?;
+    write!(answer, "{:?}", head.kind)?;
+    push_place(answer, payload, whole.content.as_slice())?;
+    if !head.is_padded() && !head.has_priority() {
+        match write_behind(alloc, head, payload, bytes)? {
+            Some(fault) => return Err(fault.into()),
+            None => answer.push_str(", written")?,
+        }
     }
+    Ok(())
 }
 
 /// Reads the frame of this payload whole, which has to be all of its content.
-fn try_length(alloc: Global, sample: &Sample, payload: &[u8]) -> Result<()> {
-    let bytes = sample.bytes(alloc, payload)?;
-    let frame = read_in_pieces(alloc, bytes.as_slice(), bytes.len())?;
-    ensure!(
-        frame.head == sample.head(),
-        "another head: {:?}",
-        frame.head
-    );
+fn try_length(alloc: Global, head: &FrameHead, payload: &[u8]) -> Result<()> {
+    let bytes = spelled(alloc, head, payload)?;
+    let frame = read_in_pieces(alloc, bytes.as_slice(), bytes.len(), head)?;
     ensure!(frame.content.as_slice() == payload, "another content");
     Ok(())
 }
 
 /// A frame, and the lengths of payload with which one like it is read: each up to its own.
-#[derive(Drop)]
-pub struct Lengths;
-
-impl Subject for Lengths {
-    fn restart(&mut self, _alloc: Global) {}
-
-    /// Reads frames whose payloads are the beginnings of one payload.
-    fn answer(&mut self, alloc: Global, given: Given<'_>, answer: &mut String) -> Result<()> {
-        let mut sample = sample_of(given.words)?;
-        let greatest = sample.length;
-        let payload = sample.payload(alloc)?;
-        for length in 0..=greatest {
-            sample.length = length;
-            let front = payload.as_slice().get(..length as usize).unwrap_or(&[]);
-            try_length(alloc, &sample, front).context(format_args!("{length} bytes"))?;
-        }
-        write!(answer, "0..={greatest}")?;
-        Ok(())
+pub fn lengths(alloc: Global, words: &[&str], answer: &mut String) -> Result<()> {
+    let mut head = head_of(words)?;
+    let greatest = head.length;
+    let payload = payload_of(alloc, words, greatest)?;
+    for length in 0..=greatest {
+        head.length = length;
+        let front = payload.as_slice().get(..length as usize).unwrap_or(&[]);
+        try_length(alloc, &head, front)?;
     }
+    write!(answer, "0..={greatest}")?;
+    Ok(())
 }
 
 /// A frame of zeros, and the fault for which it isn't written.
-#[derive(Drop)]
-pub struct Refused;
-
-impl Subject for Refused {
-    fn restart(&mut self, _alloc: Global) {}
-
-    fn answer(&mut self, alloc: Global, given: Given<'_>, answer: &mut String) -> Result<()> {
-        let sample = sample_of(given.words)?;
-        let zeros = vec![in alloc; 0u8; sample.length as usize]?;
-        match write_behind(alloc, &sample, zeros.as_slice(), &[])? {
-            Writing::Refused(fault) => write!(answer, "{fault:?}")?,
-            other => write!(answer, "{other:?}")?,
-        }
-        Ok(())
+pub fn refused(alloc: Global, words: &[&str], answer: &mut String) -> Result<()> {
+    let head = head_of(words)?;
+    let zeros = vec![in alloc; 0u8; head.length as usize]?;
+    match write_behind(alloc, &head, zeros.as_slice(), &[])? {
+        Some(fault) => write!(answer, "{fault:?}")?,
+        None => answer.push_str("written")?,
     }
+    Ok(())
 }

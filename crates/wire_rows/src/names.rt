@@ -1,12 +1,15 @@
-//! The numbers of the wire format and of faults, and what the crates call them: `names.rows`.
+//! The numbers of the wire format and of faults, and what the crates call them: `names.rows`; `fault-texts.rows` for the
+//! faults of header blocks and heads.
 
 use anyhow::{Context, Result, bail, ensure};
+use callhead::HeadFault;
 use flow::{BookFault, WindowFault};
 use h2frame::{
     ErrorCode, Flags, FrameFault, FrameKind, PeerSetting, PeerSettings, SettingId, increment,
     ping_bytes,
 };
-use rows::{Given, Subject, bytes_of};
+use hpack_codec::HpackFault;
+use rows::bytes_of;
 use std::alloc::Global;
 use std::fmt::Debug;
 
@@ -36,66 +39,65 @@ const BOOK_FAULTS: [BookFault; 7] = [
     BookFault::OutOfMemory,
 ];
 
-/// Writes the answer of a call that succeeds or is refused.
-pub fn push_done<E: Debug + Drop>(answer: &mut String, done: Result<(), E>) -> Result<()> {
-    match done {
-        Ok(()) => answer.push_str("ok")?,
-        Err(fault) => write!(answer, "{fault:?}")?,
+const BLOCK_FAULTS: [HpackFault; 8] = [
+    HpackFault::Integer,
+    HpackFault::Index,
+    HpackFault::Huffman,
+    HpackFault::SizeUpdate,
+    HpackFault::Truncated,
+    HpackFault::OutOfMemory,
+    HpackFault::Dead,
+    HpackFault::TooLarge,
+];
+
+pub const HEAD_FAULTS: [HeadFault; 5] = [
+    HeadFault::Malformed,
+    HeadFault::NotPost,
+    HeadFault::NotGrpc,
+    HeadFault::BadTimeout,
+    HeadFault::OutOfMemory,
+];
+
+/// The fault of this name.
+pub fn called<F: Copy + Debug>(alloc: Global, faults: &[F], name: &str) -> Result<F> {
+    for fault in faults {
+        if format!(in alloc; "{fault:?}")?.as_str() == name {
+            return Ok(*fault);
+        }
     }
+    bail!("no such fault is called {name}")
+}
+
+/// What an error code, a parameter of SETTINGS or a type of frame is called, whose number has to be this one.
+fn push_name(answer: &mut String, what: &str, code: u32) -> Result<()> {
+    let number = match what {
+        "error" => {
+            let error = ErrorCode::from_code(code);
+            write!(answer, "{error:?}")?;
+            error.code()
+        }
+        "setting" => {
+            let setting = SettingId::from_code(u16::try_from(code)?);
+            write!(answer, "{setting:?}")?;
+            u32::from(setting.code())
+        }
+        _ => {
+            let kind = FrameKind::from_code(u8::try_from(code)?);
+            write!(answer, "{kind:?}")?;
+            u32::from(kind.code())
+        }
+    };
+    ensure!(number == code, "its number is {number}");
     Ok(())
 }
 
-/// The number that digits of base 16 spell.
-fn number(digits: &str) -> Result<u32> {
-    Ok(u32::from_str_radix(digits, 16)?)
-}
-
-fn name_error(answer: &mut String, digits: &str) -> Result<()> {
-    let code = number(digits)?;
-    let error = ErrorCode::from_code(code);
-    ensure!(error.code() == code, "{error:?} has another number");
-    write!(answer, "{error:?}")?;
-    Ok(())
-}
-
-fn name_setting(answer: &mut String, digits: &str) -> Result<()> {
-    let code = u16::from_str_radix(digits, 16)?;
-    let setting = SettingId::from_code(code);
-    ensure!(setting.code() == code, "{setting:?} has another number");
-    write!(answer, "{setting:?}")?;
-    Ok(())
-}
-
-fn name_kind(answer: &mut String, digits: &str) -> Result<()> {
-    let code = u8::from_str_radix(digits, 16)?;
-    let kind = FrameKind::from_code(code);
-    ensure!(kind.code() == code, "{kind:?} has another number");
-    write!(answer, "{kind:?}")?;
-    Ok(())
-}
-
-/// The increment of a WINDOW_UPDATE's four bytes.
-fn name_increment(answer: &mut String, digits: &str) -> Result<()> {
-    ensure!(digits.len() == 8, "an increment has four bytes");
-    let increment = increment(&number(digits)?.to_be_bytes());
-    write!(answer, "{increment}")?;
-    Ok(())
-}
-
-/// What a parameter with a value, as 'NUMBER=VALUE', tells, if it tells something.
-fn setting_of(parameter: &str) -> Result<Option<PeerSetting>> {
-    let (id, value) = parameter
-        .split_once('=')
-        .context("a parameter has a value")?;
-    let id = SettingId::from_code(u16::from_str_radix(id, 16)?);
-    Ok(PeerSetting::told(id, value.parse::<u32>()?))
-}
-
-/// What parameters tell.
-fn name_told(alloc: Global, answer: &mut String, parameters: &[&str]) -> Result<()> {
+/// What parameters with values tell, as 'NUMBER=VALUE'.
+fn push_told(alloc: Global, answer: &mut String, parameters: &[&str]) -> Result<()> {
     let mut told = Vec::new(alloc);
     for parameter in parameters {
-        if let Some(setting) = setting_of(parameter)? {
+        let (id, value) = parameter.split_once('=').context("no value")?;
+        let id = SettingId::from_code(u16::from_str_radix(id, 16)?);
+        if let Some(setting) = PeerSetting::told(id, value.parse::<u32>()?) {
             told.push(setting)?;
         }
     }
@@ -107,12 +109,11 @@ fn name_told(alloc: Global, answer: &mut String, parameters: &[&str]) -> Result<
 }
 
 /// The eight bytes of a PING, one after the other.
-fn name_ping(alloc: Global, answer: &mut String, digits: &str) -> Result<()> {
+fn push_ping(alloc: Global, answer: &mut String, digits: &str) -> Result<()> {
     let bytes = bytes_of(alloc, digits)?;
     ensure!(bytes.len() == 8, "a PING has eight bytes");
-    for byte in ping_bytes(bytes.as_slice()) {
-        write!(answer, "{byte:02x}")?;
-    }
+    let content = ping_bytes(bytes.as_slice());
+    answer.push_str(hex::encode(alloc, content.as_slice())?.as_str())?;
     Ok(())
 }
 
@@ -137,88 +138,60 @@ fn flags_of(names: &[&str]) -> Result<Flags> {
     Ok(flags)
 }
 
-fn name_flags(answer: &mut String, names: &[&str]) -> Result<()> {
-    let bits = flags_of(names)?.bits;
-    write!(answer, "{bits:02x}")?;
-    Ok(())
-}
-
-/// Whether the flags of a byte have all of those that are named.
-fn tell_whether_all(answer: &mut String, digits: &str, names: &[&str]) -> Result<()> {
-    let flags = Flags {
-        bits: u8::from_str_radix(digits, 16)?,
-    };
-    let has = flags.contains(flags_of(names)?);
-    write!(answer, "{has}")?;
-    Ok(())
-}
-
-/// Whether a fault's name is this one. It is written to an empty text, which is left empty.
-fn is_called<F: Debug>(fault: &F, name: &str, text: &mut String) -> Result<bool> {
-    write!(text, "{fault:?}")?;
-    let is_called = text.as_str() == name;
-    text.clear();
-    Ok(is_called)
-}
-
-/// A frame's fault: its number, the error that the peer is told, and its text.
-fn describe_frame_fault(answer: &mut String, name: &str) -> Result<()> {
-    for fault in FRAME_FAULTS {
-        if is_called(&fault, name, answer)? {
-            let code = fault.code();
-            let error = fault.error_code();
-            write!(answer, "{code}, {error:?}: {fault}")?;
-            return Ok(());
-        }
-    }
-    bail!("no fault of a frame is called {name}")
-}
-
-/// A window's fault: its number and its text.
-fn describe_window_fault(answer: &mut String, name: &str) -> Result<()> {
-    for fault in WINDOW_FAULTS {
-        if is_called(&fault, name, answer)? {
-            let code = fault.code();
-            write!(answer, "{code}: {fault}")?;
-            return Ok(());
-        }
-    }
-    bail!("no fault of a window is called {name}")
-}
-
-/// A credit book's fault: its number and its text.
-fn describe_book_fault(answer: &mut String, name: &str) -> Result<()> {
-    for fault in BOOK_FAULTS {
-        if is_called(&fault, name, answer)? {
-            let code = fault.code();
-            write!(answer, "{code}: {fault}")?;
-            return Ok(());
-        }
-    }
-    bail!("no fault of a credit book is called {name}")
-}
-
 /// A number and its name, or a name and its number.
-#[derive(Drop)]
-pub struct Names;
-
-impl Subject for Names {
-    fn restart(&mut self, _alloc: Global) {}
-
-    fn answer(&mut self, alloc: Global, given: Given<'_>, answer: &mut String) -> Result<()> {
-        match given.words {
-            ["error", digits] => name_error(answer, digits),
-            ["setting", digits] => name_setting(answer, digits),
-            ["type", digits] => name_kind(answer, digits),
-            ["increment", digits] => name_increment(answer, digits),
-            ["told", parameters @ ..] => name_told(alloc, answer, parameters),
-            ["ping", digits] => name_ping(alloc, answer, digits),
-            ["flags", names @ ..] => name_flags(answer, names),
-            ["has", digits, names @ ..] => tell_whether_all(answer, digits, names),
-            ["FrameFault", name] => describe_frame_fault(answer, name),
-            ["WindowFault", name] => describe_window_fault(answer, name),
-            ["BookFault", name] => describe_book_fault(answer, name),
-            _ => bail!("the row says none of what there is to name"),
+pub fn answer(alloc: Global, words: &[&str], answer: &mut String) -> Result<()> {
+    match words {
+        ["told", parameters @ ..] => return push_told(alloc, answer, parameters),
+        ["ping", digits] => return push_ping(alloc, answer, digits),
+        ["flags", names @ ..] => {
+            let bits = flags_of(names)?.bits;
+            write!(answer, "{bits:02x}")?;
         }
+        ["has", digits, names @ ..] => {
+            let bits = u8::from_str_radix(digits, 16)?;
+            let has = Flags { bits }.contains(flags_of(names)?);
+            write!(answer, "{has}")?;
+        }
+        ["increment", digits] => {
+            let bytes = u32::from_str_radix(digits, 16)?.to_be_bytes();
+            write!(answer, "{}", increment(&bytes))?;
+        }
+        [what, _] if what.ends_with("Fault") => return faults(alloc, words, answer),
+        [what, digits] => return push_name(answer, what, u32::from_str_radix(digits, 16)?),
+        _ => bail!("the row says none of what there is to name"),
     }
+    Ok(())
+}
+
+/// A fault by its name: its number, of a frame's also the error that the peer is told, and its text.
+pub fn faults(alloc: Global, words: &[&str], answer: &mut String) -> Result<()> {
+    match words {
+        ["FrameFault", name] => {
+            let fault = called(alloc, &FRAME_FAULTS, name)?;
+            write!(
+                answer,
+                "{}, {:?}: {fault}",
+                fault.code(),
+                fault.error_code()
+            )?;
+        }
+        ["WindowFault", name] => {
+            let fault = called(alloc, &WINDOW_FAULTS, name)?;
+            write!(answer, "{}: {fault}", fault.code())?;
+        }
+        ["BookFault", name] => {
+            let fault = called(alloc, &BOOK_FAULTS, name)?;
+            write!(answer, "{}: {fault}", fault.code())?;
+        }
+        ["block", name] => {
+            let fault = called(alloc, &BLOCK_FAULTS, name)?;
+            write!(answer, "{} {fault}", fault.code())?;
+        }
+        ["head", name] => {
+            let fault = called(alloc, &HEAD_FAULTS, name)?;
+            write!(answer, "{} {fault}", fault.code())?;
+        }
+        _ => bail!("the row names no fault"),
+    }
+    Ok(())
 }

@@ -7,74 +7,40 @@ ghost use Rattle.flow.specs.Halves.{IsJudged};
 use anyhow::{Context, Result, bail, ensure};
 use flow::{HalfVerdict, Halves};
 use h2frame::{ErrorCode, Flags, FrameHead, FrameKind, StreamId};
-use rows::{Given, Subject, number};
+use rows::number;
 use std::alloc::Global;
 
-/// A frame that is judged, with END_STREAM or without.
-#[derive(Clone, Copy, Debug)]
-enum Sent {
-    Data,
-    LastData,
-    Headers,
-    LastHeaders,
-    RstStream,
-    WindowUpdate,
-}
-
-/// In the order of the columns of `verdicts.rows`.
-const KINDS: [Sent; 6] = [
-    Sent::Data,
-    Sent::LastData,
-    Sent::Headers,
-    Sent::LastHeaders,
-    Sent::RstStream,
-    Sent::WindowUpdate,
+/// The frames that are judged, with END_STREAM or without, in the order of the columns of `verdicts.rows`.
+const KINDS: [&str; 6] = [
+    "DATA",
+    "DATA+END_STREAM",
+    "HEADERS",
+    "HEADERS+END_STREAM",
+    "RST_STREAM",
+    "WINDOW_UPDATE",
 ];
 
-fn sent_of(word: &str) -> Result<Sent> {
-    Ok(match word {
-        "DATA" => Sent::Data,
-        "DATA+END_STREAM" => Sent::LastData,
-        "HEADERS" => Sent::Headers,
-        "HEADERS+END_STREAM" => Sent::LastHeaders,
-        "RST_STREAM" => Sent::RstStream,
-        "WINDOW_UPDATE" => Sent::WindowUpdate,
-        _ => bail!("{word} is no frame that is judged"),
-    })
-}
-
-fn stream_of(word: &str) -> Result<StreamId>
-    ensures { IfOk result (λ stream. 0 < stream) }
-{
-    let stream = number(word)?;
-    if stream == 0 {
-        bail!("frames of stream 0 aren't judged");
-    }
-    Ok(stream)
-}
-
-fn head_of(sent: Sent, stream: StreamId) -> FrameHead
+fn head_of(frame: &str, stream: StreamId) -> Result<FrameHead>
     requires { 0 < stream }
-    ensures judged { IsJudged result }
-    ensures stream { result.stream ≡ stream }
+    ensures judged { IfOk result IsJudged }
+    ensures stream { IfOk result (λ head. head.stream ≡ stream) }
 {
-    let (kind, flags) = match sent {
-        Sent::Data => (FrameKind::Data, Flags::NONE),
-        Sent::LastData => (FrameKind::Data, Flags::END_STREAM),
-        Sent::Headers => (FrameKind::Headers, Flags::END_HEADERS),
-        Sent::LastHeaders => (
-            FrameKind::Headers,
-            Flags::END_HEADERS.with(Flags::END_STREAM),
-        ),
-        Sent::RstStream => (FrameKind::RstStream, Flags::NONE),
-        Sent::WindowUpdate => (FrameKind::WindowUpdate, Flags::NONE),
+    let last = Flags::END_STREAM;
+    let (kind, flags) = match frame {
+        "DATA" => (FrameKind::Data, Flags::NONE),
+        "DATA+END_STREAM" => (FrameKind::Data, last),
+        "HEADERS" => (FrameKind::Headers, Flags::END_HEADERS),
+        "HEADERS+END_STREAM" => (FrameKind::Headers, Flags::END_HEADERS.with(last)),
+        "RST_STREAM" => (FrameKind::RstStream, Flags::NONE),
+        "WINDOW_UPDATE" => (FrameKind::WindowUpdate, Flags::NONE),
+        _ => bail!("{frame} is no frame that is judged"),
     };
-    FrameHead {
+    Ok(FrameHead {
         kind,
         flags,
         stream,
         length: 4,
-    }
+    })
 }
 
 /// The word of the files for a verdict.
@@ -91,116 +57,71 @@ fn name_of(verdict: HalfVerdict) -> &'static str {
     }
 }
 
-/// Judges a frame, whose stream the server resets at once.
-fn judge_and_reset(halves: &mut Halves, sent: Sent, stream: StreamId) -> Result<HalfVerdict>
-    requires { 0 < stream }
-{
-    let verdict = halves.on(&head_of(sent, stream))?;
-    match verdict {
-        HalfVerdict::Discard | HalfVerdict::ConnectionError(_) => {
-            bail!("stream {stream} can't be reset")
+/// Judges a frame, upon which the server may reset its stream.
+fn judge(halves: &mut Halves, frame: &str, stream: StreamId, resets: bool) -> Result<HalfVerdict> {
+    ensure!(stream > 0, "frames of stream 0 aren't judged");
+    let verdict = halves.on(&head_of(frame, stream)?)?;
+    if resets {
+        match verdict {
+            HalfVerdict::Discard | HalfVerdict::ConnectionError(_) => {
+                bail!("stream {stream} can't be reset")
+            }
+            _ => halves.cut(stream),
         }
-        _ => halves.cut(stream),
     }
     Ok(verdict)
 }
 
-/// Judges frames of one kind on streams that follow one another, which all have one verdict.
-fn judge_each(
-    halves: &mut Halves,
-    sent: Sent,
-    first: StreamId,
-    last: StreamId,
-) -> Result<HalfVerdict>
-    requires { 0 < first }
-{
-    let verdict = halves.on(&head_of(sent, first))?;
+/// Takes a step of a connection: a frame on a stream, which the server may reset upon it, or on each stream from one to
+/// another in steps of two, which all have one verdict.
+fn step(halves: &mut Halves, words: &[&str]) -> Result<HalfVerdict> {
+    let [frame, first, rest @ ..] = words else {
+        bail!("that is no step");
+    };
+    let first = number(first)?;
+    let (last, resets) = match rest {
+        [] => (first, false),
+        ["reset"] => (first, true),
+        ["to", last] => (number(last)?, false),
+        _ => bail!("that is no step"),
+    };
+    let verdict = judge(halves, frame, first, resets)?;
     for stream in first..=last {
-        if stream % 2 == first % 2 && stream > first {
-            let other = halves.on(&head_of(sent, stream))?;
+        if stream > first && stream % 2 == first % 2 {
+            let other = judge(halves, frame, stream, false)?;
             ensure!(other == verdict, "{other:?} on stream {stream}");
         }
     }
     Ok(verdict)
 }
 
-/// Takes a step of a connection: a frame on a stream, which the server may reset upon it, or on each of many streams.
-fn step(halves: &mut Halves, words: &[&str]) -> Result<HalfVerdict> {
-    match words {
-        [frame, stream] => {
-            let stream = stream_of(stream)?;
-            Ok(halves.on(&head_of(sent_of(frame)?, stream))?)
-        }
-        [frame, stream, "reset"] => judge_and_reset(halves, sent_of(frame)?, stream_of(stream)?),
-        [frame, first, "to", last] => {
-            judge_each(halves, sent_of(frame)?, stream_of(first)?, stream_of(last)?)
-        }
-        _ => bail!("that is no step"),
-    }
-}
-
-/// Takes the steps that are listed with commas.
-fn take_steps(alloc: Global, halves: &mut Halves, steps: &str) -> Result<()> {
-    if steps.trim().is_empty() {
-        return Ok(());
-    }
+/// The verdict on a frame behind steps, which are listed with commas.
+fn verdict_after(alloc: Global, steps: &str, frame: &str, stream: StreamId) -> Result<HalfVerdict> {
+    let mut halves = Halves::new(alloc);
     for text in steps.split(',') {
         let words: Vec<&str> = text.split_whitespace().collect(alloc)?;
-        step(halves, words.as_slice()).context(format_args!("{text}"))?;
+        if !words.is_empty() {
+            step(&mut halves, words.as_slice())?;
+        }
+    }
+    judge(&mut halves, frame, stream, false)
+}
+
+/// What came before, and the verdict of each kind of frame on a stream.
+pub fn table(alloc: Global, given: &str, answer: &mut String) -> Result<()> {
+    let (steps, stream) = given.split_once(':').context("the row has no colon")?;
+    let stream = number(stream.trim())?;
+    for frame in KINDS {
+        if !answer.is_empty() {
+            answer.push(' ')?;
+        }
+        answer.push_str(name_of(verdict_after(alloc, steps, frame, stream)?))?;
     }
     Ok(())
 }
 
-/// The verdict on a frame of a kind, behind those steps.
-fn verdict_after(alloc: Global, steps: &str, sent: Sent, stream: StreamId) -> Result<HalfVerdict>
-    requires { 0 < stream }
-{
-    let mut halves = Halves::new(alloc);
-    take_steps(alloc, &mut halves, steps)?;
-    Ok(halves.on(&head_of(sent, stream))?)
-}
-
-/// What came before, and the verdict of each kind of frame on a stream.
-#[derive(Drop)]
-pub struct Table;
-
-impl Subject for Table {
-    fn restart(&mut self, _alloc: Global) {}
-
-    fn answer(&mut self, alloc: Global, given: Given<'_>, answer: &mut String) -> Result<()> {
-        let (steps, stream) = given.text.split_once(':').context("the row has no colon")?;
-        let stream = stream_of(stream.trim())?;
-        for sent in KINDS {
-            if !answer.is_empty() {
-                answer.push(' ')?;
-            }
-            answer.push_str(name_of(verdict_after(alloc, steps, sent, stream)?))?;
-        }
-        Ok(())
-    }
-}
-
 /// A connection from its first frame on: a step, and the verdict.
-#[derive(Drop)]
-pub struct Connection {
-    halves: Halves,
-}
-
-impl Connection {
-    pub fn new(alloc: Global) -> Connection {
-        Connection {
-            halves: Halves::new(alloc),
-        }
-    }
-}
-
-impl Subject for Connection {
-    fn restart(&mut self, alloc: Global) {
-        self.halves = Halves::new(alloc);
-    }
-
-    fn answer(&mut self, _alloc: Global, given: Given<'_>, answer: &mut String) -> Result<()> {
-        answer.push_str(name_of(step(&mut self.halves, given.words)?))?;
-        Ok(())
-    }
+pub fn streams(halves: &mut Halves, words: &[&str], answer: &mut String) -> Result<()> {
+    answer.push_str(name_of(step(halves, words)?))?;
+    Ok(())
 }

@@ -1,10 +1,10 @@
 //! The two ends of the in side, over a ring, and over a row of cells.
 ghost use Rattle.std.specs.Prelude.{◌≡◌, OnOk};
 
-use account::{Shut, Told};
+use account::{OutItem, Shut, Told};
 use anyhow::Result;
 use bytes::Bytes;
-use callbox::{Feeder, InAccount, InPiece, Taken, Taker, open_in, settle_in};
+use callbox::{Feeder, InAccount, InPiece, Taken, Taker, open_call, settle_in};
 use lane::{End, Lane, RingLane, RowLane};
 use lpm::LpmFault;
 use std::alloc::Global;
@@ -41,7 +41,9 @@ fn takes<L: Lane<Item = InPiece>>(taker: &mut Taker<L>, len: usize, credit: u32)
 }
 
 pub fn keep_what_was_polled(alloc: Global) -> Result<bool> {
-    let (mut feeder, mut taker) = open_in::<RingLane<InPiece>>(alloc, 3)?;
+    let (mut feeder, mut taker, _, _) = open_call::<RingLane<InPiece>, RingLane<OutItem>>(
+        alloc, 1, 3, 0,
+    )?;
     // A message's first bytes; its last one, with an empty message and the first bytes of another; and that one's last.
     let are_fed = feeds(alloc, &mut feeder, &[0, 0, 0])?
         && feeds(alloc, &mut feeder, &[0, 1, 0x41, 0, 0, 0, 0, 0])?
@@ -64,7 +66,7 @@ pub fn keep_what_was_polled(alloc: Global) -> Result<bool> {
 
 /// A message in two pieces, and a piece of the next, which isn't polled for it: the bytes of two return.
 fn credits_what_was_polled<L: Lane<Item = InPiece>>(alloc: Global) -> Result<bool> {
-    let (mut feeder, mut taker) = open_in::<L>(alloc, 3)?;
+    let (mut feeder, mut taker, _, _) = open_call::<L, RingLane<OutItem>>(alloc, 1, 3, 0)?;
     let are_fed = feeds(alloc, &mut feeder, &[0, 0, 0])?
         && feeds(alloc, &mut feeder, &[0, 1, 0x41])?
         && feeds(alloc, &mut feeder, &[0])?;

@@ -17,12 +17,12 @@ fn fills_and_empties<L: Lane<Item = u64>>(alloc: Global) -> Result<bool> {
     let shut = L::last(tx, 13);
     let is_placed = L::placed(&shut);
     let first = poll_copy::<u64, L>(&mut rx);
-    let again = L::again(&mut rx).copied();
+    let polled = L::polled(&mut rx).copied();
     let second = poll_copy::<u64, L>(&mut rx);
     let last = poll_copy::<u64, L>(&mut rx);
     let nothing = poll_copy::<u64, L>(&mut rx);
     let settled = L::settle(End::Shut(shut), rx);
-    let are_got = first == Some(10) && again == Some(10) && second == Some(11);
+    let are_got = first == Some(10) && polled == Some(10) && second == Some(11);
     let is_end = last == Some(13) && nothing.is_none();
     let is_settled = settled.put == 3 && settled.got == 3 && settled.left == 0;
     Ok(are_put && is_full && is_placed && are_got && is_end && is_settled)
@@ -62,7 +62,7 @@ fn is_found<L: Lane<Item = u64>>(alloc: Global, room: u32) -> Result<bool> {
 
 pub fn are_found(alloc: Global) -> Result<bool> {
     let mut are_found = true;
-    for room in [0, 1, 2, 3, 255, 256] {
+    for room in [0, 1, 2, 3, 15, 16, 17, 18, 255, 256] {
         are_found &= is_found::<RingLane<u64>>(alloc, room)?;
         are_found &= is_found::<RowLane<u64>>(alloc, room)?;
     }

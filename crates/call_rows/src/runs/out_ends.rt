@@ -4,7 +4,7 @@ ghost use Rattle.std.specs.Prelude.{◌≡◌, []};
 use account::OutItem;
 use anyhow::Result;
 use bytes::Bytes;
-use callbox::{FramedFault, Giver, OutAccount, Sender, open_out, settle_out};
+use callbox::{FramedFault, Giver, InPiece, OutAccount, Sender, open_call, settle_out};
 use lane::{End, Lane, RingLane};
 use lists::{Field, Octets, Sequence};
 use std::alloc::{AllocError, Global};
@@ -99,7 +99,9 @@ fn sends<L: Lane<Item = OutItem>>(sender: &mut Sender<L>, bytes: &[u8]) -> bool
 pub fn send_what_is_given(alloc: Global) -> Result<bool> {
     let head = fields(alloc)?;
     let trailers = fields(alloc)?;
-    let (mut giver, mut sender) = open_out::<RingLane<OutItem>>(alloc, 7, 3)?;
+    let (_, _, mut giver, mut sender) = open_call::<RingLane<InPiece>, RingLane<OutItem>>(
+        alloc, 7, 0, 3,
+    )?;
     let is_given = begins(&mut giver, head) && goes_on(&mut giver);
     if !giver.has_head() {
         return Ok(false);

@@ -25,9 +25,9 @@ pub fn meeting_keeps(alloc: Global) -> Result<bool> {
     let are_put = Numbers::put(&mut tx, 1).is_ok() && Numbers::put(&mut tx, 2).is_ok();
     let first = Numbers::poll(&mut rx).copied();
     let left = Numbers::meet(&mut tx, &mut rx);
-    let again = Numbers::again(&mut rx).copied();
+    let polled = Numbers::polled(&mut rx).copied();
     let second = Numbers::poll(&mut rx).copied();
-    Ok(are_put && left == 1 && first == Some(1) && again == Some(1) && second == Some(2))
+    Ok(are_put && left == 1 && first == Some(1) && polled == Some(1) && second == Some(2))
 }
 
 pub fn moves(alloc: Global) -> Result<bool> {

@@ -1,11 +1,12 @@
 //! A call whose ends are in threads of their own.
 ghost use Rattle.std.specs.Prelude.{IfOk, All, length, ◌≤◌};
 
+use super::four_threads::{Answer, Request, run_call};
 use super::out_ends::{FRAMED, bytes_of, fields};
 use account::{OutItem, Shut, Told};
 use anyhow::Result;
 use bytes::Bytes;
-use callbox::{Answer, InAccount, InPiece, OutAccount, Request, answer_elsewhere, run_call};
+use callbox::{InAccount, InPiece, OutAccount};
 use lane::RingLane;
 use std::alloc::{AllocError, Global};
 use std::sync::Wait;
@@ -60,13 +61,4 @@ pub fn four_ends<R: Threads + Wait + Sync>(rt: &R, alloc: Global) -> Result<bool
     let is_taken = ran.taken.get(1).map(|message| message.as_slice()) == Some([8, 1].as_slice());
     let is_sent = ran.sent.get(1).map(bytes_of) == Some(FRAMED);
     Ok(ran.input == input && ran.output == output && is_taken && is_sent)
-}
-
-pub fn sender_elsewhere<R: Threads + Wait + Sync>(rt: &R, alloc: Global) -> Result<bool> {
-    let answer = answer(alloc)?;
-    let Some((output, sent)) = answer_elsewhere::<RingLane<OutItem>, R>(rt, alloc, 2, answer)?
-    else {
-        return Ok(false);
-    };
-    Ok(output.given == 3 && output.sent == 3 && output.trailers_sent && sent.len() == 3)
 }

@@ -116,7 +116,7 @@ fn take_turns<I: Lane<Item = InPiece>, O: Lane<Item = OutItem>, P: Pace>(
     ensures why { IsWhy turns result.0 result.1 }
     ensures over { result.1 ≡ why.Over → is_open run.new.response ≡ false }
     ensures left { is_left run.new.response ≡ true → (is_left run.old.response ≡ true)
-        ⊎ (lacks_memory run.new.call.handling.ending ≡ true) ⊎ (O.only_fills ≡ false) }
+        ⊎ (lacks_memory run.new.call.handling.ending ≡ true) ⊎ O.MayMiss }
 {
     let mut last = Turn::Went;
     for had in 0..turns {
@@ -155,7 +155,7 @@ pub fn run_call<I: Lane<Item = InPiece>, O: Lane<Item = OutItem>, P: Pace>(
     ensures turns { CountsOn (P.turns pace.old) (P.turns pace.new) result.turns }
     ensures lefts { CountsOn (P.lefts pace.old) (P.lefts pace.new) (leaves result.why) }
     ensures had { HadTurns turns result.turns result.why
-        (of_end (λ g. false) (λ s. true) result.end) result.ran_out O.only_fills }
+        (of_end (λ g. false) (λ s. true) result.end) result.ran_out O.MayMiss }
 {
     let Opened {
         index,
@@ -213,7 +213,7 @@ pub fn run_list<I: Lane<Item = InPiece>, O: Lane<Item = OutItem>, P: Pace>(
         (sum_by (λ end. leaves end.why) ended.items)) }
     ensures had { IfOk result
         (λ ended. All (λ end. HadTurns turns end.turns end.why
-        (of_end (λ g. false) (λ s. true) end.end) end.ran_out O.only_fills) ended.items) }
+        (of_end (λ g. false) (λ s. true) end.end) end.ran_out O.MayMiss) ended.items) }
 {
     let mut waiting = calls;
     let mut ended = Vec::with_capacity(alloc, waiting.len())?;

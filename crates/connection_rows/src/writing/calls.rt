@@ -3,7 +3,7 @@
 use account::OutItem;
 use anyhow::{Result, bail};
 use bytes::Bytes;
-use callbox::{Giver, Sender, open_out};
+use callbox::{Giver, InPiece, Sender, open_call};
 use lane::{PutFault, RingLane};
 use lists::{Field, Octets, Sequence};
 use std::alloc::Global;
@@ -31,10 +31,18 @@ pub fn fields(alloc: Global, name: &str, len: usize) -> Result<Sequence<Field>> 
 /// The sender of a call that gave a head, messages of these lengths, as `300,20`, and trailers where it ended.
 pub fn sender(alloc: Global, id: u32, lengths: &str, ended: bool) -> Result<Sender<Ring>> {
     let head = fields(alloc, ":status", 3)?;
-    let (mut giver, sender) = open_out::<Ring>(alloc, id, ROOM)?;
+    let (mut giver, sender) = open_response(alloc, id)?;
     given(giver.head(head))?;
     give_all(alloc, giver, lengths, ended)?;
     Ok(sender)
+}
+
+/// The two ends of a call's response.
+fn open_response(alloc: Global, id: u32) -> Result<(Giver<Ring>, Sender<Ring>)> {
+    let (_feeder, _taker, giver, sender) = open_call::<RingLane<InPiece>, Ring>(
+        alloc, id, 1, ROOM,
+    )?;
+    Ok((giver, sender))
 }
 
 /// Why an item was not given, as an error.

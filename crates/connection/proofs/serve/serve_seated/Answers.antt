@@ -1,4 +1,5 @@
 use Rattle.std.proofs.Common.{[]}
+use Rattle.callparts.specs.Blocks.{items_of}
 use Rattle.connection.proofs.Heard.{consumes-none}
 use Rattle.connection.proofs.Reports.{unbegun}
 use Rattle.connection.proofs.serve.serve_seated.Goals as goal
@@ -10,6 +11,7 @@ returns-in_default g c =
       served = (
         [],
         consumes-none _,
-        unbegun _ _ (λ rows. rows.items) g.O.ConnWrite.contents g.O.ConnWrite.failed _ c.unserved.result.ending c.unserved.result.calls c.args.output c.unserved.result.output is.ending is.output is.calls,
+        unbegun _ _ (λ calls. items_of calls.full calls.last) g.O.ConnWrite.contents g.O.ConnWrite.failed _ c.unserved.result.report.ending c.unserved.result.report.calls c.args.output c.unserved.result.output
+            is.ending is.output is.calls,
       );
     }

@@ -1,9 +1,9 @@
 use Rattle.std.proofs.Common.{◌≡◌, ◌∙◌, ◌∷◌, [], List, Option, ap, subst, sym, ℕ}
-use Rattle.lane.specs.Ring.{out_name, taken}
-use Rattle.slotwriter.specs.Orders.{orders_of}
-use Rattle.slotwriter.specs.Written.{HasSent, HasWritten, Led}
+use Rattle.lane.specs.Ring.{in_name, out_name, taken}
+use Rattle.writerloop.specs.Orders.{orders_of}
+use Rattle.writerloop.specs.Written.{HasSent, HasWritten, Led}
 use Rattle.outwriter.specs.declared.control.Control.TheVariants.{InputEnded}
-use Rattle.connection.proofs.Heard.{ordered-put, put-ended, put-whole}
+use Rattle.connection.proofs.Heard.{closed-behind, ordered-put}
 use Rattle.connection.proofs.writer.start.Goals as goal
 
 pub returns-in-Err-clause-written : goal.returns-in-Err-clause-written
@@ -18,20 +18,20 @@ returns-in-Err-clause-written g c =
 
 pub returns-in-Err-clause-put : goal.returns-in-Err-clause-put
 returns-in-Err-clause-put g c = λ ordered.
-    let more = ordered-put [] InputEnded c.args.orders.now c.put.new.self c.put.ensures.puts ordered in (
-      put-ended (InputEnded ∷ []) c.put.new.self c.close.new.self c.close.ensures.put more,
-      λ none. put-whole (InputEnded ∷ []) c.put.new.self c.close.new.self c.close.ensures.put c.close.ensures.dropped more none,
-    )
+    closed-behind (InputEnded ∷ []) c.put.new.self c.close.new.self c.close.ensures.put c.close.ensures.dropped c.close.ensures.unput
+    (ordered-put [] InputEnded c.args.orders.now c.put.new.self c.put.ensures.puts tt ordered)
 
 pub spawn_with-requires-clause-keeps : goal.spawn_with-requires-clause-keeps
 spawn_with-requires-clause-keeps g c = λ κs within r claims.
     let contents = g.W.ConnWrite.contents in
     let failed = g.W.ConnWrite.failed in
     let kept : (out_name r.written.orders ≡ out_name c.of-2.result.value)
-    × HasSent contents failed (contents c.of.result.value) r.told.amount (taken r.written.orders) r.written.senders.places.items r.written.ending r.written.is_faultless r.written.resets.items r.written.blamed.items r.written.device
+    × (in_name r.written.rest.sends.home ≡ in_name c.of-3.result.value)
+    × HasSent contents failed (contents c.of.result.value) r.told.amount (taken r.written.orders) r.written.rest r.written.ending r.written.is_faultless r.written.device
     × (r.told.parts ≡ g.C.Ledger.parts) = (
       claims.0 ∙ (ap out_name c.new-writing.ensures.ring ∙ ap out_name (sym c.of-2.ensures)),
-      claims.1.0 (contents c.of.result.value)
+      claims.1.0 ∙ (ap in_name c.new-writing.ensures.way ∙ ap in_name (sym c.of-3.ensures)),
+      claims.1.1.0 (contents c.of.result.value)
           (subst (λ (credit : ℕ). Led contents failed (contents c.of.result.value) credit c.new-writing.result) (sym c.requires.untold) c.new-writing.ensures.led),
-      claims.1.1,
+      claims.1.1.1,
     ) in kept

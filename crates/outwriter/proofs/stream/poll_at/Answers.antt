@@ -1,6 +1,5 @@
-use Rattle.outwriter.specs.Cores.{lane_and_past}
 use Rattle.outwriter.specs.Polls.{coming}
-use Rattle.outwriter.proofs.ServeStepsTake.{end-same, polled-at, ahead-elsewhere, lanes-same}
+use Rattle.outwriter.proofs.ServeStepsTake.{polled-at, ahead-elsewhere, lanes-same}
 use Rattle.outwriter.proofs.stream.poll_at.Goals as goal
 
 pub returns-in-Some-clause-takes : goal.returns-in-Some-clause-takes
@@ -13,5 +12,5 @@ returns-in-Some-clause-ahead g c = λ k ne. ahead-elsewhere (coming g.L.Lane.got
 
 pub returns-in-Some-clause-senders : goal.returns-in-Some-clause-senders
 returns-in-Some-clause-senders g c =
-    lanes-same (lane_and_past g.L.Lane.out_name g.L.Lane.past_out) c.args.senders.now.items c.args.place c.in-Some.call.now c.poll.new.sender c.in-Some.ensures.value c.poll.ensures.id
-    (end-same g.L.Lane.out_name g.L.Lane.past_out c.poll.new.sender.rx c.in-Some.call.now.1.rx c.poll.ensures.name c.poll.ensures.past)
+    lanes-same g.L.Lane.out_name c.args.senders.now.items c.args.place c.in-Some.call.now c.poll.new.sender c.in-Some.ensures.value c.poll.ensures.id
+    c.poll.ensures.name

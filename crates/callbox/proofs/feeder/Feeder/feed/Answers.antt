@@ -1,7 +1,7 @@
 use Rattle.std.proofs.Common.{ℕ, ◌+◌, min, ◌∙◌, ap}
 use Rattle.callbox.specs.declared.piece.InPiece.TheVariants as piece
 use Rattle.callbox.proofs.InLemmas.{fed_more, shut_of-push}
-use Rattle.callbox.specs.InSides.{all_end_at_shut, shut_of}
+use Rattle.callbox.specs.InSides.{shut_of}
 use Rattle.callbox.proofs.feeder.Feeder.feed.Goals as goal
 
 pub invariant_of-self-clause-counted : goal.invariant_of-self-clause-counted
@@ -14,6 +14,3 @@ invariant_of-self-clause-counted g c =
 pub invariant_of-self-clause-unshut : goal.invariant_of-self-clause-unshut
 invariant_of-self-clause-unshut g c =
     ap shut_of c.in-Ok.ensures.ok ∙ shut_of-push (g.L.Lane.put_in c.args.self.now.tx) (piece.Bytes c.args.piece) c.args.self.now.unshut
-
-pub invariant_of-self-clause-past : goal.invariant_of-self-clause-past
-invariant_of-self-clause-past g c = ap all_end_at_shut c.put.ensures.past ∙ c.args.self.now.past

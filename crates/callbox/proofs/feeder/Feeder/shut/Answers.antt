@@ -1,5 +1,4 @@
-use Rattle.std.proofs.Common.{ap, ◌∙◌}
-use Rattle.callbox.specs.InSides.{all_end_at_shut}
+use Rattle.std.proofs.Common.{◌∙◌}
 use Rattle.callbox.proofs.InLemmas.{placed_counted, placed_last, placed_shut}
 use Rattle.callbox.proofs.feeder.Feeder.shut.Goals as goal
 
@@ -12,5 +11,4 @@ invariant_of-result g c =
       counted = c.args.self.counted ∙ placed_counted placed put new c.args.kind c.last-shut.ensures.put;
       last = placed_last placed put new c.args.kind c.args.self.unshut c.last-shut.ensures.put;
       put = placed_shut placed put new c.args.kind c.args.self.unshut c.last-shut.ensures.put;
-      past = ap all_end_at_shut c.last-shut.ensures.past ∙ c.args.self.past;
     }

@@ -1,6 +1,6 @@
 use Rattle.std.proofs.Common.{sym, ap, subst, ◌∙◌}
 use Rattle.account.specs.Accounts.{IsResponse}
-use Rattle.callbox.specs.OutSides.{EachResponse, has_end, has_head}
+use Rattle.callbox.specs.OutSides.{has_end, has_head}
 use Rattle.callbox.proofs.giver.Giver.check_room.Goals as goal
 
 pub invariant_of-self : goal.invariant_of-self
@@ -11,5 +11,4 @@ invariant_of-self g c =
       begins = old.begins ∙ ap has_head (sym same);
       response = subst IsResponse (sym same) old.response;
       unshut = ap has_end same ∙ old.unshut;
-      past = subst EachResponse (sym c.check_room.ensures.past) old.past;
     }

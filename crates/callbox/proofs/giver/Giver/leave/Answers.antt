@@ -1,5 +1,3 @@
-use Rattle.std.proofs.Common.{sym, subst}
-use Rattle.callbox.specs.OutSides.{EachResponse}
 use Rattle.callbox.proofs.OutLemmas.{left_response, left_closed, no_trailers}
 use Rattle.callbox.proofs.giver.Giver.leave.Goals as goal
 
@@ -11,5 +9,4 @@ invariant_of-result g c =
     record {
       response = left_response placed put new c.args.self.response c.args.self.unshut c.last-shut.ensures.put;
       closed = left_closed placed put new (no_trailers put c.args.self.unshut) c.last-shut.ensures.put;
-      past = subst EachResponse (sym c.last-shut.ensures.past) c.args.self.past;
     }

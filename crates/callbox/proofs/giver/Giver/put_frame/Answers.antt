@@ -1,6 +1,6 @@
-use Rattle.std.proofs.Common.{◌≡◌, true, false, List, sym, subst, ◌∙◌}
+use Rattle.std.proofs.Common.{◌≡◌, true, false, List, sym, ◌∙◌}
 use Rattle.account.specs.Accounts.{IsResponse}
-use Rattle.callbox.specs.OutSides.{EachResponse, has_end, has_head}
+use Rattle.callbox.specs.OutSides.{has_end, has_head}
 use Rattle.account.specs.declared.call.OutItem.{OutItem}
 use Rattle.account.specs.declared.call.OutItem.TheVariants as out_item
 use Rattle.callbox.proofs.OutLemmas.{has_end-push, has_head-push, put_or_kept, response_frame}
@@ -18,5 +18,4 @@ invariant_of-self g c =
       begins = begun ∙ sym (put_or_kept (λ (items : List OutItem). has_head items ≡ true) c.put.result put new item c.put.ensures.ok c.put.ensures.unchanged c.requires.head (has_head-push put item c.requires.head));
       response = put_or_kept IsResponse c.put.result put new item c.put.ensures.ok c.put.ensures.unchanged old.response response;
       unshut = put_or_kept (λ (items : List OutItem). has_end items ≡ false) c.put.result put new item c.put.ensures.ok c.put.ensures.unchanged old.unshut (has_end-push put item old.unshut);
-      past = subst EachResponse (sym c.put.ensures.past) old.past;
     }

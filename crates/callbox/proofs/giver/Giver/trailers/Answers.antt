@@ -1,5 +1,3 @@
-use Rattle.std.proofs.Common.{sym, subst}
-use Rattle.callbox.specs.OutSides.{EachResponse}
 use Rattle.callbox.proofs.OutLemmas.{no_trailers, placed_response, placed_closed}
 use Rattle.callbox.proofs.giver.Giver.trailers.Goals as goal
 
@@ -11,5 +9,4 @@ invariant_of-result g c =
     record {
       response = placed_response placed put new c.args.fields c.args.self.response c.args.self.unshut c.last-shut.ensures.put;
       closed = placed_closed placed put new c.args.fields (no_trailers put c.args.self.unshut) c.last-shut.ensures.put;
-      past = subst EachResponse (sym c.last-shut.ensures.past) c.args.self.past;
     }

@@ -14,7 +14,6 @@ loop-preserved g c =
     record {
       told = c.accept.ensures.told;
       name = c.poll.ensures.name ∙ c.loop.invariant.name;
-      past = c.poll.ensures.past ∙ c.loop.invariant.past;
       took = λ messages t.
           subst (λ (items : List InPiece). Took items c.accept.new.self messages) (sym polled.1)
           (c.accept.ensures.took before item messages (c.in_default.ensures.took before messages (c.loop.invariant.took messages t)) polled.2);

@@ -16,7 +16,6 @@ returns-in_default g c = record {
       (opened_run _ _ _ _ _ _ _ _ _ _ _ _ c.requires.open
       (λ given before. c.answer.ensures.run _ _ messages given c.take.ensures.tells before) run);
   in_name = c.take.ensures.name;
-  in_past = c.take.ensures.past;
   same = (refl, refl, refl, c.answer.ensures.same);
   turn = inl refl;
   went = λ went. (c.take.result, c.in_default.not-Nothing, c.take.ensures.tells, c.take.ensures.took);

@@ -22,8 +22,8 @@ returns-clause-run g c =
 pub returns-clause-had : goal.returns-clause-had
 returns-clause-had g c = record {
   why = c.take_turns-turns.ensures.why;
-  over = λ is. subst (λ (shut : Bool). (shut ≡ true) ⊎ (c.ran_out-ran_out.result ≡ true) ⊎ (g.O.Lane.only_fills ≡ false))
+  over = λ is. subst (λ (shut : Bool). (shut ≡ true) ⊎ (c.ran_out-ran_out.result ≡ true) ⊎ g.O.Lane.MayMiss)
       (sym (c.into_ends-taker.ensures.shut ∙ c.leave.ensures.shut))
-      (subst (λ (lacks : Bool). (is_shut c.take_turns-turns.new.run.response ≡ true) ⊎ (lacks ≡ true) ⊎ (g.O.Lane.only_fills ≡ false)) (sym c.ran_out-ran_out.ensures)
+      (subst (λ (lacks : Bool). (is_shut c.take_turns-turns.new.run.response ≡ true) ⊎ (lacks ≡ true) ⊎ g.O.Lane.MayMiss) (sym c.ran_out-ran_out.ensures)
       (over_so _ c.take_turns-turns.new.run.response _ _ c.new-run.ensures.open c.take_turns-turns.new.run.there (c.take_turns-turns.ensures.over is) c.take_turns-turns.ensures.left));
 }

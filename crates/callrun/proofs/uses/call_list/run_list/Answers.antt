@@ -26,7 +26,7 @@ loop-call-preserved g c = record {
       (c.run_call.ensures.run, c.run_call.ensures.in_name, c.run_call.ensures.name);
   turns = counts_push _ _ _ _ _ _ _ c.in_ok-push.ensures.items c.loop-call.invariant.turns c.run_call.ensures.turns;
   lefts = counts_push _ _ _ _ _ _ _ c.in_ok-push.ensures.items c.loop-call.invariant.lefts c.run_call.ensures.lefts;
-  had = all_push (λ end. HadTurns c.args.turns end.turns end.why (of_end (λ giver. false) (λ s. true) end.end) end.ran_out g.O.Lane.only_fills) _ _ _ c.in_ok-push.ensures.items c.loop-call.invariant.had c.run_call.ensures.had;
+  had = all_push (λ end. HadTurns c.args.turns end.turns end.why (of_end (λ giver. false) (λ s. true) end.end) end.ran_out g.O.Lane.MayMiss) _ _ _ c.in_ok-push.ensures.items c.loop-call.invariant.had c.run_call.ensures.had;
   index = rest_of c.in-Some.call _ _ (λ call. call.index < length (listed c.args.methods.now)) c.in-Some.ensures.items c.loop-call.invariant.index;
   untouched = rest_of c.in-Some.call _ _ (λ call. IsUntouched (g.I.Lane.got call.taker.rx) call.taker.progress (g.O.Lane.put_in call.giver.tx)) c.in-Some.ensures.items c.loop-call.invariant.untouched;
 }

@@ -20,7 +20,7 @@ invariant-loop-call g l =
           l.fn.calls.items l.waiting.items l.ended.items;
       turns : CountsOn (g.P.Pace.turns l.fn.pace) (g.P.Pace.turns l.pace) (sum_by (λ end. end.turns) l.ended.items);
       lefts : CountsOn (g.P.Pace.lefts l.fn.pace) (g.P.Pace.lefts l.pace) (sum_by (λ end. leaves end.why) l.ended.items);
-      had : All (λ end. HadTurns l.turns end.turns end.why (of_end (λ giver. false) (λ s. true) end.end) end.ran_out g.O.Lane.only_fills) l.ended.items;
+      had : All (λ end. HadTurns l.turns end.turns end.why (of_end (λ giver. false) (λ s. true) end.end) end.ran_out g.O.Lane.MayMiss) l.ended.items;
       index : All (λ call. call.index < length (listed l.methods)) l.waiting.items;
       untouched : All (λ call. IsUntouched (g.I.Lane.got call.taker.rx) call.taker.progress (g.O.Lane.put_in call.giver.tx)) l.waiting.items;
     }

@@ -26,5 +26,5 @@ invariant-loop-had g l =
       stays : g.P.Pace.latest l.fn.pace ≤ g.P.Pace.latest l.pace;
       turns : CountsOn (g.P.Pace.turns l.fn.pace) (g.P.Pace.turns l.pace) l.had;
       lefts : CountsOn (g.P.Pace.lefts l.fn.pace) (g.P.Pace.lefts l.pace) 0;
-      left : is_left l.run.response ≡ true → (is_left l.fn.run.response ≡ true) ⊎ (lacks_memory l.run.call.handling.ending ≡ true) ⊎ (g.O.Lane.only_fills ≡ false);
+      left : is_left l.run.response ≡ true → (is_left l.fn.run.response ≡ true) ⊎ (lacks_memory l.run.call.handling.ending ≡ true) ⊎ g.O.Lane.MayMiss;
     }

@@ -7,13 +7,13 @@ turns-init g c = record { goes_on = goes_none _ _ (listed c.args.methods.now) c.
 
 pub turns-preserved : goal.turns-preserved
 turns-preserved g c = record {
-  goes_on = goes_then _ _ (listed c.args.methods.now) c.args.run.now c.turns.run c.step.new.run c.turns.invariant.same.4 c.turns.invariant.goes_on c.step.ensures.goes_on;
+  goes_on = goes_then _ _ (listed c.args.methods.now) c.args.run.now c.turns.run c.step.new.run c.turns.invariant.same.2 c.turns.invariant.goes_on c.step.ensures.goes_on;
   same = one_call_then c.args.run.now c.turns.run c.step.new.run c.turns.invariant.same c.step.ensures.same;
 }
 
 pub returns-then-not-step-clause-goes_on : goal.returns-then-not-step-clause-goes_on
 returns-then-not-step-clause-goes_on g c =
-    goes_then _ _ (listed c.args.methods.now) c.args.run.now c.turns.run c.step.new.run c.turns.invariant.same.4 c.turns.invariant.goes_on c.step.ensures.goes_on
+    goes_then _ _ (listed c.args.methods.now) c.args.run.now c.turns.run c.step.new.run c.turns.invariant.same.2 c.turns.invariant.goes_on c.step.ensures.goes_on
 
 pub returns-then-not-step-clause-same : goal.returns-then-not-step-clause-same
 returns-then-not-step-clause-same g c = one_call_then c.args.run.now c.turns.run c.step.new.run c.turns.invariant.same c.step.ensures.same

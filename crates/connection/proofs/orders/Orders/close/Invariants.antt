@@ -1,8 +1,8 @@
 use Rattle.std.proofs.Common.{◌≡◌}
 use Rattle.lane.specs.Ring.{put_in}
-use Rattle.outwriter.specs.declared.control.Control.TheVariants.{Close}
 use Rattle.connection.proofs.orders.Orders.close.Given as goal
 
 -- nothing was put yet
 abbrev pub invariant-tries : goal.invariant-tries
-invariant-tries g l = (put_in l.self.outbox.ring ≡ put_in l.fn.self.outbox.ring) × (l.self.has_dropped ≡ l.fn.self.has_dropped) × (l.order ≡ Close)
+invariant-tries g l =
+    (put_in l.self.outbox.ring ≡ put_in l.fn.self.outbox.ring) × (l.self.has_dropped ≡ l.fn.self.has_dropped) × (l.self.unput ≡ l.fn.self.unput)

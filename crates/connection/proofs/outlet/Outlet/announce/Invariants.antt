@@ -1,5 +1,5 @@
 use Rattle.std.proofs.Common.{◌≡◌, ◌<◌}
-use Rattle.slotwriter.specs.Written.{LeadsTo}
+use Rattle.writerloop.specs.Written.{LeadsTo}
 use Rattle.connection.proofs.outlet.Outlet.announce.Given as goal
 
 abbrev pub invariant-calls : goal.invariant-calls

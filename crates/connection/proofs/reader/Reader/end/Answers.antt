@@ -1,24 +1,30 @@
-use Rattle.std.proofs.Common.{◌∙◌, [], ◌∷◌, ◌++◌, refl}
-use Rattle.std.proofs.lemmas.List.{append_assoc}
-use Rattle.outwriter.specs.declared.control.Control.TheVariants.{InputEnded, Close}
-use Rattle.slots.specs.Lines.{calls_of}
-use Rattle.slots.specs.Orders.{orders_by}
-use Rattle.connection.proofs.Heard.{lined-closed, lined-plain, ordered-put, put-ended, put-whole}
+use Rattle.std.proofs.Common.{[], ◌∷◌, ◌++◌}
+use Rattle.outwriter.specs.declared.control.Control.TheVariants.{InputEnded}
+use Rattle.readerloop.specs.Orders.{orders_by}
+use Rattle.connection.proofs.Heard.{closed-behind, collects-seats, collects-then, grows-home, grows-then, ordered-put, ordered-same, same-of}
 use Rattle.connection.proofs.reader.Reader.end.Goals as goal
 
-pub returns : goal.returns
-returns g c = λ told reads.
-    let a = c.cut_all.ensures told reads in
-    let steps = a.0 ++ told in (
-      a.0,
-      calls_of c.cut_all.new.self.reading.slots,
-      record { silent = a.1.silent; calm = a.1.calm; rising = a.1.reads.slots.rising; closed = a.1.reads.slots.closed; rows = c.end-ended.ensures.rows steps tt a.1.reads },
-      c.end-ended.ensures.abandoned steps a.1.reads,
-      c.end-ended.ensures.ends tt,
-      λ lined. lined-closed _ c.put.new.self c.close.new.self c.close.ensures.put (lined-plain _ InputEnded c.cut_all.new.self.orders c.put.new.self refl tt c.put.ensures.puts (a.1.lined lined)),
-      λ ordered.
-          let more = ordered-put (orders_by steps) InputEnded c.cut_all.new.self.orders c.put.new.self c.put.ensures.puts (a.1.ordered ordered) in (
-            put-ended (orders_by steps ++ InputEnded ∷ []) c.put.new.self c.close.new.self c.close.ensures.put more,
-            λ none. put-whole (orders_by steps ++ InputEnded ∷ []) c.put.new.self c.close.new.self c.close.ensures.put c.close.ensures.dropped more none ∙ append_assoc (orders_by steps) (InputEnded ∷ []) (Close ∷ []),
-          ),
+pub returns-clause-grows : goal.returns-clause-grows
+returns-clause-grows g c =
+    grows-then c.args.self.now.reading c.cut_all.new.self.reading _ (grows-home c.args.self.now.reading c.cut_all.new.self.reading c.cut_all.ensures.cuts.0)
+    (collects-then _ _ _ (collects-seats _ _ c.ring_noted.ensures.rest)
+    (collects-then _ _ _ (collects-seats _ _ c.end.ensures.rest) (collects-then _ _ _ (collects-seats _ _ c.join_all.ensures.reading) c.close.ensures.collects))).grows
+
+pub returns-clause-ended : goal.returns-clause-ended
+returns-clause-ended g c = λ sent told carried reads.
+    let cuts = c.cut_all.ensures.cuts.1 sent told reads in
+    let rest = collects-then _ _ _ (collects-seats _ _ c.ring_noted.ensures.rest)
+    (collects-then _ _ _ (collects-seats _ _ c.end.ensures.rest) (collects-then _ _ _ (collects-seats _ _ c.join_all.ensures.reading) c.close.ensures.collects)) in (
+      cuts.0,
+      record {
+        silent = cuts.1.silent;
+        calm = cuts.1.calm;
+        reads = rest.keeps sent (cuts.0 ++ told) carried cuts.1.reads;
+        ordered = λ ordered.
+            let all = orders_by (cuts.0 ++ told) ++ InputEnded ∷ [] in
+            closed-behind all c.join_all.new.self.orders c.close.new.self.orders c.close.ensures.put c.close.ensures.dropped c.close.ensures.unput
+            (ordered-same all c.ring.new.self c.join_all.new.self.orders (same-of c.ring.new.self c.join_all.new.self.orders c.join_all.ensures.orders)
+            (ordered-same all c.put.new.self c.ring.new.self (c.ring.ensures.outbox, c.ring.ensures.dropped, c.ring.ensures.unput)
+            (ordered-put (orders_by (cuts.0 ++ told)) _ c.cut_all.new.self.orders c.put.new.self c.put.ensures.puts tt (cuts.1.ordered ordered))));
+      },
     )

@@ -1,4 +1,7 @@
+use Rattle.std.proofs.Common.{[], ◌∷◌, ap, sym}
+use Rattle.session.specs.declared.event.InEvent.{InEvent}
 use Rattle.connection.proofs.Follow.{with-as}
+use Rattle.connection.proofs.Heard.{with-events}
 use Rattle.connection.proofs.reader.Reader.follow.Goals as goal
 
 pub returns-in-BadHead : goal.returns-in-BadHead
@@ -21,3 +24,12 @@ returns-in-PeerGoaway g c = record { reads = with-as _ _ _ _ _ _ _ _ c.in-PeerGo
 
 pub returns-in-Fatal : goal.returns-in-Fatal
 returns-in-Fatal g c = record { reads = with-as _ _ _ _ _ _ _ _ c.in-Fatal.is c.fatal.ensures.reads }
+
+pub returns-in-Open : goal.returns-in-Open
+returns-in-Open g c = record { reads = with-events _ _ _ _ _ _ _ _ _ (ap (λ (e : InEvent). e ∷ []) (sym c.in-Open.is)) c.open.ensures.reads }
+
+pub returns-in-Data : goal.returns-in-Data
+returns-in-Data g c = record { reads = with-events _ _ _ _ _ _ _ _ _ (ap (λ (e : InEvent). e ∷ []) (sym c.in-Data.is)) c.data.ensures.reads }
+
+pub returns-in-Loose : goal.returns-in-Loose
+returns-in-Loose g c = record { reads = with-events _ _ _ _ _ _ _ _ _ (ap (λ (e : InEvent). e ∷ []) (sym c.in-Loose.is)) c.loose.ensures.reads }

@@ -1,4 +1,4 @@
-use Rattle.std.proofs.Common.{List, [], ◌∷◌, ◌∙◌, Option, None, ap, arith, length, subst, sym}
+use Rattle.std.proofs.Common.{◌≡◌, List, [], ◌∷◌, ◌++◌, ◌∙◌, Option, None, ap, append-nil, arith, length, subst, sym}
 use Rattle.std.specs.Vec.Iter.{into_iter_steps}
 use Rattle.session.specs.declared.event.InEvent.{InEvent}
 use Rattle.connection.proofs.Heard.{none-end, parts-more, some-end, with-end, with-events, with-none, with-stop, with-then}
@@ -29,3 +29,14 @@ events-preserved g c =
       parts-more c.events.yielded c.in-Some.event _ _ _ c.events.invariant.1 step.0,
       omega (arith, step.1, c.events.invariant.2, ap (λ (es : List InEvent). length es) step.0),
     )
+
+all-yielded : (yielded left all : List InEvent) → yielded ++ left ≡ all → length left ≡ 0 → yielded ≡ all
+all-yielded yielded [] all parts none = sym (append-nil yielded) ∙ parts
+all-yielded yielded (event ∷ left) all parts none = absurd cc
+
+pub returns : goal.returns
+returns g c = record {
+  reads =
+      let step = subst (λ (o : Option InEvent). into_iter_steps c.events.event-iterator o c.next.new.self) c.in-None.is c.next.ensures.steps in
+      with-events _ _ _ _ _ _ _ _ _ (all-yielded _ _ _ c.events.invariant.1 (omega (arith, step.0, c.events.invariant.2))) c.events.invariant.0;
+}

@@ -1,24 +1,28 @@
 use Rattle.std.proofs.Common.{[], ◌∷◌, refl}
 use Rattle.session.specs.declared.event.InEvent.TheVariants as events
-use Rattle.slots.specs.Readings.{refused_by, unless_ended}
-use Rattle.slots.specs.Steps.{Told}
+use Rattle.readerloop.specs.Readings.{refused_by, unless_ended}
+use Rattle.readerloop.specs.Steps.{Told}
 use Rattle.connection.proofs.Tallies.{covers-more, ended-justified, refused-justified}
 use Rattle.connection.proofs.Heard.{cuts-same, with-behind, with-one, with-open-for}
+use Rattle.connection.proofs.Opens.{admits-none, plain-own}
 use Rattle.connection.proofs.reader.Reader.open.Goals as goal
 
 pub returns-in-Err : goal.returns-in-Err
 returns-in-Err g c = record {
   reads =
-      let draining = c.args.self.now.reading.slots.is_draining in
-      with-one _ _ (events.Open c.args.id c.args.head) (unless_ended c.in-Err.decided.ends (refused_by draining)) _ _ _ _ _ _ _
-      (λ told reads covers.
-      ended-justified (events.Open c.args.id c.args.head) (refused_by draining) told c.in-Err.decided.ends (refused-justified c.args.id c.args.head told draining reads.slots.drains))
-      (λ told covers. covers-more _ (Told (events.Open c.args.id c.args.head) (unless_ended c.in-Err.decided.ends (refused_by draining)) ∷ []) told covers) c.act.ensures.ends c.in-Err.ensures.refused c.in-Err.ensures.aligns c.act.ensures.acts;
+      let draining = c.args.self.now.reading.is_draining in
+      let fate = unless_ended c.in-Err.decided.ends (refused_by draining) in
+      let step = Told (events.Open c.args.id c.args.head) fate in
+      with-one _ _ (events.Open c.args.id c.args.head) fate _ _ _ _ _ _ _
+      (λ sent told reads covers.
+      ended-justified (events.Open c.args.id c.args.head) (refused_by draining) told c.in-Err.decided.ends tt (refused-justified c.args.id c.args.head told draining reads.drains))
+      (λ told covers. covers-more _ (step ∷ []) told covers) c.act.ensures.ends c.open.ensures.home c.in-Err.ensures.refused
+      (λ told is. plain-own told step c.in-Err.decided (admits-none c.args.id c.args.head draining c.in-Err.decided.ends) is) c.act.ensures.acts;
 }
 
 pub returns-in-Ok : goal.returns-in-Ok
 returns-in-Ok g c = record {
   reads =
-      with-behind _ _ _ _ _ _ _ _ _ _ (cuts-same _ _ _ _ _ c.in-Ok.ensures.stays c.in-Ok.ensures.calls (refl, refl))
-      (with-open-for _ _ c.in-Ok.job c.args.id c.args.head _ _ _ _ _ c.in-Ok.ensures.job.0 c.in-Ok.ensures.job.1 c.admit.ensures.reads);
+      with-behind _ _ _ _ _ _ _ _ _ _ (cuts-same _ _ _ _ _ c.open.ensures.home c.in-Ok.ensures.stays (refl, refl, refl))
+      (with-open-for _ _ c.in-Ok.request c.args.id c.args.head _ _ _ _ _ c.in-Ok.ensures.request.0 c.in-Ok.ensures.request.1 c.admit.ensures.reads);
 }

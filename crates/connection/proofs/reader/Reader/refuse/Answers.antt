@@ -1,6 +1,7 @@
+use Rattle.std.proofs.Common.{refl}
 use Rattle.session.specs.declared.event.InEvent.TheVariants as events
-use Rattle.slots.specs.Steps.{Plain}
-use Rattle.slots.specs.Readings.{unless_ended}
+use Rattle.readerloop.specs.Readings.{unless_ended}
+use Rattle.readerloop.specs.Steps.{Plain}
 use Rattle.connection.proofs.Heard.{to-one}
 use Rattle.connection.proofs.Tallies.{ended-justified}
 use Rattle.connection.proofs.reader.Reader.refuse.Goals as goal
@@ -8,5 +9,5 @@ use Rattle.connection.proofs.reader.Reader.refuse.Goals as goal
 pub returns : goal.returns
 returns g c = record {
   reads = to-one (events.BadHead c.args.id c.args.fault) (unless_ended c.refuse-decided.result.ends Plain) _ _ _ _ _ _ _
-      (λ told. ended-justified (events.BadHead c.args.id c.args.fault) Plain told c.refuse-decided.result.ends tt) c.act.ensures.ends c.refuse-decided.ensures.decides c.refuse-decided.ensures.aligns c.act.ensures.acts;
+      (λ told. ended-justified (events.BadHead c.args.id c.args.fault) Plain told c.refuse-decided.result.ends tt tt) c.act.ensures.ends c.refuse-decided.ensures.home refl c.refuse-decided.ensures.decides c.act.ensures.acts;
 }

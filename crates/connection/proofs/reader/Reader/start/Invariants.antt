@@ -1,9 +1,9 @@
-use Rattle.std.proofs.Common.{◌≡◌, false}
-use Rattle.slots.specs.Seats.{KeepsNext}
-use Rattle.connection.specs.Heard.{CutsSome}
+use Rattle.std.proofs.Common.{◌≡◌}
+use Rattle.readerloop.specs.Readings.{KeepsNext}
+use Rattle.connection.specs.Heard.{Collects}
 use Rattle.connection.proofs.reader.Reader.start.Given as goal
 
--- calls may have been cut
+-- nothing was heard meanwhile
 abbrev pub invariant-looks : goal.invariant-looks
-invariant-looks g l = CutsSome g.M.Answering.names false l.fn.self.reading l.fn.self.orders l.self.reading l.self.orders
-    × KeepsNext l.fn.self.reading.slots l.self.reading.slots × (l.job ≡ l.fn.job)
+invariant-looks g l = Collects g.M.Answering.known g.M.Answering.names l.fn.self.reading l.self.reading × KeepsNext l.fn.self.reading l.self.reading
+    × (l.self.orders ≡ l.fn.self.orders)

@@ -1,17 +1,20 @@
-use Rattle.session.specs.declared.event.InEvent.TheVariants as events
-use Rattle.std.proofs.Common.{Bool, [], ◌∷◌, length, subst}
-use Rattle.slots.specs.Steps.{Told, TurnedAway, is_draining, reported}
+use Rattle.std.proofs.Common.{◌≡◌, ℕ, Bool, true, refl}
+use Rattle.connbook.specs.declared.answers.AdmitFault.{AdmitFault}
+use Rattle.connbook.specs.declared.answers.AdmitFault.TheVariants as refused
 use Rattle.connection.specs.Limits.{MayTurnAway}
-use Rattle.connection.proofs.Heard.{with-one}
-use Rattle.connection.proofs.Tallies.{covers-more, may-turn}
 use Rattle.connection.proofs.reader.Reader.turn_away.Goals as goal
 
-pub returns : goal.returns
-returns g c = record {
-  reads = λ head tally may. with-one tally tally (events.Open c.args.id head) (TurnedAway c.args.fault) _ _ _ _ _ _ _
-      (λ told reads covers.
-      may-turn c.args.fault tally.calls (length (reported told)) (is_draining told)
-      (subst (λ (b : Bool). MayTurnAway tally.calls b c.args.fault) reads.slots.drains may) covers.calls)
-      (λ told covers. covers-more tally (Told (events.Open c.args.id head) (TurnedAway c.args.fault) ∷ []) told covers)
-      c.act.ensures.ends (c.turn_away-decided.ensures.decides head) c.turn_away-decided.ensures.aligns c.act.ensures.acts;
+pub returns-in-Draining : goal.returns-in-Draining
+returns-in-Draining g c = record { reads = λ head tally may. c.turn_away_drained.ensures.reads head tally }
+
+-- behind a fault that isn't a drain it is the same whether the server drains
+undrained : (fault : AdmitFault) (calls : ℕ) (draining : Bool) → (fault ≡ refused.Draining → ⊥) → MayTurnAway calls true fault → MayTurnAway calls draining fault
+undrained refused.TooMany calls draining not may = may
+undrained refused.Draining calls draining not may = absurd (not refl)
+undrained refused.NotNew calls draining not may = tt
+undrained refused.OutOfMemory calls draining not may = tt
+
+pub returns-in_default : goal.returns-in_default
+returns-in_default g c = record {
+  reads = λ head tally may. c.decline.ensures.reads head tally (undrained c.args.fault tally.calls c.args.self.now.reading.is_draining c.in_default.not-Draining may);
 }

@@ -1,5 +1,5 @@
 use Rattle.std.proofs.Common.{◌≡◌}
-use Rattle.slotwriter.specs.Written.{LeadsOn}
+use Rattle.writerloop.specs.Written.{LeadsOn}
 use Rattle.connection.proofs.writer.Writer.drain.Given as goal
 
 abbrev pub invariant-orders : goal.invariant-orders

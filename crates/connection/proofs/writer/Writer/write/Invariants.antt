@@ -1,4 +1,4 @@
-use Rattle.slotwriter.specs.Written.{LeadsTo}
+use Rattle.writerloop.specs.Written.{LeadsTo}
 use Rattle.connection.proofs.writer.Writer.write.Given as goal
 
 abbrev pub invariant-turns : goal.invariant-turns

@@ -1,24 +1,37 @@
-use Rattle.std.proofs.Common.{rules, arith, ap, length, length-append, ◌∷◌, []}
+use Rattle.std.proofs.Common.{rules, arith, ap, sym, ◌∙◌, ◌∷◌, ◌++◌, []}
+use Rattle.std.proofs.lemmas.List.{append-nil}
 use Rattle.rtrb.specs.Ring.{sent}
-use Rattle.lane.specs.Cuts.{cut}
-use Rattle.lane.specs.RingEnds.{producer_name}
-use Rattle.lane.proofs.CutLemmas.{push_last, name_same}
+use Rattle.lane.specs.Steps.{pieces}
+use Rattle.lane.specs.Linked.{of_second, kept}
+use Rattle.lane.specs.Second.{put_in as second_put_in}
+use Rattle.lane.proofs.StepLemmas.{push_piece, stays_closed, count_steps, links}
+use Rattle.lane.proofs.LinkLemmas.{no_link, linked_none}
 use Rattle.lane.proofs.ring_lane.RingLaneLane.last.Goals as goal
 
-pub invariant_of-result : goal.invariant_of-result
-invariant_of-result g c =
-    let all = push_last (sent c.args.tx.producer) _ c.args.item c.push_reserved.ensures.sent.0 in
-    let long = ap length all.rest in
-    let more = length-append (cut (sent c.args.tx.producer)).rest (c.args.item ∷ []) in
-    record { slots = search rules; some = all.some; rest = all.none; counted = omega arith }
-
-pub returns-clause-name : goal.returns-clause-name
-returns-clause-name g c =
-    let all = push_last (sent c.args.tx.producer) _ c.args.item c.push_reserved.ensures.sent.0 in
-    name_same (producer_name c.push_reserved.new.self) (producer_name c.args.tx.producer) _ _ (search rules) (ap length all.past)
-
-pub returns-clause-past : goal.returns-clause-past
-returns-clause-past g c = (push_last (sent c.args.tx.producer) _ c.args.item c.push_reserved.ensures.sent.0).past
+pub invariant_of-result-2 : goal.invariant_of-result-2
+invariant_of-result-2 g c =
+    let tx = c.args.tx in
+    let pushed = c.push_reserved.ensures.sent in
+    let more = push_piece (sent tx.first) _ c.args.item pushed.0 in
+    let none = no_link _ _ _ _ tx.linked c.in-None.is in
+    let steps = count_steps (sent tx.first) tx.closed in
+    let no_links = ap links none in
+    let free = ap kept c.in-None.is in
+    let len = more.len in
+    let all = more.all in
+    record {
+      fits = search rules;
+      filled = omega arith;
+      counted = omega arith;
+      closed = stays_closed (sent tx.first) _ c.args.item pushed.0 none;
+      linked = linked_none _ _ _ (more.way ∙ none);
+      bound = omega arith;
+    }
 
 pub returns-clause-put : goal.returns-clause-put
-returns-clause-put g c = (push_last (sent c.args.tx.producer) _ c.args.item c.push_reserved.ensures.sent.0).rest
+returns-clause-put g c =
+    let tx = c.args.tx in
+    let more = push_piece (sent tx.first) _ c.args.item c.push_reserved.ensures.sent.0 in
+    let old = pieces (sent tx.first) in
+    let none = ap (λ next. (old ++ of_second second_put_in next) ++ c.args.item ∷ []) c.in-None.is ∙ ap (λ items. items ++ c.args.item ∷ []) (append-nil old) in
+    append-nil (pieces (sent c.push_reserved.new.self)) ∙ (more.items ∙ sym none)

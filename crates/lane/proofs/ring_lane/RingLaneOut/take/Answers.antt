@@ -1,84 +1,63 @@
-use Rattle.std.proofs.Common.{rules, arith, sym, ap, length, length-append, ◌∷◌, [], ◌++◌, ◌≡◌, ◌∙◌}
+use Rattle.std.proofs.Common.{arith, ap, sym, refl, length, Some, ◌≡◌, ◌∙◌, ◌∷◌, ◌++◌, []}
 use Rattle.rtrb.specs.Ring.{received, known_items}
-use Rattle.lane.specs.Cuts.{cut, current}
-use Rattle.lane.specs.Lawful.{last_of}
-use Rattle.lane.proofs.KnownItems.{last_of_push}
-use Rattle.lane.specs.RingEnds.{consumer_name}
-use Rattle.lane.specs.declared.marked.Marked.TheVariants.{Piece, Last}
-use Rattle.lane.proofs.CutLemmas.{taken_piece, taken_last, push_last, name_same, ahead_piece, ahead_last}
+use Rattle.lane.specs.Steps.{pieces, link}
+use Rattle.lane.specs.declared.ring_lane.step.Step.TheVariants.{Piece, Next}
+use Rattle.lane.specs.Second.{got as second_got, out_name as second_out_name}
+use Rattle.lane.proofs.StepLemmas.{push_piece, push_next, ahead_piece, ahead_next}
+use Rattle.lane.proofs.LinkLemmas.{linked_same, linked_some, first_alone, second_more, gone_on, last_first, last_second}
 use Rattle.lane.proofs.ring_lane.RingLaneOut.take.Goals as goal
 
 pub invariant_of-self : goal.invariant_of-self
 invariant_of-self g c =
     let rx = c.args.self.now in
-    let open_end = c.requires.open in
-    let more : received c.pop_known.new.self ≡ received rx.consumer ++ Piece c.in-Piece.item ∷ [] =
-    c.pop_known.ensures.received.0 ∙ ap (λ item. received rx.consumer ++ item ∷ []) c.in-Piece.is in
-    let all = taken_piece rx.ended (received rx.consumer) (received c.pop_known.new.self) c.in-Piece.item open_end more in
-    let long = ap length all.1 in
-    let longer = length-append (current rx.ended (cut (received rx.consumer))) (c.in-Piece.item ∷ []) in
-    record { some = λ e. absurd cc; rest = λ e. absurd cc; counted = omega arith; kept = sym (ap (λ items. last_of items) all.1 ∙ last_of_push (current rx.ended (cut (received rx.consumer))) c.in-Piece.item) }
-
-pub invariant_of-self-in-Last : goal.invariant_of-self-in-Last
-invariant_of-self-in-Last g c =
-    let rx = c.args.self.now in
-    let open_end = c.requires.open in
-    let more : received c.pop_known.new.self ≡ received rx.consumer ++ Last c.in-Last.item ∷ [] =
-    c.pop_known.ensures.received.0 ∙ ap (λ item. received rx.consumer ++ item ∷ []) c.in-Last.is in
-    let all = taken_last rx.ended (received rx.consumer) (received c.pop_known.new.self) c.in-Last.item open_end more in
-    let cuts = push_last (received rx.consumer) (received c.pop_known.new.self) c.in-Last.item more in
-    let long = ap length all.1 in
-    let longer = length-append (current rx.ended (cut (received rx.consumer))) (c.in-Last.item ∷ []) in
-    record { some = λ _. cuts.some; rest = λ _. cuts.none; counted = omega arith; kept = sym (ap (λ items. last_of items) all.1 ∙ last_of_push (current rx.ended (cut (received rx.consumer))) c.in-Last.item) }
-
-pub returns-in-Piece-clause-name : goal.returns-in-Piece-clause-name
-returns-in-Piece-clause-name g c =
-    let rx = c.args.self.now in
-    let more : received c.pop_known.new.self ≡ received rx.consumer ++ Piece c.in-Piece.item ∷ [] =
-    c.pop_known.ensures.received.0 ∙ ap (λ item. received rx.consumer ++ item ∷ []) c.in-Piece.is in
-    let all = taken_piece rx.ended (received rx.consumer) (received c.pop_known.new.self) c.in-Piece.item c.requires.open more in
-    name_same (consumer_name c.pop_known.new.self) (consumer_name rx.consumer) _ _ (search rules) (ap length all.0)
-
-pub returns-in-Piece-clause-past : goal.returns-in-Piece-clause-past
-returns-in-Piece-clause-past g c =
-    let rx = c.args.self.now in
-    let more : received c.pop_known.new.self ≡ received rx.consumer ++ Piece c.in-Piece.item ∷ [] =
-    c.pop_known.ensures.received.0 ∙ ap (λ item. received rx.consumer ++ item ∷ []) c.in-Piece.is in
-    (taken_piece rx.ended (received rx.consumer) (received c.pop_known.new.self) c.in-Piece.item c.requires.open more).0
+    let pushed : received c.pop_known.new.self ≡ received rx.first ++ Piece c.in-Piece.item ∷ [] =
+    c.pop_known.ensures.received.0 ∙ ap (λ step. received rx.first ++ step ∷ []) c.in-Piece.is in
+    let more = push_piece (received rx.first) _ c.in-Piece.item pushed in
+    let len = more.len in
+    record {
+      counted = omega arith;
+      linked = linked_same _ _ (link (received rx.first)) _ rx.second more.way rx.linked;
+      kept = last_first second_got (pieces (received rx.first)) _ rx.second c.in-Piece.item c.requires.first more.items;
+    }
 
 pub returns-in-Piece-clause-item : goal.returns-in-Piece-clause-item
 returns-in-Piece-clause-item g c =
     let rx = c.args.self.now in
-    let more : received c.pop_known.new.self ≡ received rx.consumer ++ Piece c.in-Piece.item ∷ [] =
-    c.pop_known.ensures.received.0 ∙ ap (λ item. received rx.consumer ++ item ∷ []) c.in-Piece.is in
-    let known : known_items rx.consumer ≡ Piece c.in-Piece.item ∷ known_items c.pop_known.new.self =
-    c.pop_known.ensures.received.1 ∙ ap (λ item. item ∷ known_items c.pop_known.new.self) c.in-Piece.is in (
-      (taken_piece rx.ended (received rx.consumer) (received c.pop_known.new.self) c.in-Piece.item c.requires.open more).1,
-      ahead_piece rx.ended (known_items rx.consumer) (known_items c.pop_known.new.self) c.in-Piece.item c.requires.open known,
+    let pushed : received c.pop_known.new.self ≡ received rx.first ++ Piece c.in-Piece.item ∷ [] =
+    c.pop_known.ensures.received.0 ∙ ap (λ step. received rx.first ++ step ∷ []) c.in-Piece.is in
+    let more = push_piece (received rx.first) _ c.in-Piece.item pushed in
+    let known : known_items rx.first ≡ Piece c.in-Piece.item ∷ known_items c.pop_known.new.self =
+    c.pop_known.ensures.received.1 ∙ ap (λ step. step ∷ known_items c.pop_known.new.self) c.in-Piece.is in (
+      first_alone second_got (pieces (received c.pop_known.new.self)) rx.second c.requires.first
+          ∙ (more.items ∙ ap (λ items. items ++ c.in-Piece.item ∷ []) (sym (first_alone second_got (pieces (received rx.first)) rx.second c.requires.first))),
+      λ some. ahead_piece rx.second (known_items rx.first) (known_items c.pop_known.new.self) c.in-Piece.item c.requires.first known,
     )
 
-pub returns-in-Last-clause-name : goal.returns-in-Last-clause-name
-returns-in-Last-clause-name g c =
+pub invariant_of-self-in-Some : goal.invariant_of-self-in-Some
+invariant_of-self-in-Some g c =
     let rx = c.args.self.now in
-    let more : received c.pop_known.new.self ≡ received rx.consumer ++ Last c.in-Last.item ∷ [] =
-    c.pop_known.ensures.received.0 ∙ ap (λ item. received rx.consumer ++ item ∷ []) c.in-Last.is in
-    let all = taken_last rx.ended (received rx.consumer) (received c.pop_known.new.self) c.in-Last.item c.requires.open more in
-    name_same (consumer_name c.pop_known.new.self) (consumer_name rx.consumer) _ _ (search rules) (ap length all.0)
+    let pushed : received c.pop_known.new.self ≡ received rx.first ++ Next c.in-Next.fresh ∷ [] =
+    c.pop_known.ensures.received.0 ∙ ap (λ step. received rx.first ++ step ∷ []) c.in-Next.is in
+    let more = push_next (received rx.first) _ c.in-Next.fresh pushed in
+    let same = ap length more.items in
+    let name = c.poll.ensures.name ∙ ap (λ out. second_out_name out) c.into_inner-out.ensures in
+    record {
+      counted = omega arith;
+      linked = linked_some _ _ _ c.in-Next.fresh c.poll.new.self more.way name;
+      kept = last_second second_got (pieces (received c.pop_known.new.self)) c.into_inner-out.result c.poll.new.self c.in-Some.item c.in-Some.ensures.got;
+    }
 
-pub returns-in-Last-clause-past : goal.returns-in-Last-clause-past
-returns-in-Last-clause-past g c =
+pub returns-in-Some-clause-item : goal.returns-in-Some-clause-item
+returns-in-Some-clause-item g c =
     let rx = c.args.self.now in
-    let more : received c.pop_known.new.self ≡ received rx.consumer ++ Last c.in-Last.item ∷ [] =
-    c.pop_known.ensures.received.0 ∙ ap (λ item. received rx.consumer ++ item ∷ []) c.in-Last.is in
-    (taken_last rx.ended (received rx.consumer) (received c.pop_known.new.self) c.in-Last.item c.requires.open more).0
-
-pub returns-in-Last-clause-item : goal.returns-in-Last-clause-item
-returns-in-Last-clause-item g c =
-    let rx = c.args.self.now in
-    let more : received c.pop_known.new.self ≡ received rx.consumer ++ Last c.in-Last.item ∷ [] =
-    c.pop_known.ensures.received.0 ∙ ap (λ item. received rx.consumer ++ item ∷ []) c.in-Last.is in
-    let known : known_items rx.consumer ≡ Last c.in-Last.item ∷ known_items c.pop_known.new.self =
-    c.pop_known.ensures.received.1 ∙ ap (λ item. item ∷ known_items c.pop_known.new.self) c.in-Last.is in (
-      (taken_last rx.ended (received rx.consumer) (received c.pop_known.new.self) c.in-Last.item c.requires.open more).1,
-      ahead_last rx.ended (known_items rx.consumer) (known_items c.pop_known.new.self) c.in-Last.item c.requires.open known,
+    let pushed : received c.pop_known.new.self ≡ received rx.first ++ Next c.in-Next.fresh ∷ [] =
+    c.pop_known.ensures.received.0 ∙ ap (λ step. received rx.first ++ step ∷ []) c.in-Next.is in
+    let more = push_next (received rx.first) _ c.in-Next.fresh pushed in
+    let known : known_items rx.first ≡ Next c.in-Next.fresh ∷ known_items c.pop_known.new.self =
+    c.pop_known.ensures.received.1 ∙ ap (λ step. step ∷ known_items c.pop_known.new.self) c.in-Next.is in
+    let all = gone_on second_got (pieces (received rx.first)) (pieces (received c.pop_known.new.self)) rx.second c.into_inner-out.result c.in-Next.fresh.out.value c.requires.first more.items c.into_inner-out.ensures c.in-Next.fresh.fresh in
+    let none = ap length (ahead_next rx.second (known_items rx.first) (known_items c.pop_known.new.self) c.in-Next.fresh c.requires.first known) in (
+      second_more second_got (pieces (received c.pop_known.new.self)) (Some c.into_inner-out.result) c.into_inner-out.result c.poll.new.self c.in-Some.item refl c.in-Some.ensures.got
+          ∙ ap (λ items. items ++ c.in-Some.item ∷ []) all,
+      λ some. absurd (omega arith),
     )

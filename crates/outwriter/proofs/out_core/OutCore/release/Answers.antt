@@ -17,7 +17,7 @@ returns-clause-leads g c =
 pub returns-clause-releases : goal.returns-clause-releases
 returns-clause-releases g c =
     released-entry g.L.Lane.got c.args.self.now.sending.senders.items c.swap_remove-id.new.self.items c.in_ok-place.place c.args.id c.swap_remove-id.result
-    c.in_ok-place.ensures.some c.swap_remove-id.ensures.value c.swap_remove-id.ensures.items
+    c.in_ok-place.ensures.some c.swap_remove-id.ensures.value c.swap_remove-id.ensures.items c.in_ok-place.ensures.first
 
 pub returns-clause-ended : goal.returns-clause-ended
 returns-clause-ended g c = has-ended g.L.Lane.got c.args.self.now c.args.id (search rules)

@@ -1,6 +1,5 @@
 use Rattle.std.proofs.Common.{Option, None, refl, subst}
 use Rattle.h2frame.specs.declared.frame.Frame.{Frame}
-use Rattle.outwriter.specs.Cores.{lane_and_past}
 use Rattle.outwriter.specs.StreamLooks.{Picks}
 use Rattle.outwriter.proofs.RunStateSteps.{but-open}
 use Rattle.outwriter.proofs.ServeStepsCore.{gives-then, picks-after, picks-then}
@@ -14,5 +13,5 @@ loop-preserved g c =
       picks-then g.L.Lane.got c.args.self.now start left None c.loop.invariant.0
           (picks-after g.L.Lane.got start looked left None (subst (λ (o : Option Frame). Picks g.L.Lane.got o start looked) c.in_default-2.is c.in_ok-frame.ensures.picks)
           c.turn.ensures.hands (but-open looked.outbound c.turn.new.self c.turn.ensures.stands) refl),
-      gives-then g.L.Lane.got (lane_and_past g.L.Lane.out_name g.L.Lane.past_out) c.args.self.now start left c.loop.invariant.1 c.look.ensures.gives,
+      gives-then g.L.Lane.got g.L.Lane.out_name c.args.self.now start left c.loop.invariant.1 c.look.ensures.gives,
     )

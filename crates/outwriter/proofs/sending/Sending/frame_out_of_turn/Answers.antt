@@ -1,5 +1,4 @@
 use Rattle.std.proofs.Common.{None, refl, subst, sym}
-use Rattle.outwriter.specs.Cores.{lane_and_past}
 use Rattle.outwriter.specs.StreamLooks.{Gives, Picks}
 use Rattle.outwriter.proofs.ServeStepsCore.{picks-none}
 use Rattle.outwriter.proofs.sending.Sending.frame_out_of_turn.Goals.{in_default-via-in-Some+else-waits, in_default-via-in_default}
@@ -7,8 +6,8 @@ use Rattle.outwriter.proofs.sending.Sending.frame_out_of_turn.Goals as goal
 
 pub returns-in_default-clause-gives : goal.returns-in_default-clause-gives
 returns-in_default-clause-gives g c = elim c.in_default.branch [
-  | in_default-via-in-Some+else-waits w ↦ subst (λ left. Gives g.L.Lane.got (lane_and_past g.L.Lane.out_name g.L.Lane.past_out) c.args.self.now left) (sym w.self-is) (λ run all. all, refl)
-  | in_default-via-in_default w ↦ subst (λ left. Gives g.L.Lane.got (lane_and_past g.L.Lane.out_name g.L.Lane.past_out) c.args.self.now left) (sym w.self-is) (λ run all. all, refl)
+  | in_default-via-in-Some+else-waits w ↦ subst (λ left. Gives g.L.Lane.got g.L.Lane.out_name c.args.self.now left) (sym w.self-is) (λ run all. all, refl, λ id gave. gave)
+  | in_default-via-in_default w ↦ subst (λ left. Gives g.L.Lane.got g.L.Lane.out_name c.args.self.now left) (sym w.self-is) (λ run all. all, refl, λ id gave. gave)
 ]
 
 pub returns-in_default-clause-picks : goal.returns-in_default-clause-picks

@@ -1,7 +1,6 @@
 use Rattle.std.proofs.Common.{Option, None, subst}
 use Rattle.std.proofs.lemmas.Result.{IfOk-weaker}
 use Rattle.h2frame.specs.declared.frame.Frame.{Frame}
-use Rattle.outwriter.specs.Cores.{lane_and_past}
 use Rattle.outwriter.specs.Polls.{coming}
 use Rattle.outwriter.specs.StreamLooks.{Picks}
 use Rattle.outwriter.proofs.QuietSteps.{stuck-after}
@@ -21,8 +20,8 @@ returns-clause-picks g c =
 
 pub returns-clause-gives : goal.returns-clause-gives
 returns-clause-gives g c =
-    gives-then g.L.Lane.got (lane_and_past g.L.Lane.out_name g.L.Lane.past_out) c.args.self.now c.frame_in_turn.new.self c.frame_of_any.new.self
-    (gives-then g.L.Lane.got (lane_and_past g.L.Lane.out_name g.L.Lane.past_out) c.args.self.now c.frame_out_of_turn.new.self c.frame_in_turn.new.self c.frame_out_of_turn.ensures.gives c.frame_in_turn.ensures.gives)
+    gives-then g.L.Lane.got g.L.Lane.out_name c.args.self.now c.frame_in_turn.new.self c.frame_of_any.new.self
+    (gives-then g.L.Lane.got g.L.Lane.out_name c.args.self.now c.frame_out_of_turn.new.self c.frame_in_turn.new.self c.frame_out_of_turn.ensures.gives c.frame_in_turn.ensures.gives)
     c.frame_of_any.ensures.gives
 
 pub returns-clause-quiet : goal.returns-clause-quiet

@@ -1,0 +1,34 @@
+//! What the parts of a connection share of its calls.
+//!
+//! A call has lanes of its own, with four ends. They begin in one place, the reader's, and come back there once the call is
+//! over: the `Taker` and the giving end with a `Finished`, from a worker; the `Sender` with a `Sending`, from the writer. Where
+//! all are back the call is settled, and its `CallAccount` is final.
+//!
+//! - `register`: the numbers of calls, by which the ends that come back are told apart.
+//! - `work`: a call that is to be answered; `job`: what a worker is handed, and hands back; `ways`: by which rings; `line`: its bell.
+//! - `order`: what the reading side has the writing side do; what the writing side hands back.
+//! - `account`: what became of a call; `accounts`: of all calls; `report`: of a connection.
+//! - `answering`: what methods answer, as a word for clauses.
+#![tactic(auto)]
+
+pub mod accounts;
+pub mod answering;
+pub mod call_account;
+pub mod job;
+pub mod line;
+pub mod order;
+pub mod register;
+pub mod report;
+pub mod ways;
+pub mod work;
+
+pub use accounts::Accounts;
+pub use answering::Answering;
+pub use call_account::{CallAccount, Traffic};
+pub use job::{Finished, Job, Task};
+pub use line::Line;
+pub use order::{HOME, Opening, Order, Returning, Sending};
+pub use register::{CallNumber, Front, Naming, NewRegister, Register};
+pub use report::{ConnReport, Ending};
+pub use ways::{DoneIn, DoneOut, EachAnswered, EachFresh, PLACES, TasksIn, TasksOut};
+pub use work::{InLane, OutLane, Request, Work};

@@ -1,0 +1,45 @@
+//! What the reading side of a connection has its writing side do, and what comes back.
+
+ghost use Rattle.std.specs.Prelude.{◌≡◌, [], Some, IsSome, option_map};
+ghost use Rattle.lane.specs.RingLane.{got, out_name};
+ghost use Rattle.callparts.specs.Numbers.{IsOfLane, IsOfLane-prop, out_lane_at};
+
+use crate::line::Line;
+use crate::register::{CallNumber, Naming};
+use crate::work::OutLane;
+use callbox::Sender;
+use outwriter::Control;
+use std::sync::Arc;
+
+/// How many senders may wait to be taken back by the reading side: as many as calls may be live. Where there is no place one stays with
+/// the writing side until there is.
+pub const HOME: usize = 64;
+
+/// The sending end of a call, which goes to the writing side and back in one box.
+#[derive(Drop)]
+pub struct Sending<J: Naming> {
+    /// The number of the call.
+    pub number: CallNumber<J>,
+    /// None while the writer's core has it.
+    pub sender: Option<Sender<OutLane>>,
+    pub ghost out_lane: { IsOfLane (out_lane_at number.seen.log number.value) (option_map (λ s. out_name s.rx) sender) } by { IsOfLane-prop (out_lane_at number.seen.log number.value) (option_map (λ s. out_name s.rx) sender) },
+}
+
+/// A call that begins. Of its sender nothing was got.
+#[derive(Drop)]
+pub struct Opening<J: Naming> {
+    pub sending: Box<Sending<J>>,
+    /// By which its worker is woken.
+    pub line: Arc<Line>,
+    pub ghost fresh: { option_map (λ s. got s.rx) sending.value.sender ≡ Some [] },
+}
+
+/// A call that the writing side hands back, with its sender.
+#[derive(Drop)]
+pub struct Returning<J: Naming> {
+    pub sending: Box<Sending<J>>,
+    pub ghost there: { IsSome sending.value.sender },
+}
+
+/// An order to the writing side.
+pub type Order<J> = Control<Opening<J>>;

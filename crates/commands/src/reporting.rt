@@ -1,0 +1,68 @@
+//! Where a connection and its calls are reported on: in the lines that the log's thread prints, so that whoever reports waits for nobody.
+
+use crate::log::Log;
+use crate::stopping::Connection;
+use crate::stream::Ended;
+use connection::CallAccount;
+use handlers::Methods;
+use std::alloc::{AllocError, Global};
+use std::sync::{Arc, Wait};
+use std::time::Clock;
+
+/// Who reports on a connection and its calls. Who serves it takes that as a type parameter, as a `Witness` is.
+pub trait Report: Drop {
+    /// Another one of the same connection.
+    fn try_clone(&self) -> Result<Self, AllocError>;
+
+    /// A call was settled.
+    fn call(&self, rt: &(impl Wait + Clock), alloc: Global, call: &CallAccount);
+}
+
+/// Reports on a connection and its calls in the lines of a log.
+#[derive(Drop)]
+pub struct Reporting {
+    log: Arc<Log>,
+    methods: Arc<Methods>,
+    connection: Connection,
+}
+
+impl Reporting {
+    /// Of this connection, whose calls are answered by these methods.
+    pub fn new(
+        log: &Arc<Log>,
+        methods: &Arc<Methods>,
+        connection: Connection,
+    ) -> Result<Reporting, AllocError> {
+        Ok(Reporting {
+            log: Arc::try_clone(log)?,
+            methods: Arc::try_clone(methods)?,
+            connection,
+        })
+    }
+
+    /// The connection has ended, and its calls were reported on. Its bytes are in the file, where there is one.
+    // (kept out of its caller, whose frame is on the stack of each connection that lives)
+    #[inline(never)]
+    pub fn end(
+        &self,
+        rt: &(impl Wait + Clock),
+        alloc: Global,
+        ended: &Ended,
+        file: &Option<String>,
+    ) {
+        self.log.report_end(rt, alloc, self.connection, ended, file);
+    }
+}
+
+impl Report for Reporting {
+    fn try_clone(&self) -> Result<Reporting, AllocError> {
+        Reporting::new(&self.log, &self.methods, self.connection)
+    }
+
+    // (kept out of its caller, as `end` is)
+    #[inline(never)]
+    fn call(&self, rt: &(impl Wait + Clock), alloc: Global, call: &CallAccount) {
+        self.log
+            .report_call(rt, alloc, self.connection, &self.methods, call);
+    }
+}

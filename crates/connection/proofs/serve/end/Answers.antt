@@ -1,0 +1,55 @@
+use Rattle.std.proofs.Common.{◌∙◌, arith, ap, sym, Some}
+use mathlib.Core.List.{IsPrefix}
+use Rattle.callparts.specs.Blocks.{items_of}
+use Rattle.callparts.specs.declared.accounts.Accounts.{Accounts}
+use Rattle.lane.specs.Ring.{taken}
+use Rattle.connection.specs.Puts.{put_of}
+use Rattle.connection.proofs.Ends.{ended-served, gave, gave-there}
+use Rattle.connection.proofs.Reports.{served-by}
+use Rattle.connection.proofs.serve.end.Goals as goal
+
+pub meet_writer-requires-clause-route : goal.meet_writer-requires-clause-route
+meet_writer-requires-clause-route g c = λ κs within. c.requires.route ∙ ap Some (sym c.join-written.ensures.0)
+
+pub meet_writer-requires-clause-way : goal.meet_writer-requires-clause-way
+meet_writer-requires-clause-way g c = λ κs within. c.end.ensures.grows.name ∙ (c.requires.way ∙ sym c.join-written.ensures.1)
+
+pub returns : goal.returns
+returns g c =
+    let known = g.M.Answering.known in
+    let names = g.M.Answering.names in
+    let contents = g.O.ConnWrite.contents in
+    let failed = g.O.ConnWrite.failed in
+    let before = contents c.args.writing.promise.device.value in
+    let amount = c.join-written.result.told.amount in
+    let written = c.join-written.result.written in
+    let took = taken written.orders in
+    let sent = c.join-written.ensures.2 in
+    let reading = c.args.reader.reading in
+    let mid = c.end.new.self.reading in
+    let old = c.args.reader.orders in
+    let orders = c.end.new.self.orders in
+    let is = c.meet_writer.ensures in
+    let front : IsPrefix took (put_of orders) = (is.obeyed.0, is.obeyed.1) in
+    let report = c.meet_writer.result.report in
+    record {
+      served = (
+        gave known names (λ (calls : Accounts). items_of calls.full calls.last) contents failed reading mid old orders c.end.ensures.grows c.end.ensures.ended c.requires.heard before amount took written.rest written.ending written.is_faultless written.device sent is.came front,
+        gave-there known names (λ (calls : Accounts). items_of calls.full calls.last) contents failed reading mid old orders c.end.ensures.grows c.end.ensures.ended c.requires.heard before amount took written.rest written.ending written.is_faultless written.device sent is.came front,
+        λ came told read_failed has within unread.
+            served-by known names (λ (calls : Accounts). items_of calls.full calls.last) contents failed came before read_failed report.ending report.calls written.device c.meet_writer.result.output is.output
+            (ended-served known names (λ (calls : Accounts). items_of calls.full calls.last) contents failed reading mid old orders c.end.ensures.grows c.end.ensures.ended c.requires.heard before amount took written.rest written.ending written.is_faultless written.device sent is.came front
+            c.args.read report.ending report.calls came told read_failed
+            (record {
+              none = is.obeyed.2;
+              memory = is.memory;
+              broken = is.broken;
+              marked = is.marked;
+              dropped = is.dropped;
+              faultless = is.faultless;
+              input = is.input;
+              blamed = is.blamed;
+            })
+            is.accounts has (omega (arith, c.audit.ensures.within, within)) unread),
+      );
+    }

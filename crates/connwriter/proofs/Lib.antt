@@ -1,3 +1,0 @@
-pub mod SentSteps
-pub mod SpelledLemmas
-pub mod WroteSteps

@@ -1,5 +1,0 @@
-use Rattle.connwriter.proofs.WroteSteps.{stopped-on}
-use Rattle.connwriter.proofs.writer.ConnWriter.stop.Goals as goal
-
-pub returns-in-Going-clause-wrote : goal.returns-in-Going-clause-wrote
-returns-in-Going-clause-wrote g c = stopped-on g.L.Lane.got g.W.ConnWrite.contents g.W.ConnWrite.failed c.args.self.now c.in-Going.is

@@ -1,4 +1,0 @@
-pub mod Orders
-pub mod Sent
-pub mod Spelled
-pub mod Wrote

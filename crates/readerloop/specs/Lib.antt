@@ -1,0 +1,13 @@
+pub mod Steps
+pub mod StepExamples
+pub mod Concerns
+pub mod Halves
+pub mod Calls
+pub mod Awaited
+pub mod Orders
+pub mod Reports
+pub mod Kept
+pub mod Seats
+pub mod Readings
+pub mod Streams
+pub mod AccountFrames

@@ -1,0 +1,237 @@
+//! The workers of a connection, as its reading side has them.
+
+ghost use Rattle.std.specs.Prelude.{◌≡◌, ◌<◌, ◌≤◌, ℕ, true, false, None, Some, IfSome, IsSome, OnOk, slice_get, vec_capacity, vec_len, length};
+ghost use Rattle.rtrb.specs.Ring.{IsPair, known_free, sent};
+ghost use Rattle.callparts.specs.Workers.{IsFreshWork};
+ghost use Rattle.readerloop.specs.Calls.{HasAnswered};
+
+use callparts::{Answering, DoneIn, DoneOut, Finished, Job, Line, Naming, TasksIn, TasksOut};
+use flow::MAX_LIVE;
+use std::alloc::{AllocError, Global};
+use std::sync::Arc;
+
+/// A worker.
+#[derive(Drop)]
+pub struct Seat<J: Naming, M: Answering> {
+    line: Arc<Line>,
+    pub(crate) tasks: TasksIn<J>,
+    done: DoneOut<J, M>,
+    /// Whether it was handed no call that didn't come back.
+    is_free: bool,
+    /// Whether it was told that no more calls come.
+    is_ended: bool,
+    /// Whether its bell is still to be rung.
+    is_noted: bool,
+    /// Until then there is a place for that word.
+    ghost place_for_end: { is_ended ≡ false → 0 < known_free tasks },
+}
+
+impl<J: Naming, M: Answering> Seat<J, M> {
+    ghost use Rattle.readerloop.specs.Seats.{HasPlaces};
+
+    /// A worker that was handed nothing yet.
+    pub fn new(line: Arc<Line>, tasks: TasksIn<J>, done: DoneOut<J, M>) -> Seat<J, M>
+        requires place { 0 < known_free tasks }
+        ensures tasks { result.tasks ≡ tasks }
+    {
+        Seat {
+            line,
+            tasks,
+            done,
+            is_free: true,
+            is_ended: false,
+            is_noted: false,
+        }
+    }
+
+    /// What wakes it.
+    pub(crate) fn line(&self) -> &Arc<Line> {
+        &self.line
+    }
+
+    /// Whether it is free: there is a place for a call, and then for the word that no more come.
+    fn is_free(&mut self) -> bool
+        ensures places { result ≡ true → HasPlaces self.new }
+    {
+        if !self.is_free || self.is_ended {
+            return false;
+        }
+        self.tasks.slots() >= 2
+    }
+
+    /// Hands it a call. Its bell is still to be rung.
+    pub(crate) fn hand(&mut self, job: Job<J>)
+        requires places { HasPlaces self.old }
+        requires fresh { IsFreshWork job.work }
+    {
+        self.tasks.push_reserved(Some(job));
+        self.is_free = false;
+        self.is_noted = true;
+    }
+
+    /// The call that it has handed back, if it has.
+    fn finished(&mut self) -> Option<Finished<J>>
+        ensures answered { IfSome result (HasAnswered M.known) }
+    {
+        if self.is_free {
+            return None;
+        }
+        let Ok(finished) = self.done.pop() else {
+            return None;
+        };
+        self.is_free = true;
+        Some(finished)
+    }
+
+    /// Tells it that no more calls come, and rings its bell.
+    fn end(&mut self) {
+        self.tell_end();
+        self.is_noted = true;
+        self.ring_noted();
+    }
+
+    /// Tells it that no more calls come, unless it was told.
+    fn tell_end(&mut self) {
+        if self.is_ended {
+            return;
+        }
+        self.tasks.push_reserved(None);
+        self.is_ended = true;
+    }
+
+    /// Rings its bell, where that is still to be.
+    fn ring_noted(&mut self) {
+        if self.is_noted {
+            self.is_noted = false;
+            self.line.bell.ring();
+        }
+    }
+
+    /// Where it has ended, and handed back its ends of the rings: it took all that it was handed, and what it has handed back is there.
+    pub(crate) fn meet(&mut self, tasks: TasksOut<J>, done: DoneIn<J, M>) {
+        let _tasks = tasks;
+        let _done = done;
+    }
+}
+
+/// All workers, at most as many as calls may be live.
+#[derive(Drop)]
+pub struct Seats<J: Naming, M: Answering> {
+    pub(crate) seats: Vec<Seat<J, M>>,
+}
+
+impl<J: Naming, M: Answering> Seats<J, M> {
+    ghost use Rattle.readerloop.specs.Seats.{HasPlaces, HasPlacesAt};
+
+    pub(crate) fn new(alloc: Global) -> Seats<J, M> {
+        Seats {
+            seats: Vec::new(alloc),
+        }
+    }
+
+    /// How many there are.
+    pub(crate) fn len(&self) -> usize
+        ensures { result ≡ length self.now.seats.items }
+    {
+        self.seats.len()
+    }
+
+    /// Whether there are as many as there may be.
+    pub(crate) fn is_full(&self) -> bool
+        ensures room { result ≡ false → length self.now.seats.items < 64 }
+    {
+        self.seats.len() >= MAX_LIVE
+    }
+
+    /// Makes room for one worker more.
+    pub(crate) fn reserve(&mut self) -> Result<(), AllocError>
+        ensures room { OnOk result (vec_len self.new.seats < vec_capacity self.new.seats) }
+        ensures seats { self.new.seats.items ≡ self.old.seats.items }
+    {
+        self.seats.reserve(1)
+    }
+
+    /// Adds a worker, for which there is room. Its number.
+    pub(crate) fn add(&mut self, seat: Seat<J, M>) -> usize
+        requires room { vec_len self.old.seats < vec_capacity self.old.seats }
+        ensures places { HasPlaces seat → HasPlacesAt result self.new }
+    {
+        let number = self.seats.len();
+        self.seats.push_reserved(seat);
+        number
+    }
+
+    /// The number of the first worker that is free.
+    pub(crate) fn free(&mut self) -> Option<usize>
+        ensures places { IfSome result (λ number. HasPlacesAt number self.new) }
+    {
+        for number in 0..self.seats.len() {
+            if self.is_free(number) {
+                return Some(number);
+            }
+        }
+        None
+    }
+
+    /// Whether the worker of this number is free.
+    fn is_free(&mut self, number: usize) -> bool
+        ensures places { result ≡ true → HasPlacesAt number self.new }
+    {
+        let Some(seat) = self.seats.get_mut(number) else {
+            return false;
+        };
+        seat.is_free()
+    }
+
+    /// What wakes the worker of this number.
+    pub(crate) fn line(&self, number: usize) -> Option<&Arc<Line>> {
+        Some(self.seats.get(number)?.line())
+    }
+
+    /// Hands a call to the worker of this number, which is free. Its bell is still to be rung.
+    pub(crate) fn hand(&mut self, number: usize, job: Job<J>)
+        requires places { HasPlacesAt number self.old }
+        requires fresh { IsFreshWork job.work }
+    {
+        if let Some(seat) = self.seats.get_mut(number) {
+            seat.hand(job);
+        }
+    }
+
+    /// The call that the worker of this number has handed back, if it has.
+    pub(crate) fn finished(&mut self, number: usize) -> Option<Finished<J>>
+        ensures answered { IfSome result (HasAnswered M.known) }
+    {
+        self.seats.get_mut(number)?.finished()
+    }
+
+    /// The bell of this worker is to be rung once all that came with this is there.
+    pub(crate) fn note(&mut self, number: Option<usize>) {
+        if let Some(number) = number {
+            if let Some(seat) = self.seats.get_mut(number) {
+                seat.is_noted = true;
+            }
+        }
+    }
+
+    /// Rings the bells of the workers for which something came.
+    pub(crate) fn ring_noted(&mut self) {
+        for seat in self.seats.iter_mut() {
+            seat.ring_noted();
+        }
+    }
+
+    /// No more calls come.
+    pub(crate) fn end(&mut self) {
+        for seat in self.seats.iter_mut() {
+            seat.end();
+        }
+    }
+
+    /// The worker of this number has ended, and handed back its ends of the rings.
+    pub(crate) fn meet(&mut self, number: usize, tasks: TasksOut<J>, done: DoneIn<J, M>) {
+        if let Some(seat) = self.seats.get_mut(number) {
+            seat.meet(tasks, done);
+        }
+    }
+}

@@ -1,0 +1,145 @@
+//! The steps of the writer, as its thread takes them.
+
+use crate::serial::Serial;
+use flow::MAX_LIVE;
+use h2frame::StreamId;
+use std::sync::Wait;
+use std::time::Clock;
+use writerloop::{Filled, Rest, Took, Waiting};
+
+impl<'a, R: Wait + Clock> Serial<'a, R> {
+    /// All steps in turn.
+    pub fn round(&mut self) {
+        while self.order() {}
+        self.announce();
+        self.fill();
+        self.release();
+        self.flush();
+    }
+
+    /// Takes the next order; whether there was one that could be taken.
+    pub fn order(&mut self) -> bool {
+        if self.is_over {
+            return false;
+        }
+        let last = match self.writing.look() {
+            Waiting::Nothing => return false,
+            Waiting::Window => self.last(),
+            Waiting::Goaway | Waiting::Other => 0,
+        };
+        match self.writing.take_next(last) {
+            Took::Nothing | Took::Early => return false,
+            Took::One => {}
+            Took::Ends(id) => self.shared.book.lock(self.rt).cut(id),
+            Took::Stops => self.stop(),
+            Took::Lost => {
+                let last = self.last();
+                self.writing.give_up(last);
+                self.stop();
+            }
+        }
+        self.is_idle = false;
+        true
+    }
+
+    /// The greatest stream that was admitted.
+    pub fn last(&self) -> StreamId {
+        self.shared.book.lock(self.rt).last()
+    }
+
+    /// Owes the peer what credit is due.
+    pub fn announce(&mut self) {
+        if self.is_over {
+            return;
+        }
+        for place in 0..MAX_LIVE {
+            let id = self.shared.book.lock(self.rt).live_id(place);
+            let Some(id) = id else {
+                break;
+            };
+            self.announce_on(id);
+        }
+        self.announce_on(0);
+    }
+
+    /// The same of a stream, or of the connection where it is 0. It stays due where the writer
+    /// hasn't opened the stream.
+    fn announce_on(&mut self, id: StreamId) {
+        if !self.writing.takes_credit(id) {
+            return;
+        }
+        let mut book = self.shared.book.lock(self.rt);
+        let increment = book.announce(id, &mut self.told);
+        if increment > 0 {
+            self.writing.grant(id, increment);
+        }
+    }
+
+    /// Puts frames into the buffer; where there was no memory for one, the last word.
+    pub fn fill(&mut self) {
+        if self.is_over {
+            return;
+        }
+        let filled = self.writing.fill();
+        if filled == Filled::Stopped {
+            let last = self.last();
+            self.writing.say_last(last);
+        }
+        self.filled = Some((filled, self.writing.is_flushed()));
+    }
+
+    /// Lets go of the senders of calls that are through.
+    pub fn release(&mut self) {
+        if !self.is_over {
+            let _ = self.writing.release_all();
+        }
+    }
+
+    /// Writes out what is in the buffer. The sender of a call whose last frame is in it goes back
+    /// before, and the call takes no more DATA.
+    pub fn flush(&mut self) {
+        if self.is_over {
+            return;
+        }
+        self.release();
+        for id in self.writing.ended() {
+            self.shared.book.lock(self.rt).end_local(*id);
+        }
+        if self.writing.flush().is_err() {
+            self.stop();
+        }
+        if let Some((filled, is_silent)) = self.filled.take() {
+            self.end_turn(filled, is_silent);
+        }
+    }
+
+    /// What comes behind that. Where nothing can be written the calls are cut that wait for a
+    /// window which won't open.
+    fn end_turn(&mut self, filled: Filled, is_silent: bool) {
+        let rest = self.writing.rest(filled, is_silent);
+        self.is_idle = rest != Rest::None;
+        match rest {
+            Rest::None => {}
+            Rest::Idle => {
+                for place in 0..self.writing.calls() {
+                    if let Some(id) = self.writing.stuck(place) {
+                        self.shared.book.lock(self.rt).cut(id);
+                    }
+                }
+                self.is_idle = !self.writing.reset_left();
+            }
+            Rest::Stopped => self.stop(),
+            Rest::StoppedOver => {
+                self.stop();
+                self.is_over = true;
+            }
+            Rest::Over => self.is_over = true,
+        }
+    }
+
+    /// Nothing more is written: no call is live.
+    fn stop(&mut self) {
+        self.shared.book.lock(self.rt).stop();
+        self.shared.stop();
+    }
+}

@@ -1,0 +1,11 @@
+pub mod BlamedSteps
+pub mod CallSteps
+pub mod CreditSteps
+pub mod EndSteps
+pub mod OpeningSteps
+pub mod OrderSteps
+pub mod RestSteps
+pub mod SentSteps
+pub mod SpelledLemmas
+pub mod WrittenSteps
+pub mod WroteSteps

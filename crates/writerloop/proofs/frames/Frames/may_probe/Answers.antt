@@ -1,0 +1,4 @@
+use Rattle.writerloop.proofs.frames.Frames.may_probe.Goals as goal
+
+pub returns-clause-unsaid : goal.returns-clause-unsaid
+returns-clause-unsaid g c = λ is before run wrote. c.may_probe.ensures.unsaid is run wrote.leads

@@ -1,0 +1,11 @@
+pub mod Blamed
+pub mod Keys
+pub mod Left
+pub mod OwnOrders
+pub mod Orders
+pub mod OrderExamples
+pub mod Rest
+pub mod Sent
+pub mod Spelled
+pub mod Wrote
+pub mod Written

@@ -1,0 +1,547 @@
+//! The writer of a connection.
+//!
+//! `fill` stops where a frame of the greatest length might not fit, so the buffer never has more than eight of those, and it
+//! is used again for the next frames.
+
+ghost use Rattle.std.specs.Prelude.{◌≡◌, ◌≢◌, ◌≤◌, ◌<◌, ◌+◌, ℕ, true, false, not, ◌&&◌, List, [], ◌∷◌, Option, Some, IsErr, OnOk, OnErr, OnSome, IfSome, IfNone, length, vec_len, vec_capacity};
+ghost use Rattle.std.specs.Io.KnownBytes.{Appends};
+ghost use Rattle.device.specs.Bytes.{AppendsPrefix};
+ghost use Rattle.flow.specs.Windows.{room};
+ghost use Rattle.outwriter.specs.Calls.{TellFronts, TellReturned, TellOthers};
+ghost use Rattle.outwriter.specs.Cores.{calls, lanes, open_stream, takes_credit, IsUnused};
+ghost use Rattle.outwriter.specs.Drains.{has_failed, is_going_away, was_probed};
+ghost use Rattle.outwriter.specs.Frames.{IsSound, ends_stream};
+ghost use Rattle.outwriter.specs.LeftCalls.{GaveLeft, WasLeft, WasNotLeftAt};
+ghost use Rattle.outwriter.specs.Polls.{coming};
+ghost use Rattle.outwriter.specs.Releases.{IsThrough, HasNone, Releases};
+ghost use Rattle.outwriter.specs.RunState.{is_held};
+ghost use Rattle.outwriter.specs.Steps.{Step, Taken, Granted, Returned, order_of, frames_of};
+ghost use Rattle.writerloop.specs.declared.standing.Standing.TheVariants as stands;
+ghost use Rattle.writerloop.specs.declared.filled.Filled.TheVariants as filled;
+ghost use Rattle.writerloop.specs.OwnOrders.{own_control, own_order, parting, steps_of, Blamed, IsOfOrder, Stops};
+ghost use Rattle.writerloop.specs.Spelled.{IsFront, IsAll};
+ghost use Rattle.writerloop.specs.Wrote.{Wrote, WritesOn, BringsBy, Fills, Puts};
+
+use crate::filled::Filled;
+use crate::standing::Standing;
+use crate::taking::Taking;
+use account::OutItem;
+use callbox::Sender;
+use device::{ConnWrite, DeviceFault, write_all};
+use h2frame::{ErrorCode, Flags, Frame, FrameKind, StreamId, write_frame};
+use lane::Lane;
+use outwriter::{Control, Next, OutCore, OutFault};
+use reasons::Reason;
+use std::alloc::{AllocError, Global};
+use std::mem;
+
+/// The most bytes that the buffer has: those of eight frames of the greatest length.
+const BUFFER: usize = 131_144;
+
+/// The bytes of the longest frame, its head included (RFC 9113, sections 4.1 and 4.2).
+const LONGEST_FRAME: usize = 16_393;
+
+/// The writer of a connection.
+#[derive(Drop)]
+pub struct Frames<L: Lane<Item = OutItem>, W: ConnWrite> {
+    pub(crate) core: OutCore<L>,
+    /// The bytes of frames that weren't written yet.
+    pub(crate) buffer: Vec<u8>,
+    /// The streams whose END_STREAM is in the buffer.
+    pub(crate) ended: Vec<StreamId>,
+    /// Those whose END_STREAM was written by the last flush.
+    pub(crate) left: Vec<StreamId>,
+    /// Those of which DATA or HEADERS are in the buffer, each once.
+    pub(crate) streams: Vec<StreamId>,
+    pub(crate) standing: Standing,
+    pub(crate) device: W,
+}
+
+impl<L: Lane<Item = OutItem>, W: ConnWrite> Frames<L, W> {
+    /// The writer of a connection on which nothing was written. It takes no memory yet.
+    pub fn new(alloc: Global, device: W) -> Frames<L, W>
+        ensures wrote { Wrote L.got W.contents W.failed (W.contents device) [] result }
+        ensures going { result.standing ≡ stands.Going }
+        ensures empty { result.buffer.items ≡ [] }
+        ensures ended { result.ended.items ≡ [] }
+        ensures senders { result.core.sending.senders.items ≡ [] }
+    {
+        Frames {
+            core: OutCore::new(alloc),
+            buffer: Vec::new(alloc),
+            ended: Vec::new(alloc),
+            left: Vec::new(alloc),
+            streams: Vec::new(alloc),
+            standing: Standing::Going,
+            device,
+        }
+    }
+
+    /// How it stands.
+    pub fn standing(&self) -> Standing
+        ensures { result ≡ self.now.standing }
+    {
+        self.standing
+    }
+
+    /// The streams whose END_STREAM is in the buffer: from the next flush on they may have left.
+    pub fn ended(&self) -> &[StreamId]
+        ensures { result.now ≡ self.now.ended.items }
+    {
+        self.ended.as_slice()
+    }
+
+    /// The streams whose END_STREAM the last flush wrote.
+    pub fn left(&self) -> &[StreamId]
+        ensures { result.now ≡ self.now.left.items }
+    {
+        self.left.as_slice()
+    }
+
+    /// The streams of which DATA or HEADERS are in the buffer: of their calls items were taken.
+    pub fn streams(&self) -> &[StreamId]
+        ensures { result.now ≡ self.now.streams.items }
+    {
+        self.streams.as_slice()
+    }
+
+    /// Whether nothing is in the buffer.
+    pub fn is_flushed(&self) -> bool
+        ensures none { result ≡ true → self.now.buffer.items ≡ [] }
+        ensures some { result ≡ false → self.now.buffer.items ≢ [] }
+    {
+        self.buffer.is_empty()
+    }
+
+    /// Whether an item of the stream is in hand that a window keeps back.
+    pub fn held(&self, id: StreamId) -> bool
+        ensures { result ≡ is_held (open_stream self.now.core id)
+            (room self.now.core.sending.outbound.states.windows id) }
+    {
+        self.core.held(id)
+    }
+
+    /// How many calls' senders the core has.
+    pub fn calls(&self) -> usize
+        ensures { result ≡ length self.now.core.sending.senders.items }
+    {
+        self.core.calls()
+    }
+
+    /// The stream of the call whose sender stands at this place, where it gave last that the call was left: so all else that was
+    /// given of it was taken. It takes no memory.
+    pub fn left_at(&mut self, place: usize) -> Option<StreamId>
+        ensures left { IfSome result (λ id. WasLeft id
+            (calls L.got self.new.core.sending.senders.items)) }
+        ensures not_left { IfNone result (WasNotLeftAt place
+            (calls L.got self.new.core.sending.senders.items)) }
+
+        // Nothing more is got of a sender, and nothing else changes.
+        ensures calls { calls L.got self.new.core.sending.senders.items
+            ≡ calls L.got self.old.core.sending.senders.items }
+        ensures senders { lanes L.out_name self.new.core.sending.senders.items
+            ≡ lanes L.out_name self.old.core.sending.senders.items }
+        ensures wrote { WritesOn L.got W.contents W.failed [] self.old self.new }
+        ensures rest { self.new ≡ record self.old { core = self.new.core } }
+    {
+        self.core.left_at(place)
+    }
+
+    /// Whether the peer may be told that this side ends the connection, as it wasn't told so before (RFC 9113, section 6.8).
+    pub fn may_leave(&self) -> bool
+        ensures unsaid { result ≡ true → (before : Option (List ℕ)) (run : List Step)
+            → Wrote L.got W.contents W.failed before run self.now
+            → is_going_away run ≡ false }
+        ensures value { result ≡ (not self.now.core.is_dead && not self.now.core.is_leaving) }
+    {
+        self.core.may_leave()
+    }
+
+    /// Whether a PING of this side's own may be the first.
+    pub fn may_probe(&self) -> bool
+        ensures unsaid { result ≡ true → (before : Option (List ℕ)) (run : List Step)
+            → Wrote L.got W.contents W.failed before run self.now → was_probed run ≡ false }
+        ensures value { result ≡ (not self.now.core.is_dead && not self.now.core.has_probed) }
+    {
+        self.core.may_probe()
+    }
+
+    /// Whether no error was told by GOAWAY, nor is to be.
+    pub fn is_faultless(&self) -> bool
+        ensures none { result ≡ true → (before : Option (List ℕ)) (run : List Step)
+            → Wrote L.got W.contents W.failed before run self.now → has_failed run ≡ false }
+        ensures value { result ≡ (not self.now.core.is_dead && not self.now.core.has_failed) }
+    {
+        self.core.is_faultless()
+    }
+
+    /// Takes an order. Where the peer's window overflows by it, the writer ends the stream or the connection by an order
+    /// of its own; `last` is the greatest stream that was looked at, which a GOAWAY then tells.
+    pub fn take(&mut self, control: Control<Sender<L>>, last: StreamId) -> Taking<Sender<L>>
+        // The order is the next step of the run, unless it is handed back, and behind it the writer's own is.
+        ensures wrote { IsUnused L.got control
+            → WritesOn L.got W.contents W.failed
+            (steps_of (order_of control) last result) self.old self.new }
+
+        // The writer ends a stream or the connection exactly where a window would be over 2^31 - 1 bytes.
+        ensures blamed { (before : Option (List ℕ)) (run : List Step)
+            → Wrote L.got W.contents W.failed before run self.old → Blamed result control run }
+        ensures whose { IsOfOrder result control }
+        ensures stands { Stops result self.old.standing self.new.standing }
+
+        // The sender of an Open that is taken stands behind the others, and nothing else changes them.
+        ensures brings { BringsBy result control self.old.core.sending.senders.items
+            self.new.core.sending.senders.items }
+        ensures rest { self.new ≡ record
+            self.old { core = self.new.core; standing = self.new.standing } }
+    {
+        match self.core.control(control) {
+            Ok(()) => Taking::Done,
+            Err(OutFault::OutOfMemory(Some(back))) => Taking::HandedBack(back),
+            Err(OutFault::OutOfMemory(None)) => unreachable!(),
+            Err(OutFault::PeerWindow(id)) => match self.end(id, last) {
+                Ok(()) => Taking::Ended(id),
+                Err(_e) => Taking::Unanswered(id),
+            },
+        }
+    }
+
+    /// Whether credit that is granted on a stream counts: its Open was taken, and it wasn't reset. On the connection, which is
+    /// stream 0, it always does.
+    pub fn takes_credit(&self, id: StreamId) -> bool
+        ensures { result ≡ takes_credit self.now.core id }
+    {
+        self.core.takes_credit(id)
+    }
+
+    /// Owes n bytes more of credit, on a stream, or on the connection where it is 0.
+    pub fn grant(&mut self, id: StreamId, n: u32)
+        ensures wrote { WritesOn L.got W.contents W.failed (Granted id n ∷ []) self.old self.new }
+        ensures senders { self.new.core.sending.senders ≡ self.old.core.sending.senders }
+        ensures rest { self.new ≡ record self.old { core = self.new.core } }
+    {
+        self.core.grant(id, n);
+    }
+
+    /// Gives back the sender of a call that is through: its stream isn't open any more, and no header block of it is
+    /// unfinished. What it was told may still be in the buffer.
+    pub fn release(&mut self, id: StreamId) -> Option<Sender<L>>
+        // That it is given back, with what it has given, is the next step of the run.
+        ensures wrote { IfSome result
+            (λ sender. WritesOn L.got W.contents W.failed
+            (Returned id (L.got sender.rx) ∷ []) self.old self.new) }
+        ensures releases { IfSome result
+            (λ sender. Releases id sender self.old.core.sending.senders.items
+            self.new.core.sending.senders.items) }
+        ensures through { OnSome result (IsThrough id self.old.core) }
+        ensures none { IfNone result (IsThrough id self.old.core
+            → HasNone id self.old.core.sending.senders.items) }
+        ensures unchanged { IfNone result (self.new ≡ self.old) }
+        ensures rest { self.new ≡ record self.old { core = self.new.core } }
+    {
+        self.core.release(id)
+    }
+
+    /// Puts frames into the buffer, until none comes or the longest might not fit. The buffer never has more than
+    /// 131,144 bytes by it.
+    pub fn fill(&mut self) -> Filled
+        // Frames are the next steps of the run. Where none comes, all is written that can be.
+        ensures wrote { Fills L.got (coming L.got L.ahead) W.contents W.failed
+            (Some result) self.old self.new }
+
+        // Each sender stays at its place, an end of the same lane, and none forgets that its call was left.
+        ensures senders { lanes L.out_name self.new.core.sending.senders.items
+            ≡ lanes L.out_name self.old.core.sending.senders.items }
+        ensures gave { (id : ℕ) → GaveLeft id (calls L.got self.old.core.sending.senders.items)
+            → GaveLeft id (calls L.got self.new.core.sending.senders.items) }
+        ensures room { length self.old.buffer.items ≤ 131144
+            → length self.new.buffer.items ≤ 131144 }
+        ensures device { self.new.device ≡ self.old.device }
+        ensures left { self.new.left ≡ self.old.left }
+        ensures goes { result ≢ filled.Stopped → self.new.standing ≡ stands.Going }
+        ensures stopped { self.old.standing ≢ stands.Going
+            → (result ≡ filled.Stopped) × (self.new ≡ self.old) }
+    {
+        match self.standing {
+            Standing::Going => self.fill_on(),
+            Standing::OutOfMemory | Standing::Broken => Filled::Stopped,
+        }
+    }
+
+    /// Writes the buffer to the device, all of it. After a fault a prefix of it was written, and the writer is broken: it
+    /// answers a fault again, and writes nothing.
+    pub fn flush(&mut self) -> Result<(), DeviceFault>
+        ensures wrote { WritesOn L.got W.contents W.failed [] self.old self.new }
+        ensures ok { OnOk result
+            (Appends (W.contents self.old.device)
+            (W.contents self.new.device) self.old.buffer.items) }
+        ensures prefix { OnErr result (self.old.standing ≢ stands.Broken
+            → AppendsPrefix (W.contents self.old.device)
+            (W.contents self.new.device) self.old.buffer.items) }
+        ensures empty { OnOk result (self.new.buffer.items ≡ []) }
+        ensures ended { OnOk result ((self.new.ended.items ≡ [])
+            × (self.new.left.items ≡ self.old.ended.items)) }
+        ensures stands { OnOk result (self.new.standing ≡ self.old.standing) }
+        ensures broken { OnErr result (self.new.standing ≡ stands.Broken) }
+        ensures unmarked { OnOk result (W.failed self.new.device ≡ W.failed self.old.device) }
+        ensures marked { OnErr result (self.old.standing ≢ stands.Broken
+            → W.failed self.new.device ≡ true) }
+        ensures core { self.new.core ≡ self.old.core }
+
+        // What is broken stays as it is, its device too.
+        ensures never_again { self.old.standing ≡ stands.Broken
+            → (self.new ≡ self.old) × IsErr result }
+    {
+        if let Standing::Broken = self.standing {
+            return Err(DeviceFault);
+        }
+        match write_all(&mut self.device, self.buffer.as_slice()) {
+            Ok(()) => {
+                self.buffer.clear();
+                self.left.clear();
+                self.streams.clear();
+                mem::swap(&mut self.left, &mut self.ended);
+                Ok(())
+            }
+            Err(fault) => {
+                self.standing = Standing::Broken;
+                Err(fault)
+            }
+        }
+    }
+
+    /// Makes no more frames, as without memory: for an owner who has none for what it was to be told.
+    pub fn stop(&mut self)
+        ensures wrote { WritesOn L.got W.contents W.failed [] self.old self.new }
+        ensures stops { self.new.standing ≢ stands.Going }
+        ensures dead { self.old.standing ≡ stands.Going → self.new.standing ≡ stands.OutOfMemory }
+        ensures rest { self.new ≡ record self.old { standing = self.new.standing } }
+    {
+        if let Standing::Going = self.standing {
+            self.standing = Standing::OutOfMemory;
+        }
+    }
+
+    /// The last word of a writer whose core ran out of memory, once: GOAWAY with INTERNAL_ERROR into the buffer (RFC 9113,
+    /// section 6.8), where the core may still say one and there is room and memory for it. Whether it is there.
+    pub fn part(&mut self, last: StreamId) -> bool
+        // It is the next step of the run, behind the order for it; unsaid it is none.
+        ensures wrote { WritesOn L.got W.contents W.failed (parting last result) self.old self.new }
+        ensures senders { self.new.core.sending.senders ≡ self.old.core.sending.senders }
+        ensures dead { result ≡ true → (self.old.standing ≡ stands.OutOfMemory)
+            × (self.old.core.is_dead ≡ true) }
+
+        // Behind it nothing more is said.
+        ensures once { result ≡ true → self.new.core.may_part ≡ false }
+        ensures spent { self.old.core.may_part ≡ false → result ≡ false }
+        ensures room { length self.old.buffer.items ≤ 131144
+            → length self.new.buffer.items ≤ 131144 }
+        ensures unsaid { result ≡ false → self.new.buffer.items ≡ self.old.buffer.items }
+        ensures rest { self.new ≡ record
+            self.old { core = self.new.core; buffer = self.new.buffer } }
+    {
+        if self.standing != Standing::OutOfMemory || self.buffer.len() > BUFFER - LONGEST_FRAME {
+            return false;
+        }
+        let Some(frame) = self.core.farewell(last, Reason::Memory) else {
+            return false;
+        };
+        match write_frame(&frame, &mut self.buffer) {
+            Ok(()) => true,
+            Err(_fault) => false,
+        }
+    }
+
+    /// The senders that are kept, and the device.
+    pub fn into_parts(self) -> (Vec<(StreamId, Sender<L>)>, W)
+        ensures senders { result.0 ≡ self.core.sending.senders }
+        ensures device { result.1 ≡ self.device }
+
+        // What was told of each call begins what the items that were got of its sender spell, also where the sender was given back; of a stream that was never opened nothing was
+        // told, a reset, or what a Refuse asked for.
+        ensures fronts { (before : Option (List ℕ)) (run : List Step)
+            → Wrote L.got W.contents W.failed before run self
+            → TellFronts run (calls L.got result.0.items) }
+        ensures returned { (before : Option (List ℕ)) (run : List Step)
+            → Wrote L.got W.contents W.failed before run self → TellReturned run }
+        ensures others { (before : Option (List ℕ)) (run : List Step)
+            → Wrote L.got W.contents W.failed before run self → TellOthers run }
+
+        // The device got a prefix of the spelled frames of the run, and all of them where no write failed and nothing is left,
+        // also where memory ran out.
+        ensures prefix { (before : Option (List ℕ)) (run : List Step)
+            → Wrote L.got W.contents W.failed before run self
+            → IsFront (frames_of run) before (W.contents result.1) }
+        ensures all { self.standing ≢ stands.Broken → self.buffer.items ≡ []
+            → (before : Option (List ℕ)) (run : List Step)
+            → Wrote L.got W.contents W.failed before run self
+            → IsAll (frames_of run) before (W.contents result.1) }
+    {
+        let Frames { core, device, .. } = self;
+        (core.into_senders(), device)
+    }
+
+    /// Ends the stream whose window overflowed, or at 0 the connection. Out of memory, the writer stops.
+    fn end(&mut self, id: StreamId, last: StreamId) -> Result<(), AllocError>
+        ensures wrote { OnOk result
+            (WritesOn L.got W.contents W.failed
+            (Taken (own_order last id) ∷ []) self.old self.new) }
+        ensures still { OnErr result (WritesOn L.got W.contents W.failed [] self.old self.new) }
+        ensures senders { self.new.core.sending.senders.items
+            ≡ self.old.core.sending.senders.items }
+        ensures stands { OnOk result (self.new.standing ≡ self.old.standing) }
+        ensures stops { OnErr result (self.new.standing ≢ stands.Going) }
+        ensures rest { self.new ≡ record
+            self.old { core = self.new.core; standing = self.new.standing } }
+    {
+        match self.core.control(own_order(id, last)) {
+            Ok(()) => Ok(()),
+            Err(OutFault::OutOfMemory(_)) => {
+                self.stop();
+                Err(AllocError)
+            }
+            Err(OutFault::PeerWindow(_)) => unreachable!(),
+        }
+    }
+
+    /// Puts frames into the buffer.
+    fn fill_on(&mut self) -> Filled
+        requires { self.old.standing ≡ stands.Going }
+        ensures wrote { Fills L.got (coming L.got L.ahead) W.contents W.failed
+            (Some result) self.old self.new }
+        ensures senders { lanes L.out_name self.new.core.sending.senders.items
+            ≡ lanes L.out_name self.old.core.sending.senders.items }
+        ensures gave { (id : ℕ) → GaveLeft id (calls L.got self.old.core.sending.senders.items)
+            → GaveLeft id (calls L.got self.new.core.sending.senders.items) }
+        ensures room { length self.old.buffer.items ≤ 131144
+            → length self.new.buffer.items ≤ 131144 }
+        ensures device { self.new.device ≡ self.old.device }
+        ensures left { self.new.left ≡ self.old.left }
+        ensures goes { result ≢ filled.Stopped → self.new.standing ≡ stands.Going }
+    {
+        'frames: while self.buffer.len() <= BUFFER - LONGEST_FRAME {
+            if let Some(filled) = self.add_frame() {
+                return filled;
+            }
+        }
+        Filled::Full
+    }
+
+    /// Puts the next frame into the buffer. Where there is none it says why.
+    fn add_frame(&mut self) -> Option<Filled>
+        requires { self.old.standing ≡ stands.Going }
+        ensures wrote { Fills L.got (coming L.got L.ahead) W.contents W.failed result self.old
+            self.new }
+        ensures senders { lanes L.out_name self.new.core.sending.senders.items
+            ≡ lanes L.out_name self.old.core.sending.senders.items }
+        ensures gave { (id : ℕ) → GaveLeft id (calls L.got self.old.core.sending.senders.items)
+            → GaveLeft id (calls L.got self.new.core.sending.senders.items) }
+        ensures grows { IfNone result (length self.old.buffer.items
+            < length self.new.buffer.items) }
+        ensures fits { length self.new.buffer.items ≤ length self.old.buffer.items + 16393 }
+        ensures goes { result ≢ Some filled.Stopped → self.new.standing ≡ stands.Going }
+        ensures device { self.new.device ≡ self.old.device }
+        ensures left { self.new.left ≡ self.old.left }
+    {
+        // Before the core answers a frame there is room for it, so that none is lost.
+        let Ok(()) = make_room(&mut self.buffer, &mut self.ended, &mut self.streams) else {
+            self.stop();
+            return Some(Filled::Stopped);
+        };
+        match self.core.next_frame() {
+            Ok(Next::Frame(frame)) => {
+                self.put(frame);
+                None
+            }
+            Ok(Next::Idle) => Some(Filled::Idle),
+            Ok(Next::Over) => Some(Filled::Over),
+            Err(_fault) => {
+                self.stop();
+                Some(Filled::Stopped)
+            }
+        }
+    }
+
+    /// Puts a frame into the buffer.
+    fn put(&mut self, frame: Frame)
+        requires sound { IsSound frame }
+        requires room_in_buffer { vec_len self.old.buffer + 16393 ≤ vec_capacity self.old.buffer }
+        requires room { vec_len self.old.ended < vec_capacity self.old.ended }
+        requires room_to_note { vec_len self.old.streams < vec_capacity self.old.streams }
+        ensures puts { Puts frame self.old self.new }
+        ensures fits { length self.new.buffer.items ≤ length self.old.buffer.items + 16393 }
+        ensures left { self.new.left ≡ self.old.left }
+    {
+        let Ok(()) = write_frame(&frame, &mut self.buffer) else {
+            unreachable!();
+        };
+        if ends_stream(&frame) {
+            self.ended.push_reserved(frame.head.stream);
+        }
+        if carries_items(&frame) {
+            note(&mut self.streams, frame.head.stream);
+        }
+    }
+}
+
+/// Room for one frame more, and for one stream more in both lists. A buffer without memory gets all that it needs, so that it never moves.
+fn make_room(
+    buffer: &mut Vec<u8>,
+    ended: &mut Vec<StreamId>,
+    streams: &mut Vec<StreamId>,
+) -> Result<(), AllocError>
+    ensures bytes { buffer.new.items ≡ buffer.old.items }
+    ensures items { ended.new.items ≡ ended.old.items }
+    ensures room_in_buffer { OnOk result
+        (vec_len buffer.new + 16393 ≤ vec_capacity buffer.new) }
+    ensures room { OnOk result (vec_len ended.new < vec_capacity ended.new) }
+    ensures room_to_note { OnOk result (vec_len streams.new < vec_capacity streams.new) }
+{
+    let bytes = if buffer.is_empty() {
+        BUFFER
+    } else {
+        LONGEST_FRAME
+    };
+    buffer.reserve(bytes)?;
+    ended.reserve(1)?;
+    streams.reserve(1)
+}
+
+/// Notes a stream, unless it is noted.
+fn note(streams: &mut Vec<StreamId>, id: StreamId)
+    requires room { vec_len streams.old < vec_capacity streams.old }
+{
+    if !streams.as_slice().contains(&id) {
+        streams.push_reserved(id);
+    }
+}
+
+/// Whether a frame has something of an item of a call.
+fn carries_items(frame: &Frame) -> bool {
+    matches!(frame.head.kind, FrameKind::Data | FrameKind::Headers)
+}
+
+/// The order that ends a stream, or at 0 the connection.
+fn own_order<S>(id: StreamId, last: StreamId) -> Control<S>
+    ensures { result ≡ own_control last id }
+{
+    if id == 0 {
+        let reason = Reason::Window;
+        return Control::Goaway { last, reason };
+    }
+    Control::Reset {
+        id,
+        code: ErrorCode::FlowControlError,
+        written: true,
+    }
+}
+
+/// Whether a frame ends its stream (RFC 9113, sections 6.1 and 6.2).
+fn ends_stream(frame: &Frame) -> bool
+    ensures { result ≡ ends_stream frame.now }
+{
+    match frame.head.kind {
+        FrameKind::Data | FrameKind::Headers => frame.head.flags.contains(Flags::END_STREAM),
+        _ => false,
+    }
+}

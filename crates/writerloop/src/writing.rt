@@ -1,0 +1,843 @@
+//! What the writing side of a connection has, and its steps.
+
+ghost use Rattle.std.specs.Prelude.{◌≡◌};
+ghost use Rattle.writerloop.specs.Keys.{Keys_set};
+ghost use Rattle.writerloop.specs.Sent.{core_keys, keys};
+
+use crate::filled::Filled;
+use crate::frames::Frames;
+use crate::inbox::Inbox;
+use crate::opening::{begin, split};
+use crate::sends::Sends;
+use crate::standing::Standing;
+use crate::steps::{Rest, Took, Waiting};
+use crate::taking::Taking;
+use callbox::Sender;
+use callparts::{Ending, Naming, Opening, Order, OutLane, Returning};
+use device::{ConnWrite, DeviceFault};
+use h2frame::{ErrorCode, StreamId};
+use lane::{RingIn, RingOut};
+use outwriter::Control;
+use reasons::Reason;
+use std::alloc::Global;
+use std::snapshot::Snapshot;
+
+/// The greatest number of a stream (RFC 9113, section 5.1.1).
+const GREATEST_STREAM: StreamId = 2_147_483_647;
+
+/// The eight bytes of the PING that goes with a warning: "draining".
+const DRAINING: [u8; 8] = [100, 114, 97, 105, 110, 105, 110, 103];
+
+/// What the writing side of a connection has.
+#[derive(Drop)]
+pub struct Writing<J: Naming, W: ConnWrite> {
+    inbox: Inbox<Opening<J>>,
+    frames: Frames<OutLane, W>,
+    /// The calls whose senders the core has.
+    sends: Sends<J>,
+    /// Whether no more comes from the peer.
+    input_ended: bool,
+    /// Whether no more orders come.
+    closed: bool,
+    /// Whether the writer has ended the connection by itself, since a window of the peer's would be too large.
+    blames: bool,
+    ghost aligned: { keys sends.calls.items ≡ core_keys frames.core.sending.senders.items } by { Keys_set (keys sends.calls.items) (core_keys frames.core.sending.senders.items) },
+}
+
+/// What a writer hands back: how the connection ended as far as it sees, whether no error was told
+/// by GOAWAY, what it wrote to, its end of the ring of orders, and the senders that didn't go back before.
+#[derive(Drop)]
+pub struct Written<J: Naming, W: ConnWrite + Drop> {
+    pub ending: Option<Ending>,
+    pub is_faultless: bool,
+    pub device: W,
+    pub orders: RingOut<Order<J>>,
+    pub rest: Senders<J>,
+}
+
+/// The senders that a writer had at its end, and its end of the way on which the others went back.
+#[derive(Drop)]
+pub struct Senders<J: Naming> {
+    sends: Sends<J>,
+    core: Vec<(StreamId, Sender<OutLane>)>,
+    /// An order that was set aside.
+    aside: Option<Order<J>>,
+    ghost aligned: { keys sends.calls.items ≡ core_keys core.items } by { Keys_set (keys sends.calls.items) (core_keys core.items) },
+}
+
+impl<J: Naming> Senders<J> {
+    ghost use Rattle.std.specs.Prelude.{[], None, IfNone, IfSome};
+    ghost use Rattle.writerloop.specs.Orders.{order_in};
+    ghost use Rattle.writerloop.specs.Rest.{HandsOver, rest_numbers};
+    ghost use Rattle.writerloop.specs.Sent.{opens};
+
+    /// The next of them.
+    pub fn next(&mut self) -> Option<Returning<J>>
+        ensures some { IfSome result (HandsOver self.old self.new) }
+        ensures none { IfNone result (rest_numbers self.old ≡ []) }
+        ensures way { self.new.sends.home ≡ self.old.sends.home }
+    {
+        match self.next_aside() {
+            Some(returning) => Some(returning),
+            None => self.next_in_core(),
+        }
+    }
+
+    /// That of the order that was set aside, if it opens a call.
+    fn next_aside(&mut self) -> Option<Returning<J>>
+        ensures some { IfSome result (HandsOver self.old self.new) }
+        ensures none { IfNone result (opens (order_in self.old.aside) ≡ []) }
+        ensures aside { self.new.aside ≡ None }
+        ensures sends { self.new.sends ≡ self.old.sends }
+        ensures core { self.new.core ≡ self.old.core }
+    {
+        let order = self.aside.take()?;
+        match split(order) {
+            Ok(_plain) => None,
+            Err((_id, opening)) => {
+                let Opening { sending, .. } = opening;
+                Some(Returning { sending })
+            }
+        }
+    }
+
+    /// That of the last call whose sender the core had.
+    fn next_in_core(&mut self) -> Option<Returning<J>>
+        requires { self.old.aside ≡ None }
+        ensures some { IfSome result (HandsOver self.old self.new) }
+        ensures none { IfNone result (rest_numbers self.old ≡ []) }
+        ensures way { self.new.sends.home ≡ self.old.sends.home }
+    {
+        match self.core.pop() {
+            Some(last) => {
+                let (_id, sender) = last;
+                Some(self.sends.take_last(sender))
+            }
+            None => None,
+        }
+    }
+
+    /// The end of the way back that puts.
+    pub fn into_home(self) -> RingIn<Returning<J>>
+        ensures { result ≡ self.sends.home }
+    {
+        let Senders { sends, .. } = self;
+        sends.into_home()
+    }
+}
+
+impl<J: Naming, W: ConnWrite + Drop> Writing<J, W> {
+    ghost use Rattle.std.specs.Prelude.{◌≢◌, ◌⊎◌, ◌||◌, ◌+◌, ℕ, nat_eq, if◌then◌else◌, true, false};
+    ghost use Rattle.std.specs.Prelude.{List, [], length, Option, None, Some, IfNone, IfSome, OnErr, OnOk};
+    ghost use Rattle.lane.specs.Ring.{in_name, put_in, taken};
+    ghost use Rattle.lane.specs.RingLane.{got};
+    ghost use Rattle.h2frame.specs.declared.error_code.ErrorCode.{ErrorCode as Code};
+    ghost use Rattle.h2frame.specs.declared.error_code.ErrorCode.TheVariants.{FlowControlError};
+    ghost use Rattle.outwriter.specs.Cores.{calls, open_stream, takes_credit};
+    ghost use Rattle.outwriter.specs.declared.control.Control.TheVariants as orders;
+    ghost use Rattle.outwriter.specs.LeftCalls.{WasLeft};
+    ghost use Rattle.outwriter.specs.RunState.{is_held};
+    ghost use Rattle.outwriter.specs.Steps.{Step, order_of};
+    ghost use Rattle.flow.specs.Windows.{room};
+    ghost use Rattle.callparts.specs.declared.report.Ending.TheVariants as ending;
+    ghost use Rattle.writerloop.specs.declared.filled.Filled.TheVariants as filling;
+    ghost use Rattle.writerloop.specs.declared.standing.Standing.TheVariants as stands;
+    ghost use Rattle.writerloop.specs.declared.steps.Rest.TheVariants as rest;
+    ghost use Rattle.writerloop.specs.declared.steps.Took.TheVariants as took;
+    ghost use Rattle.writerloop.specs.declared.steps.Waiting.TheVariants as waiting;
+    ghost use Rattle.writerloop.specs.Orders.{IsWarning, OpensNone, TakesNoWindow, Warns, closes, orders_of, waiting_of};
+    ghost use Rattle.writerloop.specs.OwnOrders.{Blamed, steps_of};
+    ghost use Rattle.writerloop.specs.Sent.{SameCalls};
+    ghost use Rattle.writerloop.specs.Wrote.{WritesOn, Wrote};
+    ghost use Rattle.writerloop.specs.Written.{Begins, HasSent, HasWritten, Heeds, IsFlushed, Led, core_of};
+    ghost use Rattle.writerloop.specs.Written.{LedOut, LeadsOn, LeadsOut, LeadsTo, Parts};
+    ghost use Rattle.writerloop.specs.Written.{PassesOver, Stays, Takes, rest_of, stream_at};
+
+    /// A writer that has taken no orders, handed no sender back, and written nothing to a device that was so.
+    pub fn new(
+        alloc: Global,
+        orders: RingOut<Order<J>>,
+        home: RingIn<Returning<J>>,
+        device: W,
+        was: &Snapshot<W>,
+    ) -> Writing<J, W>
+        requires was { was.now.value ≡ device }
+        requires none { taken orders ≡ [] }
+        requires none_back { put_in home ≡ [] }
+        ensures led { Led W.contents W.failed (W.contents was.now.value) 0 result }
+        ensures ring { result.inbox.ring ≡ orders }
+        ensures way { result.sends.home ≡ home }
+    {
+        let frames = Frames::new(alloc, device);
+        Writing {
+            inbox: Inbox::new(orders),
+            frames,
+            sends: Sends::new(alloc, home),
+            input_ended: false,
+            closed: false,
+            blames: false,
+        }
+    }
+
+    // ---- orders
+
+    /// Which order is the next to be taken.
+    pub fn look(&mut self) -> Waiting
+        ensures stays { Stays W.contents W.failed self.old self.new }
+        ensures rest { self.new ≡ record self.old { inbox = self.new.inbox } }
+        ensures waiting { result ≡ waiting_of self.new.inbox.set_aside }
+        ensures nothing { result ≡ waiting.Nothing → self.new.inbox.set_aside ≡ None }
+        ensures other { result ≡ waiting.Other → IfSome self.new.inbox.set_aside TakesNoWindow }
+    {
+        self.inbox.look();
+        self.waiting()
+    }
+
+    /// Which order is set aside.
+    fn waiting(&self) -> Waiting
+        ensures waiting { result ≡ waiting_of self.now.inbox.set_aside }
+        ensures nothing { result ≡ waiting.Nothing → self.now.inbox.set_aside ≡ None }
+        ensures other { result ≡ waiting.Other → IfSome self.now.inbox.set_aside TakesNoWindow }
+    {
+        match &self.inbox.set_aside {
+            None => Waiting::Nothing,
+            Some(Control::Settings(_) | Control::Window(..)) => Waiting::Window,
+            Some(Control::Goaway { .. }) => Waiting::Goaway,
+            Some(_) => Waiting::Other,
+        }
+    }
+
+    /// Takes the next order; `last` is the greatest stream that was admitted, which a GOAWAY of the
+    /// writer's own tells (RFC 9113, section 6.8). Once one was lost only Close is taken.
+    pub fn take_next(&mut self, last: StreamId) -> Took
+        ensures leads { LeadsOn W.contents W.failed self.old self.new }
+        ensures lost { result ≡ took.Lost → self.new.inbox.has_lost ≡ true }
+        ensures stops { result ≡ took.Stops → self.new.blames ≡ true }
+    {
+        let Some(order) = self.inbox.next() else {
+            return Took::Nothing;
+        };
+        if self.inbox.has_lost {
+            return self.pass_over(order, last);
+        }
+        match split(order) {
+            Ok(control) => self.take(control, last),
+            Err((id, opening)) => self.begin(id, opening),
+        }
+    }
+
+    /// Takes an order that opens no call; none was lost.
+    fn take(&mut self, order: Control<Sender<OutLane>>, last: StreamId) -> Took
+        requires plain { OpensNone order }
+        requires kept { self.old.inbox.has_lost ≡ false }
+        ensures takes { Takes W.contents W.failed (order_of order) self.old self.new }
+        ensures inbox { self.new.inbox
+            ≡ record self.old.inbox { has_lost = self.new.inbox.has_lost } }
+        ensures heeds { Heeds (order_of order) self.old self.new }
+        ensures way { in_name self.new.sends.home ≡ in_name self.old.sends.home }
+        ensures lost { result ≡ took.Lost → self.new.inbox.has_lost ≡ true }
+        ensures stops { result ≡ took.Stops → self.new.blames ≡ true }
+    {
+        self.note(&order);
+        match self.give(order, last) {
+            Taking::Done => Took::One,
+            Taking::Ended(id) => self.end(id),
+            Taking::Unanswered(_) => self.lose(),
+            Taking::HandedBack(_) => self.lose(),
+        }
+    }
+
+    /// Gives the core an order that opens no call.
+    fn give(&mut self, order: Control<Sender<OutLane>>, last: StreamId) -> Taking<Sender<OutLane>>
+        requires plain { OpensNone order }
+        ensures wrote { WritesOn got W.contents W.failed (steps_of (order_of order) last result)
+            self.old.frames self.new.frames }
+        ensures blamed { (before : Option (List ℕ)) (run : List Step)
+            → Wrote got W.contents W.failed before run self.old.frames
+            → Blamed result order run }
+        ensures core { core_of self.new ≡ core_of self.old }
+        ensures sends { self.new.sends ≡ self.old.sends }
+        ensures inbox { self.new.inbox ≡ self.old.inbox }
+        ensures input { self.new.input_ended ≡ self.old.input_ended }
+        ensures closed { self.new.closed ≡ self.old.closed }
+        ensures blames { self.new.blames ≡ self.old.blames }
+    {
+        self.frames.take(order, last)
+    }
+
+    /// A call begins; no order was lost. Without memory its order is set aside.
+    fn begin(&mut self, id: StreamId, opening: Opening<J>) -> Took
+        requires kept { self.old.inbox.has_lost ≡ false }
+        requires none_aside { self.old.inbox.set_aside ≡ None }
+        ensures begins { self.new.inbox.has_lost ≡ false
+            → Begins W.contents W.failed (orders.Open id opening) self.old self.new }
+        ensures waits { self.new.inbox.has_lost ≡ true
+            → self.new.inbox.set_aside ≡ Some (orders.Open id opening) }
+        ensures parts { self.new.inbox.has_lost ≡ true
+            → Parts W.contents W.failed self.old self.new }
+        ensures ring { self.new.inbox.ring ≡ self.old.inbox.ring }
+        ensures way { in_name self.new.sends.home ≡ in_name self.old.sends.home }
+        ensures one { self.new.inbox.has_lost ≡ false → self.new.inbox ≡ self.old.inbox }
+        ensures input { self.new.input_ended ≡ self.old.input_ended }
+        ensures closed { self.new.closed ≡ self.old.closed }
+        ensures lost { result ≡ took.Lost → self.new.inbox.has_lost ≡ true }
+        ensures goes { result ≢ took.Stops }
+    {
+        match begin(&mut self.frames, &mut self.sends, id, opening) {
+            Ok(()) => Took::One,
+            Err(order) => {
+                self.inbox.set_aside = Some(order);
+                self.lose()
+            }
+        }
+    }
+
+    /// Takes an order behind one that was lost: only a Close, and else that is lost too; the sender of a call goes back.
+    fn pass_over(&mut self, order: Order<J>, last: StreamId) -> Took
+        requires lost { self.old.inbox.has_lost ≡ true }
+        requires none_aside { self.old.inbox.set_aside ≡ None }
+        ensures passes { result ≡ took.One → PassesOver W.contents W.failed order self.old self.new }
+        ensures inbox { result ≡ took.One → self.new.inbox ≡ self.old.inbox }
+
+        // Or it waits, and nothing else changes.
+        ensures waits { result ≡ took.Early → self.new.inbox
+            ≡ record self.old.inbox { set_aside = Some order } }
+        ensures same { result ≡ took.Early → (self.new.sends.calls ≡ self.old.sends.calls)
+            × (put_in self.new.sends.home ≡ put_in self.old.sends.home) }
+        ensures frames { result ≡ took.Early → self.new.frames ≡ self.old.frames }
+        ensures closed { result ≡ took.Early → self.new.closed ≡ self.old.closed }
+        ensures either { result ≢ took.One → result ≡ took.Early }
+        ensures heeds { self.new.closed ≡ (closes (order_of order) || self.old.closed) }
+        ensures way { in_name self.new.sends.home ≡ in_name self.old.sends.home }
+        ensures input { self.new.input_ended ≡ self.old.input_ended }
+        ensures blames { self.new.blames ≡ self.old.blames }
+    {
+        match order {
+            Control::Open(id, opening) => self.turn_back(id, opening),
+            Control::Close => {
+                self.close(last);
+                Took::One
+            }
+            _ => Took::One,
+        }
+    }
+
+    /// The sender of a call whose order is lost goes back. Where there is no place for it the order waits.
+    fn turn_back(&mut self, id: StreamId, opening: Opening<J>) -> Took
+        ensures passes { result ≡ took.One
+            → PassesOver W.contents W.failed (orders.Open id opening) self.old self.new }
+        ensures inbox { result ≡ took.One → self.new.inbox ≡ self.old.inbox }
+        ensures waits { result ≡ took.Early → self.new.inbox
+            ≡ record self.old.inbox { set_aside = Some (orders.Open id opening) } }
+        ensures put { result ≡ took.Early
+            → put_in self.new.sends.home ≡ put_in self.old.sends.home }
+        ensures either { result ≢ took.One → result ≡ took.Early }
+        ensures way { in_name self.new.sends.home ≡ in_name self.old.sends.home }
+        ensures calls { self.new.sends.calls ≡ self.old.sends.calls }
+        ensures frames { self.new.frames ≡ self.old.frames }
+        ensures input { self.new.input_ended ≡ self.old.input_ended }
+        ensures closed { self.new.closed ≡ self.old.closed }
+        ensures blames { self.new.blames ≡ self.old.blames }
+    {
+        match self.sends.turn_back(opening) {
+            Ok(()) => Took::One,
+            Err(opening) => {
+                self.inbox.set_aside = Some(Control::Open(id, opening));
+                Took::Early
+            }
+        }
+    }
+
+    /// No more orders come, behind one that was lost. Whether the core took that.
+    fn close(&mut self, last: StreamId) -> bool
+        ensures passes { PassesOver W.contents W.failed orders.Close self.old self.new }
+        ensures way { in_name self.new.sends.home ≡ in_name self.old.sends.home }
+        ensures inbox { self.new.inbox ≡ self.old.inbox }
+        ensures input { self.new.input_ended ≡ self.old.input_ended }
+        ensures closed { self.new.closed ≡ true }
+        ensures blames { self.new.blames ≡ self.old.blames }
+    {
+        self.closed = true;
+        let taking = self.give(Control::Close, last);
+        matches!(taking, Taking::Done)
+    }
+
+    /// Notes what ends by an order.
+    fn note(&mut self, order: &Control<Sender<OutLane>>)
+        ensures heeds { Heeds (order_of order.now) self.old self.new }
+        ensures calls { SameCalls self.old.sends.calls.items self.new.sends.calls.items }
+        ensures way { self.new.sends.home ≡ self.old.sends.home }
+        ensures frames { self.new.frames ≡ self.old.frames }
+        ensures inbox { self.new.inbox ≡ self.old.inbox }
+        ensures blames { self.new.blames ≡ self.old.blames }
+    {
+        match order {
+            Control::InputEnded => self.input_ended = true,
+            Control::Close => self.closed = true,
+            Control::Reset { id, .. } => self.sends.note_through(*id),
+            _ => {}
+        }
+    }
+
+    /// The writer has ended a stream, or at 0 the connection.
+    fn end(&mut self, id: StreamId) -> Took
+        ensures calls { SameCalls self.old.sends.calls.items self.new.sends.calls.items }
+        ensures way { self.new.sends.home ≡ self.old.sends.home }
+        ensures frames { self.new.frames ≡ self.old.frames }
+        ensures inbox { self.new.inbox ≡ self.old.inbox }
+        ensures input { self.new.input_ended ≡ self.old.input_ended }
+        ensures closed { self.new.closed ≡ self.old.closed }
+        ensures blames { self.new.blames ≡ true → (id ≡ 0) ⊎ (self.old.blames ≡ true) }
+        ensures stops { result ≡ took.Stops → self.new.blames ≡ true }
+        ensures ends { result ≢ took.Lost }
+    {
+        if id == 0 {
+            self.blames = true;
+            return Took::Stops;
+        }
+        self.sends.note_through(id);
+        Took::Ends(id)
+    }
+
+    /// An order was lost, or the answer to it.
+    fn lose(&mut self) -> Took
+        ensures lost { result ≡ took.Lost }
+        ensures rest { self.new ≡ record
+            self.old { inbox = record self.old.inbox { has_lost = true } } }
+    {
+        self.inbox.has_lost = true;
+        Took::Lost
+    }
+
+    /// Ends the connection once an order was lost: by GOAWAY where there is memory for that, and
+    /// behind it nothing is written.
+    pub fn give_up(&mut self, last: StreamId)
+        requires lost { self.old.inbox.has_lost ≡ true }
+        ensures leads { LeadsOn W.contents W.failed self.old self.new }
+    {
+        if !self.part(last) {
+            self.frames.stop();
+        }
+    }
+
+    /// Gives the core a GOAWAY of the writer's own. Whether it was taken.
+    fn part(&mut self, last: StreamId) -> bool
+        ensures parts { Parts W.contents W.failed self.old self.new }
+        ensures way { in_name self.new.sends.home ≡ in_name self.old.sends.home }
+        ensures inbox { self.new.inbox ≡ self.old.inbox }
+        ensures input { self.new.input_ended ≡ self.old.input_ended }
+        ensures closed { self.new.closed ≡ self.old.closed }
+    {
+        let reason = Reason::Memory;
+        let taking = self.give(Control::Goaway { last, reason }, last);
+        matches!(taking, Taking::Done)
+    }
+
+    /// Wakes the worker of the call of a stream that the writer has ended, once the call was cut:
+    /// so it sees that.
+    pub fn wake(&self, id: StreamId) {
+        self.sends.wake(id);
+    }
+
+    /// Wakes the workers that wait for room, where something of their calls is in the buffer: for
+    /// that items were taken.
+    pub fn wake_for_room(&self) {
+        for id in self.frames.streams() {
+            self.sends.wake_for_room(*id);
+        }
+    }
+
+    /// Wakes all workers that wait for room, once no call is live: so they see that.
+    pub fn wake_all(&self) {
+        self.sends.wake_all();
+    }
+
+    // ---- calls that were left
+
+    /// Resets the streams of calls that were left without trailers, with INTERNAL_ERROR, so that
+    /// their clients don't wait: where the peer sends on and no order waits, since the client may have
+    /// reset the stream. Such a call's sender gave that last, so all else that it gave is in frames.
+    /// Answers whether its owner is to go on at once, since a call was reset.
+    pub fn reset_left(&mut self) -> bool
+        // No call is reset whose sender gave something else last, as trailers, or nothing: so the run says.
+        ensures leads { LeadsOn W.contents W.failed self.old self.new }
+    {
+        let Waiting::Nothing = self.look() else {
+            return false;
+        };
+        if self.inbox.has_lost || self.input_ended {
+            return false;
+        }
+        let mut goes_on = false;
+        'calls: for place in 0..self.frames.calls() {
+            if self.reset_left_at(place) {
+                goes_on = true;
+            }
+        }
+        goes_on
+    }
+
+    /// The same of one, by its sender's place. Whether there was one, and memory for that.
+    fn reset_left_at(&mut self, place: usize) -> bool
+        requires kept { self.old.inbox.has_lost ≡ false }
+        requires going { self.old.input_ended ≡ false }
+        ensures leads { LeadsOn W.contents W.failed self.old self.new }
+        ensures inbox { self.new.inbox ≡ self.old.inbox }
+        ensures input { self.new.input_ended ≡ self.old.input_ended }
+    {
+        let Some(id) = self.left_at(place) else {
+            return false;
+        };
+        if self.sends.is_through(id) {
+            return false;
+        }
+        self.reset(id)
+    }
+
+    /// The stream of the call whose sender stands at this place, where it gave last that the call was left.
+    fn left_at(&mut self, place: usize) -> Option<StreamId>
+        ensures left { IfSome result (λ id. WasLeft id (calls got (core_of self.new))) }
+        ensures leads { LeadsOn W.contents W.failed self.old self.new }
+        ensures inbox { self.new.inbox ≡ self.old.inbox }
+        ensures input { self.new.input_ended ≡ self.old.input_ended }
+    {
+        self.frames.left_at(place)
+    }
+
+    /// Resets the stream of a call that was left. Whether there was memory for that.
+    fn reset(&mut self, id: StreamId) -> bool
+        requires kept { self.old.inbox.has_lost ≡ false }
+        requires going { self.old.input_ended ≡ false }
+        requires left { WasLeft id (calls got (core_of self.old)) }
+        ensures leads { LeadsOn W.contents W.failed self.old self.new }
+        ensures inbox { self.new.inbox ≡ self.old.inbox }
+        ensures input { self.new.input_ended ≡ self.old.input_ended }
+    {
+        let code = ErrorCode::InternalError;
+        let written = true;
+        let taking = self.give(Control::Reset { id, code, written }, 0);
+        let Taking::Done = taking else {
+            return false;
+        };
+        self.sends.note_through(id);
+        true
+    }
+
+    // ---- the end while calls go on
+
+    /// Warns the peer, once, that this side is to end the connection while calls go on (RFC 9113,
+    /// section 6.8): by a GOAWAY without an error that names the greatest number of a stream, unless
+    /// a GOAWAY was ordered before, and by a PING. Out of memory, or once an order was lost, it may
+    /// be left out.
+    pub fn warn(&mut self)
+        ensures leads { LeadsOn W.contents W.failed self.old self.new }
+    {
+        if !self.inbox.has_lost {
+            self.warn_by_goaway();
+            self.warn_by_ping();
+        }
+    }
+
+    /// The GOAWAY of it.
+    fn warn_by_goaway(&mut self)
+        requires kept { self.old.inbox.has_lost ≡ false }
+        ensures leads { LeadsOn W.contents W.failed self.old self.new }
+        ensures inbox { self.new.inbox ≡ self.old.inbox }
+    {
+        if self.frames.may_leave() {
+            let (last, reason) = (GREATEST_STREAM, Reason::Code(ErrorCode::NoError));
+            self.warn_by(Control::Goaway { last, reason });
+        }
+    }
+
+    /// The PING of it.
+    fn warn_by_ping(&mut self)
+        requires kept { self.old.inbox.has_lost ≡ false }
+        ensures leads { LeadsOn W.contents W.failed self.old self.new }
+        ensures inbox { self.new.inbox ≡ self.old.inbox }
+    {
+        if self.frames.may_probe() {
+            self.warn_by(Control::Probe(DRAINING));
+        }
+    }
+
+    /// Gives the core a warning. Whether it was taken.
+    fn warn_by(&mut self, warning: Control<Sender<OutLane>>) -> bool
+        requires kept { self.old.inbox.has_lost ≡ false }
+        requires own { IsWarning warning }
+        requires warns { (before : Option (List ℕ)) (run : List Step)
+            → Wrote got W.contents W.failed before run self.old.frames
+            → Warns (order_of warning) run }
+        ensures leads { LeadsOn W.contents W.failed self.old self.new }
+        ensures inbox { self.new.inbox ≡ self.old.inbox }
+    {
+        let taking = self.give(warning, GREATEST_STREAM);
+        matches!(taking, Taking::Done)
+    }
+
+    // ---- frames
+
+    /// Whether credit that is granted on a stream counts: the order that opens it was taken, and none
+    /// that resets it. On the connection, which is stream 0, it always does.
+    pub fn takes_credit(&self, id: StreamId) -> bool
+        ensures { result ≡ takes_credit self.now.frames.core id }
+    {
+        self.frames.takes_credit(id)
+    }
+
+    /// Owes the peer n bytes more of credit, on a stream, or on the connection where it is 0.
+    pub fn grant(&mut self, id: StreamId, n: u32)
+        // On the connection just so much more credit was granted.
+        ensures leads { (had has : ℕ) → has ≡ had + (if nat_eq id 0 then n else 0)
+            → LeadsTo W.contents W.failed had self.old has self.new }
+    {
+        self.frames.grant(id, n);
+    }
+
+    /// Puts frames into the buffer, until none comes or the longest might not fit.
+    pub fn fill(&mut self) -> Filled
+        ensures leads { LeadsOn W.contents W.failed self.old self.new }
+        ensures over { result ≡ filling.Over → LeadsOut W.contents W.failed self.old self.new }
+        ensures stopped { result ≡ filling.Stopped
+            → LeadsOut W.contents W.failed self.old self.new }
+    {
+        self.frames.fill()
+    }
+
+    /// Tells the peer that no more frames come, where the core had no memory for one: by its last
+    /// word, a GOAWAY of the writer's own.
+    pub fn say_last(&mut self, last: StreamId)
+        ensures stays { Stays W.contents W.failed self.old self.new }
+    {
+        if self.frames.part(last) {
+            self.inbox.has_lost = true;
+        }
+    }
+
+    /// Whether nothing is in the buffer.
+    pub fn is_flushed(&self) -> bool
+        ensures none { result ≡ true → self.now.frames.buffer.items ≡ [] }
+        ensures some { result ≡ false → self.now.frames.buffer.items ≢ [] }
+    {
+        self.frames.is_flushed()
+    }
+
+    /// Hands the senders of calls that are through back, before the peer can see that. Whether there was one.
+    pub fn release_all(&mut self) -> bool
+        ensures stays { Stays W.contents W.failed self.old self.new }
+    {
+        let mut has_one = false;
+        'ended: for index in 0..self.frames.ended().len() {
+            if self.release_ended_at(index) {
+                has_one = true;
+            }
+        }
+        if self.release_through() {
+            has_one = true;
+        }
+        has_one
+    }
+
+    /// That of the call whose END_STREAM is in the buffer, by its place there.
+    fn release_ended_at(&mut self, index: usize) -> bool
+        ensures stays { Stays W.contents W.failed self.old self.new }
+    {
+        match self.frames.ended().get(index).copied() {
+            Some(id) => self.release(id),
+            None => false,
+        }
+    }
+
+    /// Those of calls that were reset, and of those for which there was no place.
+    fn release_through(&mut self) -> bool
+        ensures stays { Stays W.contents W.failed self.old self.new }
+    {
+        if !self.sends.are_some_through() {
+            return false;
+        }
+        self.sends.look_through();
+        let mut has_one = false;
+        let count = self.sends.len();
+        'calls: for place in 1..=count {
+            if self.release_through_at(count - place) {
+                has_one = true;
+            }
+        }
+        has_one
+    }
+
+    /// That of the call at this place, where it is to go back.
+    fn release_through_at(&mut self, place: usize) -> bool
+        ensures stays { Stays W.contents W.failed self.old self.new }
+    {
+        match self.sends.through_at(place) {
+            Some(id) => self.release(id),
+            None => false,
+        }
+    }
+
+    /// Hands the sender of a call back. Where there is no place, or the call isn't through yet, that is noted: a full buffer
+    /// may have cut a header block of it.
+    fn release(&mut self, id: StreamId) -> bool
+        ensures stays { Stays W.contents W.failed self.old self.new }
+    {
+        if !self.sends.has_place() {
+            self.sends.note_through(id);
+            return false;
+        }
+        match self.frames.release(id) {
+            Some(sender) => {
+                self.sends.hand_back(id, sender);
+                true
+            }
+            None => {
+                self.sends.note_through(id);
+                false
+            }
+        }
+    }
+
+    /// The streams whose END_STREAM is in the buffer: their calls take no more DATA, and from the
+    /// next flush on they may have left.
+    pub fn ended(&self) -> &[StreamId]
+        ensures { result.now ≡ self.now.frames.ended.items }
+    {
+        self.frames.ended()
+    }
+
+    /// Writes what is in the buffer. After a fault nothing more is written, and the connection is
+    /// to be stopped.
+    pub fn flush(&mut self) -> Result<(), DeviceFault>
+        ensures stays { Stays W.contents W.failed self.old self.new }
+        ensures flushed { IsFlushed self.new }
+        ensures went { OnOk result (self.new.frames.standing ≢ stands.Broken) }
+        ensures broken { OnErr result (self.new.frames.standing ≡ stands.Broken) }
+    {
+        self.frames.flush()
+    }
+
+    /// The streams whose END_STREAM the last flush wrote.
+    pub fn left(&self) -> &[StreamId]
+        ensures { result.now ≡ self.now.frames.left.items }
+    {
+        self.frames.left()
+    }
+
+    // ---- the end
+
+    /// What comes once the buffer was filled and written; `is_silent` where it was empty.
+    pub fn rest(&self, filled: Filled, is_silent: bool) -> Rest
+        ensures rest { result ≡ rest_of filled is_silent self.now.closed }
+        ensures over { result ≡ rest.Over → filled ≡ filling.Over }
+        ensures stopped { result ≡ rest.StoppedOver → filled ≡ filling.Stopped }
+    {
+        match filled {
+            Filled::Full => Rest::None,
+            Filled::Idle if !is_silent => Rest::None,
+            Filled::Idle => Rest::Idle,
+            Filled::Stopped if self.closed => Rest::StoppedOver,
+            Filled::Stopped => Rest::Stopped,
+            Filled::Over => Rest::Over,
+        }
+    }
+
+    /// How many calls' senders the core has.
+    pub fn calls(&self) -> usize
+        ensures { result ≡ length self.now.sends.calls.items }
+    {
+        self.sends.len()
+    }
+
+    /// The stream of the call at this place that waits for a window which won't open, since the input has
+    /// ended: the call is to be cut.
+    pub fn stuck(&self, place: usize) -> Option<StreamId>
+        ensures ended { IfSome result (λ id. self.now.input_ended ≡ true) }
+        ensures held { IfSome result (λ id. is_held (open_stream self.now.frames.core id)
+            (room self.now.frames.core.sending.outbound.states.windows id) ≡ true) }
+        ensures whose { IfSome result (λ id. stream_at place self.now ≡ Some id) }
+        // None, where the call doesn't wait so.
+        ensures none { IfNone result (self.now.input_ended ≡ true → (id : ℕ)
+            → stream_at place self.now ≡ Some id
+            → is_held (open_stream self.now.frames.core id)
+            (room self.now.frames.core.sending.outbound.states.windows id) ≡ false) }
+    {
+        if !self.input_ended {
+            return None;
+        }
+        let id = self.sends.stream_at(place)?;
+        if self.frames.held(id) { Some(id) } else { None }
+    }
+
+    /// What is handed back once no more is to be written.
+    pub fn into_end(self) -> Written<J, W>
+        requires flushed { IsFlushed self }
+        ensures written { (before : Option (List ℕ)) (credit : ℕ)
+            → LedOut W.contents W.failed before credit self
+            → HasWritten W.contents W.failed before credit (orders_of (taken result.orders))
+            result.ending result.is_faultless result.device }
+
+        // With the senders of all calls, which tell what was sent of each.
+        ensures sent { (before : Option (List ℕ)) (credit : ℕ)
+            → LedOut W.contents W.failed before credit self
+            → HasSent W.contents W.failed before credit (taken result.orders) result.rest
+            result.ending result.is_faultless result.device }
+        ensures ring { result.orders ≡ self.inbox.ring }
+        ensures way { result.rest.sends.home ≡ self.sends.home }
+    {
+        let ending = self.ending();
+        let Writing {
+            inbox,
+            frames,
+            sends,
+            ..
+        } = self;
+        let is_faultless = frames.is_faultless();
+        let (core, device) = frames.into_parts();
+        let Inbox {
+            ring,
+            set_aside,
+            ..
+        } = inbox;
+        Written {
+            ending,
+            is_faultless,
+            device,
+            orders: ring,
+            rest: Senders {
+                sends,
+                core,
+                aside: set_aside,
+            },
+        }
+    }
+
+    fn ending(&self) -> Option<Ending>
+        ensures memory { self.now.frames.standing ≡ stands.OutOfMemory
+            → result ≡ Some ending.OutOfMemory }
+        ensures broken { result ≡ Some ending.WriteFailed
+            → self.now.frames.standing ≡ stands.Broken }
+        ensures each { result ≢ Some ending.OutOfMemory → result ≢ Some ending.WriteFailed
+            → (self.now.inbox.has_lost ≡ false) × (self.now.inbox.set_aside ≡ None) }
+        ensures going { result ≢ Some ending.OutOfMemory → result ≢ Some ending.WriteFailed
+            → self.now.frames.standing ≡ stands.Going }
+        ensures blames { (code : Code) → result ≡ Some (ending.ProtocolError code)
+            → (code ≡ FlowControlError) × (self.now.blames ≡ true) }
+        ensures blamed { self.now.blames ≡ true → result ≢ Some ending.OutOfMemory
+            → result ≢ Some ending.WriteFailed
+            → result ≡ Some (ending.ProtocolError FlowControlError) }
+    {
+        if self.inbox.has_lost {
+            return Some(Ending::OutOfMemory);
+        }
+        match self.frames.standing() {
+            Standing::OutOfMemory => Some(Ending::OutOfMemory),
+            Standing::Broken => Some(Ending::WriteFailed),
+            // It doesn't come that an order is set aside still.
+            Standing::Going if self.inbox.set_aside.is_some() => Some(Ending::OutOfMemory),
+            Standing::Going if self.blames => {
+                Some(Ending::ProtocolError(ErrorCode::FlowControlError))
+            }
+            Standing::Going => None,
+        }
+    }
+}
