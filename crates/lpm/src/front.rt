@@ -1,8 +1,8 @@
 //! The message at the front of some bytes.
 //!
-//! `is_frame`: public, since whoever is handed one message with its length prefix needs the test.
+//! `is_frame` and `is_frame_with`: public, since whoever is handed one message with its length prefix needs the test.
 
-ghost use Rattle.std.specs.Prelude.{◌≡◌, ◌↔◌, IsTrue};
+ghost use Rattle.std.specs.Prelude.{◌≡◌, ◌↔◌, ◌++◌, take, replicate, IsTrue};
 ghost use Rattle.lpm.specs.Messages.{AreBytes, IsFrame};
 ghost use Rattle.lpm.specs.Reading.{is_frame};
 ghost use Rattle.lpm.specs.Fronts.{extent_of, IsExtent};
@@ -23,10 +23,32 @@ pub fn is_frame(bytes: &[u8]) -> bool
     ensures frame { IsTrue result ↔ IsFrame bytes.now }
     ensures computed { result ≡ is_frame bytes.now }
 {
-    match frame_len(bytes) {
-        Ok(len) => len == bytes.len(),
+    is_frame_with(bytes, 0)
+}
+
+/// Whether these bytes with `zeros` zero bytes after them are one message with its prefix, and nothing else.
+///
+/// The prefix may lie in the zeros, whole or in part. The test takes constant time.
+pub fn is_frame_with(front: &[u8], zeros: u32) -> bool
+    ensures frame { IsTrue result ↔ IsFrame (front.now ++ replicate zeros 0) }
+    ensures computed { result ≡ is_frame (front.now ++ replicate zeros 0) }
+{
+    let len = front.len() + zeros as usize;
+    let prefix = padded(front);
+    match frame_len(&prefix[..len.min(PREFIX_LEN)]) {
+        Ok(total) => total == len,
         Err(_fault) => false,
     }
+}
+
+/// The first five of these bytes, with zeros for those that are missing.
+fn padded(front: &[u8]) -> [u8; PREFIX_LEN]
+    ensures { result ≡ take 5 (front.now ++ replicate 5 0) }
+{
+    let known = front.len().min(PREFIX_LEN);
+    let mut prefix = [0; PREFIX_LEN];
+    prefix[..known].copy_from_slice(&front[..known]);
+    prefix
 }
 
 /// How many bytes the message at the front has, its prefix included, as far as these bytes say: until

@@ -6,19 +6,20 @@
 //! that reading, in whatever pieces the bytes come, and `write_message` spells one message; `write_prefix` what stands
 //! before one.
 //!
-//! Read `fault`, `laws`, `write`, `front` (the message at the front of some bytes), then `splitter`, and `tail` (where
-//! bytes end) last.
+//! Read `fault`, `laws`, `write`, `front` (the message at the front of some bytes), then `joined` (a message that is cut
+//! over pieces) and `splitter`, and `tail` (where bytes end) last.
 #![tactic(auto)]
 
 pub mod fault;
 mod front;
+mod joined;
 pub mod laws;
 pub mod splitter;
 mod tail;
 pub mod write;
 
 pub use fault::LpmFault;
-pub use front::is_frame;
+pub use front::{is_frame, is_frame_with};
 pub use splitter::{Split, Splitter};
 pub use write::{write_message, write_prefix};
 

@@ -1,21 +1,23 @@
 //! Messages out of pieces.
 //!
 //! The bytes of an unfinished message are copied out of their pieces when `next` is asked: sharing them would save one
-//! copy, and let one byte hold on to a whole buffer.
+//! copy, and let one byte hold on to a whole buffer. They are copied once, into room that is made for the whole message
+//! when its prefix is known.
 //!
 //! `Splitter::end`: it reads the waiting bytes again, in time linear in the pieces and messages that wait. It is asked
 //! once a call, when little waits.
 
-ghost use Rattle.std.specs.Prelude.{◌≡◌, ℕ, ◌<◌, ◌≤◌, List, [], ◌++◌, length, All, IfErr, IfSome, OnErr, OnOk, IfNone, IfOk};
+ghost use Rattle.std.specs.Prelude.{◌≡◌, ℕ, ◌<◌, ◌≤◌, List, [], ◌++◌, length, All, IfErr, IfSome, OnErr, OnOk, IfNone, IfOk, Ok};
 ghost use Rattle.lpm.specs.declared.fault.LpmFault.TheVariants.{CutAtEnd, OutOfMemory};
 ghost use Rattle.lpm.specs.Messages.{frames, IsCut, IsMessage, IsNotCut};
 ghost use Rattle.lpm.specs.Splits.{Answers, Continues};
-ghost use Rattle.lpm.specs.Fronts.{TakesFront, waiting, left_over};
+ghost use Rattle.lpm.specs.Fronts.{TakesFront, extent_of, waiting, left_over};
 
 use crate::LpmFault;
 use crate::front::{PREFIX_LEN, frame_len};
+use crate::joined::Joined;
 use crate::tail::Tail;
-use bytes::{Bytes, BytesMut};
+use bytes::Bytes;
 use std::alloc::{AllocError, Global};
 use std::collections::VecDeque;
 use std::marker::Model;
@@ -38,7 +40,7 @@ pub enum Split {
 #[derive(Drop)]
 pub struct Splitter {
     /// The bytes of a message that is cut over pieces, as far as they were looked at.
-    joined: BytesMut,
+    joined: Joined,
     /// The piece that follows them, as far as it wasn't looked at.
     piece: Bytes,
     /// The pieces that follow it.
@@ -51,7 +53,7 @@ impl Model for Splitter {
 
     ghost Value = { List ℕ };
 
-    ghost view = { λ s. waiting s.joined.items s.piece s.later.items };
+    ghost view = { λ s. waiting s.joined.bytes.items s.piece s.later.items };
 }
 
 impl Splitter {
@@ -60,7 +62,7 @@ impl Splitter {
         ensures { result ≡ [] }
     {
         Splitter {
-            joined: BytesMut::new(alloc),
+            joined: Joined::new(alloc),
             piece: Bytes::new(),
             later: VecDeque::new(alloc),
         }
@@ -72,14 +74,8 @@ impl Splitter {
         ensures unchanged { OnErr result (self.new ≡ self.old) }
         ensures memory { IfErr result (λ fault. fault ≡ OutOfMemory) }
     {
-        if self.piece.is_empty() && self.later.is_empty() {
-            self.joined.extend_from_slice(piece)?;
-            return Ok(());
-        }
-        let alloc = *self.joined.allocator();
-        let copy = Bytes::copy_from_slice(alloc, piece)?;
-        self.later.push_back(copy)?;
-        Ok(())
+        let copy = Bytes::copy_from_slice(self.joined.allocator(), piece)?;
+        self.push_shared(copy)
     }
 
     /// Takes the next piece of the bytes, and shares it: nothing is copied.
@@ -147,21 +143,22 @@ impl Splitter {
 }
 
 /// One step of `next`: an answer, or more bytes are ready to be looked at.
-fn turn(joined: &mut BytesMut, piece: &mut Bytes, later: &mut VecDeque<Bytes>) -> Option<Split>
+fn turn(joined: &mut Joined, piece: &mut Bytes, later: &mut VecDeque<Bytes>) -> Option<Split>
     ensures answer { IfSome result
-        (λ split. Answers (waiting joined.old.items piece.old later.old.items)
-        split (waiting joined.new.items piece.new later.new.items)) }
-    ensures same { IfNone result (waiting joined.new.items piece.new later.new.items
-        ≡ waiting joined.old.items piece.old later.old.items) }
+        (λ split. Answers (waiting joined.old.bytes.items piece.old later.old.items)
+        split (waiting joined.new.bytes.items piece.new later.new.items)) }
+    ensures same { IfNone result (waiting joined.new.bytes.items piece.new later.new.items
+        ≡ waiting joined.old.bytes.items piece.old later.old.items) }
     ensures smaller { IfNone result
         (left_over piece.new later.new.items < left_over piece.old later.old.items) }
 {
-    let len = match frame_len(joined.as_slice()) {
+    let known = joined.as_slice();
+    let len = match frame_len(known) {
         Ok(len) => len,
         Err(fault) => return Some(Split::Fault(fault)),
     };
-    if len <= joined.len() {
-        return Some(take_joined(joined, len));
+    if len <= known.len() {
+        return Some(take_joined(joined));
     }
     if piece.is_empty() {
         let Some(next) = later.pop_front() else {
@@ -170,20 +167,21 @@ fn turn(joined: &mut BytesMut, piece: &mut Bytes, later: &mut VecDeque<Bytes>) -
         *piece = next;
         return None;
     }
-    if joined.is_empty() {
+    if known.is_empty() {
         return start(joined, piece);
     }
-    join(joined, piece, len - joined.len())
+    join(joined, piece, len)
 }
 
 /// A message begins where a piece does: it is a slice of the piece, or its bytes are to be joined.
-fn start(joined: &mut BytesMut, piece: &mut Bytes) -> Option<Split>
-    requires begins { joined.old.items ≡ [] }
+fn start(joined: &mut Joined, piece: &mut Bytes) -> Option<Split>
+    requires begins { joined.old.bytes.items ≡ [] }
     requires some { 0 < length piece.old }
     ensures answer { (rest : List ℕ)
-        → IfSome result (λ split. Answers (joined.old.items ++ (piece.old ++ rest))
-        split (joined.new.items ++ (piece.new ++ rest))) }
-    ensures same { IfNone result (joined.new.items ++ piece.new ≡ joined.old.items ++ piece.old) }
+        → IfSome result (λ split. Answers (joined.old.bytes.items ++ (piece.old ++ rest))
+        split (joined.new.bytes.items ++ (piece.new ++ rest))) }
+    ensures same { IfNone result
+        (joined.new.bytes.items ++ piece.new ≡ joined.old.bytes.items ++ piece.old) }
     ensures smaller { IfNone result (length piece.new < length piece.old) }
 {
     let len = match frame_len(piece.as_slice()) {
@@ -193,35 +191,34 @@ fn start(joined: &mut BytesMut, piece: &mut Bytes) -> Option<Split>
     if len <= piece.len() {
         return Some(take_piece(piece, len));
     }
-    join(joined, piece, len)
+    if joined.reserve(len).is_err() {
+        return Some(Split::Fault(LpmFault::OutOfMemory));
+    }
+    join(joined, piece, PREFIX_LEN)
 }
 
-/// Moves up to `count` bytes of the piece behind the joined ones.
-fn join(joined: &mut BytesMut, piece: &mut Bytes, count: usize) -> Option<Split>
+/// Moves bytes of the piece to the end of the joined ones, up to the end of the prefix or of the message that it announces.
+fn join(joined: &mut Joined, piece: &mut Bytes, len: usize) -> Option<Split>
+    requires extent { extent_of joined.old.bytes.items ≡ Ok len }
+    requires unfinished { length joined.old.bytes.items < len }
     requires some { 0 < length piece.old }
-    requires count { 0 < count }
-    ensures same { joined.new.items ++ piece.new ≡ joined.old.items ++ piece.old }
+    ensures same { joined.new.bytes.items ++ piece.new ≡ joined.old.bytes.items ++ piece.old }
     ensures smaller { IfNone result (length piece.new < length piece.old) }
     ensures memory { IfSome result (λ split. split ≡ Split.Fault OutOfMemory) }
 {
-    let count = count.min(piece.len());
-    if joined
-        .extend_from_slice(&piece.as_slice()[..count])
-        .is_err()
-    {
-        return Some(Split::Fault(LpmFault::OutOfMemory));
+    match joined.append(piece, len) {
+        Ok(()) => None,
+        Err(AllocError) => Some(Split::Fault(LpmFault::OutOfMemory)),
     }
-    piece.advance(count);
-    None
 }
 
-/// Answers the message at the front of the joined bytes.
-fn take_joined(joined: &mut BytesMut, len: usize) -> Split
-    requires prefix { 5 ≤ len }
-    requires whole { len ≤ length joined.old.items }
-    ensures { TakesFront joined.old.items len result joined.new.items }
+/// Answers the message that was joined.
+fn take_joined(joined: &mut Joined) -> Split
+    requires prefix { 5 ≤ length joined.old.bytes.items }
+    ensures { TakesFront joined.old.bytes.items (length joined.old.bytes.items)
+        result joined.new.bytes.items }
 {
-    match joined.freeze_to(len) {
+    match joined.take() {
         Ok(mut message) => {
             message.advance(PREFIX_LEN);
             Split::Message(message)

@@ -23,8 +23,8 @@ returns-in_err-read-2-clause-fault c =
     let here = c.in_err-read-2.ensures.fault front (c.in_ok-read.ensures.ok [] c.new-tail.ensures.leaves) in
     let longer = fault_longer (front ++ c.as_slice-2.result.now) (concat s.later.items) fault here in
     let all = ap (λ (b : List ℕ). (b ++ c.as_slice-2.result.now) ++ concat s.later.items) c.as_slice.ensures
-    ∙ ap (λ (b : List ℕ). (s.joined.items ++ b) ++ concat s.later.items) c.as_slice-2.ensures
-    ∙ append_assoc s.joined.items s.piece (concat s.later.items) ∙ c.self.view_is in
+    ∙ ap (λ (b : List ℕ). (s.joined.bytes.items ++ b) ++ concat s.later.items) c.as_slice-2.ensures
+    ∙ append_assoc s.joined.bytes.items s.piece (concat s.later.items) ∙ c.self.view_is in
     rw (p.1, p.2) (subst (λ (b : List ℕ). IsFaultySomewhere b fault) all longer)
 
 pub returns-in_err-read_pieces-clause-fault : goal.returns-in_err-read_pieces-clause-fault
@@ -36,6 +36,6 @@ returns-in_err-read_pieces-clause-fault c =
     let piece = c.as_slice-2.result.now in
     let here = c.in_err-read_pieces.ensures.fault (front ++ piece) (c.in_ok-read-2.ensures.ok front (c.in_ok-read.ensures.ok [] c.new-tail.ensures.leaves)) in
     let all = ap (λ (b : List ℕ). (b ++ piece) ++ concat s.later.items) c.as_slice.ensures
-    ∙ ap (λ (b : List ℕ). (s.joined.items ++ b) ++ concat s.later.items) c.as_slice-2.ensures
-    ∙ append_assoc s.joined.items s.piece (concat s.later.items) ∙ c.self.view_is in
+    ∙ ap (λ (b : List ℕ). (s.joined.bytes.items ++ b) ++ concat s.later.items) c.as_slice-2.ensures
+    ∙ append_assoc s.joined.bytes.items s.piece (concat s.later.items) ∙ c.self.view_is in
     rw (p.1, p.2) (subst (λ (b : List ℕ). IsFaultySomewhere b fault) all here)
