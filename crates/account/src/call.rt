@@ -6,6 +6,7 @@ use bytes::Bytes;
 use lists::{Field, Octets, Sequence};
 use lpm::LpmFault;
 use std::alloc::AllocError;
+use zeros::ZeroTail;
 
 /// How the client's half of a call was shut.
 #[derive(Clone, Copy, Debug, PartialEq, Eq)]
@@ -33,7 +34,7 @@ pub enum OutItem {
     /// Response headers.
     Head(Sequence<Field>),
     /// One message with its prefix.
-    Message(Bytes),
+    Message(ZeroTail),
     /// The trailers, or the one block of an answer that has no headers of its own.
     Trailers(Sequence<Field>),
     /// The call was left without trailers: nothing is to be sent for it, and no item follows.
@@ -41,13 +42,13 @@ pub enum OutItem {
 }
 
 impl OutItem {
-    /// The same item. The bytes of a message are shared, those of fields are copied.
+    /// The same item. The first bytes of a message are shared, those of fields are copied.
     pub fn copy(&self) -> Result<OutItem, AllocError>
         ensures { IfOk result (λ copy. copy ≡ self.now) }
     {
         match self {
             OutItem::Head(fields) => Ok(OutItem::Head(fields.copy()?)),
-            OutItem::Message(bytes) => Ok(OutItem::Message(bytes.clone()?)),
+            OutItem::Message(message) => Ok(OutItem::Message(message.clone()?)),
             OutItem::Trailers(fields) => Ok(OutItem::Trailers(fields.copy()?)),
             OutItem::Left => Ok(OutItem::Left),
         }

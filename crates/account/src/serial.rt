@@ -12,7 +12,7 @@ use crate::call::{Account, CallEvent, OutItem, Shut, Told};
 use crate::ending::told_behind;
 use bytes::Bytes;
 use lists::{Octets, Sequence};
-use lpm::{LpmFault, Split, Splitter, is_frame};
+use lpm::{LpmFault, Split, Splitter, is_frame_with};
 use std::alloc::{AllocError, Global};
 
 /// The account of a call to which these events happen, one after another.
@@ -196,7 +196,10 @@ fn may_follow(last: Option<&OutItem>, item: &OutItem) -> bool
         (None, OutItem::Message(_))
         | (Some(OutItem::Trailers(_) | OutItem::Left), _)
         | (Some(_), OutItem::Head(_)) => false,
-        (Some(_), OutItem::Message(bytes)) => is_frame(bytes.as_slice()),
+        (Some(_), OutItem::Message(message)) => {
+            let (front, zeros) = message.parts();
+            is_frame_with(front, zeros)
+        }
         (Some(_), OutItem::Trailers(_) | OutItem::Left) => true,
     }
 }

@@ -1,24 +1,30 @@
 //! Writing the frames of calls: one stream of long replies, 64 streams of small ones, and one small reply at a time on a
 //! stream of 64 or of one, over windows that don't bind.
 
+ghost use Rattle.h2frame.specs.Spelling.{IsWritable};
+
 use crate::sizes::number;
 use account::OutItem;
 use anyhow::{Context, Result};
 use bytes::Bytes;
 use callbox::{Giver, InPiece, Sender, open_call};
 use flow::{INITIAL_WINDOW, MAX_WINDOW};
-use h2frame::{Frame, FrameKind, PeerSetting, PeerSettings, write_frame};
+use h2frame::{PeerSetting, PeerSettings};
 use lane::RingLane;
 use lists::{Field, Octets, Sequence};
-use outwriter::{Control, Next, OutCore};
+use outwriter::{Control, Next, OutCore, OutFrame};
 use std::alloc::Global;
 use std::rt::Clock;
 use std::time::{Duration, Instant};
+use zeros::ZeroBuffer;
 
 type Ring = RingLane<OutItem>;
 
 /// The items that a call's lane has room for.
 const ROOM: usize = 256;
+
+/// The bytes of a frame's head (RFC 9113, section 4.1).
+const HEAD_LEN: usize = 9;
 
 /// How many bytes are written at once.
 const ENOUGH: usize = 65_536;
@@ -118,20 +124,18 @@ fn tell(core: &mut OutCore<Ring>, control: Control<Sender<Ring>>) -> Result<()> 
     core.control(control).ok().context("a control is refused")
 }
 
-/// Appends a frame, which is one that can be written.
-fn push_frame(frame: &Frame, out: &mut Vec<u8>) -> Result<()> {
-    let known = !matches!(frame.head.kind, FrameKind::Unknown(_));
-    let plain = !frame.head.is_padded() && !frame.head.has_priority();
-    let whole = frame.head.length as usize == frame.content.len();
-    if known && plain && whole && frame.head.stream < 0x8000_0000 {
-        write_frame(frame, out)?;
-    }
+/// Appends a frame.
+fn push_frame(frame: &OutFrame, out: &mut ZeroBuffer) -> Result<()>
+    requires { IsWritable frame.now }
+{
+    out.reserve(HEAD_LEN + frame.head().length as usize)?;
+    frame.append_to(out);
     Ok(())
 }
 
 /// Writes all there is, into one buffer that is emptied when it is full enough.
 fn write_all(alloc: Global, core: &mut OutCore<Ring>) -> Result<Count> {
-    let mut out = Vec::new(alloc);
+    let mut out = ZeroBuffer::new(alloc);
     let mut count = NOTHING;
     write_some(core, &mut out, &mut count)?;
     count.bytes = count.bytes.wrapping_add(out.len() as u64);
@@ -139,7 +143,7 @@ fn write_all(alloc: Global, core: &mut OutCore<Ring>) -> Result<Count> {
 }
 
 /// Writes what there is now. The bytes that left the buffer are counted.
-fn write_some(core: &mut OutCore<Ring>, out: &mut Vec<u8>, count: &mut Count) -> Result<()> {
+fn write_some(core: &mut OutCore<Ring>, out: &mut ZeroBuffer, count: &mut Count) -> Result<()> {
     for _ in 0..u64::MAX {
         let next = core.next_frame().ok().context("no memory is left")?;
         let Next::Frame(frame) = next else {
@@ -260,7 +264,7 @@ fn write_each(
     replies: usize,
 ) -> Result<Count> {
     let reply = Bytes::from_vec(vec![in alloc; 0; SMALL_LEN]?)?;
-    let mut out = Vec::new(alloc);
+    let mut out = ZeroBuffer::new(alloc);
     let mut count = NOTHING;
     for index in 0..replies {
         let place = index.checked_rem(givers.len()).unwrap_or(0);

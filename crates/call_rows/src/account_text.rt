@@ -4,6 +4,7 @@ use account::{Account, OutItem};
 use anyhow::Result;
 use lists::{Field, Sequence};
 use std::alloc::Global;
+use zeros::ZeroTail;
 
 fn push_name(text: &mut String, name: &str) -> Result<()> {
     if !text.is_empty() {
@@ -21,6 +22,16 @@ fn push_bytes(text: &mut String, bytes: &[u8]) -> Result<()> {
     text.push(' ')?;
     for byte in bytes {
         write!(text, "{byte:02x}")?;
+    }
+    Ok(())
+}
+
+/// All bytes of a message, also the zeros at its end.
+fn push_message(text: &mut String, message: &ZeroTail) -> Result<()> {
+    let (front, zeros) = message.parts();
+    push_bytes(text, front)?;
+    for _ in 0..zeros {
+        text.push_str("00")?;
     }
     Ok(())
 }
@@ -49,9 +60,9 @@ fn push_items(text: &mut String, name: &str, items: &Sequence<OutItem>) -> Resul
                 text.push_str(" head")?;
                 push_fields(text, fields)?;
             }
-            OutItem::Message(bytes) => {
+            OutItem::Message(message) => {
                 text.push_str(" message")?;
-                push_bytes(text, bytes.as_slice())?;
+                push_message(text, message)?;
             }
             OutItem::Trailers(fields) => {
                 text.push_str(" trailers")?;

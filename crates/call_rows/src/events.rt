@@ -5,6 +5,7 @@ use anyhow::{Context, Result, bail};
 use bytes::Bytes;
 use lists::{Field, Octets, Sequence};
 use std::alloc::Global;
+use zeros::ZeroTail;
 
 /// The first word of a text, and what stands behind it.
 fn first_word(text: &str) -> (&str, &str) {
@@ -51,7 +52,7 @@ fn item_of(alloc: Global, text: &str) -> Result<OutItem> {
     let (name, rest) = first_word(text);
     match name {
         "head" => Ok(OutItem::Head(fields_of(alloc, rest)?)),
-        "message" => Ok(OutItem::Message(bytes_of(alloc, rest)?)),
+        "message" => Ok(OutItem::Message(ZeroTail::from(bytes_of(alloc, rest)?))),
         "trailers" => Ok(OutItem::Trailers(fields_of(alloc, rest)?)),
         "left" => Ok(OutItem::Left),
         _ => bail!("an item that isn't known"),

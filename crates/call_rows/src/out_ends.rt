@@ -11,6 +11,7 @@ use lane::{End, Lane, RingLane};
 use lists::{Field, Sequence};
 use lpm::{MAX_MESSAGE_LEN, is_frame};
 use std::alloc::Global;
+use zeros::ZeroTail;
 
 /// Room for the items of a row.
 const ROOM: usize = 64;
@@ -32,7 +33,7 @@ fn give_open<L: Lane<Item = OutItem>>(
     let mut giver = giver;
     match item {
         OutItem::Head(fields) => give_head::<L>(&mut giver, fields, given)?,
-        OutItem::Message(bytes) => give_message::<L>(alloc, &mut giver, bytes, given)?,
+        OutItem::Message(message) => give_message::<L>(alloc, &mut giver, message, given)?,
         OutItem::Trailers(fields) => {
             given.push(item.copy()?)?;
             return Ok(End::Shut(giver.trailers(fields.copy()?)));
@@ -64,17 +65,19 @@ fn give_head<L: Lane<Item = OutItem>>(
 fn give_message<L: Lane<Item = OutItem>>(
     alloc: Global,
     giver: &mut Giver<L>,
-    bytes: &Bytes,
+    message: &ZeroTail,
     given: &mut Vec<OutItem>,
 ) -> Result<()>
     ensures { OnOk result (L.in_name giver.new.tx ≡ L.in_name giver.old.tx) }
 {
-    if giver.has_head() && is_frame(bytes.as_slice()) {
-        let message = bytes.as_slice().get(PREFIX_LEN..).context("no prefix")?;
-        ensure!(message.len() <= MAX_MESSAGE_LEN, "a message is too long");
-        given.push(OutItem::Message(bytes.clone()?))?;
-        let message = Bytes::copy_from_slice(alloc, message)?;
-        giver.give(message).context("a message is refused")?;
+    let (framed, zeros) = message.parts();
+    if giver.has_head() && zeros == 0 && is_frame(framed) {
+        let bytes = framed.get(PREFIX_LEN..).context("no prefix")?;
+        ensure!(bytes.len() <= MAX_MESSAGE_LEN, "a message is too long");
+        given.push(OutItem::Message(message.clone()?))?;
+        giver
+            .give(Bytes::copy_from_slice(alloc, bytes)?)
+            .context("a message is refused")?;
     }
     Ok(())
 }

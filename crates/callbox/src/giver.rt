@@ -17,8 +17,9 @@ use account::OutItem;
 use bytes::Bytes;
 use lane::{Lane, PutFault};
 use lists::{Field, Sequence};
-use lpm::{is_frame, write_message};
+use lpm::{is_frame_with, write_message};
 use std::alloc::{AllocError, Global};
+use zeros::ZeroTail;
 
 /// Why something was not given: 1 Full, 3 OutOfMemory or 4 NotTaken. What was passed comes back.
 pub type GiveFault<T> = PutFault<T>;
@@ -27,9 +28,9 @@ pub type GiveFault<T> = PutFault<T>;
 #[derive(Debug, Drop)]
 pub enum FramedFault {
     /// They aren't one message with its prefix.
-    NotAFrame(Bytes),
+    NotAFrame(ZeroTail),
     /// They are, and were not given for this.
-    Refused(GiveFault<Bytes>),
+    Refused(GiveFault<ZeroTail>),
 }
 
 /// Gives the items of a call's response, as far as the trailers, or until the call is left without them.
@@ -140,7 +141,7 @@ impl<L: Lane<Item = OutItem>> Giver<L> {
         let Ok(framed) = framed(self.alloc, message.as_slice()) else {
             return Err(PutFault::OutOfMemory(message));
         };
-        match self.put_frame(framed) {
+        match self.put_frame(ZeroTail::from(framed)) {
             Ok(()) => Ok(()),
             Err(PutFault::Full { item: _, waiting }) => Err(PutFault::Full {
                 item: message,
@@ -154,7 +155,7 @@ impl<L: Lane<Item = OutItem>> Giver<L> {
     /// Gives one message whose prefix stands before it already, or hands the bytes back and changes nothing.
     ///
     /// The bytes are shared, and nothing is copied. It takes constant time.
-    pub fn give_framed(&mut self, framed: Bytes) -> Result<(), FramedFault>
+    pub fn give_framed(&mut self, framed: ZeroTail) -> Result<(), FramedFault>
         requires { has_head (L.put_in self.old.tx) ≡ true }
         ensures name { L.in_name self.new.tx ≡ L.in_name self.old.tx }
         ensures frame { OnOk result (IsFrame framed) }
@@ -165,7 +166,8 @@ impl<L: Lane<Item = OutItem>> Giver<L> {
             (RefusesFramed L.WantsMemory L.MayMiss (L.room_of (L.in_name self.old.tx))
             (length (L.put_in self.old.tx)) (L.seen_taken self.new.tx) framed) }
     {
-        if !is_frame(framed.as_slice()) {
+        let (front, zeros) = framed.parts();
+        if !is_frame_with(front, zeros) {
             return Err(FramedFault::NotAFrame(framed));
         }
         match self.put_frame(framed) {
@@ -175,7 +177,7 @@ impl<L: Lane<Item = OutItem>> Giver<L> {
     }
 
     /// Gives one message with its prefix, or hands it back and changes nothing.
-    fn put_frame(&mut self, framed: Bytes) -> Result<(), GiveFault<Bytes>>
+    fn put_frame(&mut self, framed: ZeroTail) -> Result<(), GiveFault<ZeroTail>>
         requires head { has_head (L.put_in self.old.tx) ≡ true }
         requires frame { IsFrame framed }
         ensures name { L.in_name self.new.tx ≡ L.in_name self.old.tx }
@@ -258,12 +260,12 @@ fn into_head(item: OutItem) -> Sequence<Field>
 }
 
 /// The bytes of a message with its prefix.
-fn into_frame(item: OutItem) -> Bytes
+fn into_frame(item: OutItem) -> ZeroTail
     requires { is_message item ≡ true }
     ensures { item ≡ out_item.Message result }
 {
     match item {
-        OutItem::Message(bytes) => bytes,
+        OutItem::Message(message) => message,
         OutItem::Head(_) | OutItem::Trailers(_) | OutItem::Left => unreachable!(),
     }
 }

@@ -150,7 +150,7 @@ impl Call {
         if !giver.has_head() {
             return self.begin(response);
         }
-        match give_reply(giver, self.alloc, &mut self.handling.waiting, reply) {
+        match give_reply(giver, self.alloc, reply) {
             Ok(()) => {
                 self.handling.waiting.pass();
                 Turn::Went

@@ -10,7 +10,7 @@ ghost use Rattle.handlers.specs.Replies.{reply_bytes};
 ghost use Rattle.callrun.specs.Responses.{head_item, reply_item};
 ghost use Rattle.callrun.specs.Giving.{Gives, without_item};
 
-use crate::waiting::Waiting;
+use crate::framed::framed;
 use account::OutItem;
 use callbox::{FramedFault, GiveFault, Giver};
 use callhead::{CallHead, response_fields};
@@ -68,11 +68,9 @@ pub(crate) fn give_head<O: Lane<Item = OutItem>>(
 pub(crate) fn give_reply<O: Lane<Item = OutItem>>(
     giver: &mut Giver<O>,
     alloc: Global,
-    waiting: &mut Waiting,
     reply: Reply,
 ) -> Result<(), Refused>
     requires { has_head (O.put_in giver.old.tx) ≡ true }
-    ensures waiting { waiting.new ≡ waiting.old }
     ensures name { O.in_name giver.new.tx ≡ O.in_name giver.old.tx }
     ensures gives { Gives result O.MayMiss (O.room_of (O.in_name giver.old.tx))
         (O.seen_taken giver.new.tx) (O.put_in giver.old.tx) (reply_item reply)
@@ -81,10 +79,10 @@ pub(crate) fn give_reply<O: Lane<Item = OutItem>>(
     if let Err(_waiting) = giver.check_room() {
         return Err(Refused::Full);
     }
-    let Ok(framed) = waiting.framed(alloc, reply) else {
+    let Ok(message) = framed(alloc, reply) else {
         return Err(Refused::OutOfMemory);
     };
-    match giver.give_framed(framed) {
+    match giver.give_framed(message) {
         Ok(()) => Ok(()),
         Err(FramedFault::Refused(fault)) => without_item(Err(fault)),
         Err(FramedFault::NotAFrame(_)) => Err(Refused::OutOfMemory),

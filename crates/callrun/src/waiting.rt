@@ -1,14 +1,10 @@
 //! The replies that a call has still to give.
 
-ghost use Rattle.std.specs.Prelude.{◌≡◌, ◌↔◌, IsTrue, [], ◌∷◌, IfOk, MatchOption, List};
-ghost use Rattle.lpm.specs.Messages.{frame};
-ghost use Rattle.handlers.specs.Replies.{reply_bytes};
+ghost use Rattle.std.specs.Prelude.{◌≡◌, ◌↔◌, IsTrue, [], ◌∷◌, MatchOption, List};
 ghost use Rattle.handlers.specs.declared.reply.Reply.{Reply as ReplyOf};
 
-use crate::framed::{FramedReply, framed};
-use bytes::Bytes;
 use handlers::{Replies, Reply};
-use std::alloc::{AllocError, Global};
+use std::alloc::Global;
 use std::marker::Model;
 
 /// Replies in order, of which the first ones were given. In a contract they are the list of the others.
@@ -20,8 +16,6 @@ pub(crate) struct Waiting {
     passed: u64,
     /// How many bytes those had.
     bytes: u64,
-    /// The message of a reply that is given more than once.
-    shared: Option<FramedReply>,
 }
 
 impl Model for Waiting {
@@ -42,7 +36,6 @@ impl Waiting {
             given: 0,
             passed: 0,
             bytes: 0,
-            shared: None,
         }
     }
 
@@ -52,7 +45,6 @@ impl Waiting {
     {
         self.replies = replies;
         self.given = 0;
-        self.shared = None;
     }
 
     /// How many replies of the call were given in all, and how many bytes they had.
@@ -86,26 +78,6 @@ impl Waiting {
             self.bytes = self.bytes.saturating_add(len_at(&self.replies, self.given));
             self.given += 1;
         }
-    }
-
-    /// The message of the next reply, with its prefix. Where the reply behind it is the same, it is made once for both.
-    pub(crate) fn framed(&mut self, alloc: Global, reply: Reply) -> Result<Bytes, AllocError>
-        ensures waits { self.new ≡ self.old }
-        ensures frame { IfOk result (λ bytes. bytes ≡ frame (reply_bytes reply)) }
-    {
-        if let Some(shared) = &self.shared {
-            if shared.reply == reply {
-                return shared.bytes.clone();
-            }
-        }
-        let bytes = framed(alloc, reply)?;
-        if self.replies.as_slice().get(self.given.saturating_add(1)) == Some(&reply) {
-            self.shared = Some(FramedReply {
-                reply,
-                bytes: bytes.clone()?,
-            });
-        }
-        Ok(bytes)
     }
 }
 

@@ -22,6 +22,7 @@ mod laws;
 mod reader;
 mod setting;
 mod settings;
+mod small;
 mod span;
 mod writer;
 
@@ -34,4 +35,5 @@ pub use laws::{goes_on, joins, one_reading};
 pub use reader::FrameReader;
 pub use setting::SettingId;
 pub use settings::{PeerSetting, PeerSettings};
-pub use writer::write_frame;
+pub use small::SmallContents;
+pub use writer::{head_text, write_frame};

@@ -4,7 +4,8 @@
 //! call, in constant time. What is fed behind them isn't kept.
 //!
 //! A content shares the block that the reader's bytes stand in, and holds it as long as it is held itself. So one of
-//! few bytes is copied: what waits to be taken holds no more than some times its own bytes.
+//! few bytes is copied, into a small block that it shares with others of few bytes: what waits to be taken holds at most
+//! some hundred times its own bytes, and where all of them wait, little more than these.
 //!
 //! A ZeroIncrement of a stream is the entry `NoIncrement`; `answered` says which answers are entries.
 
@@ -13,14 +14,12 @@ ghost use Rattle.h2frame.specs.FrameList.{Entry, Whole, Joined, IsUnfinished, Is
 ghost use Rattle.h2frame.specs.Reading.{IsSpelledAt, IsStep};
 
 use crate::frame::lacks_increment;
+use crate::small::{SMALL_BLOCK, SmallContents};
 use crate::span::{HEAD_LEN, Span, span_at};
 use crate::{Frame, FrameFault, FrameKind};
 use bytes::{Bytes, BytesMut};
 use std::alloc::{AllocError, Global};
 use std::marker::Model;
-
-/// The least bytes of a content that shares the block it was read into.
-const LEAST_SHARED: usize = 256;
 
 /// The least bytes of a piece for which a block of its own is made, where the buffer has no room.
 const LARGE_PIECE: usize = 4096;
@@ -30,6 +29,7 @@ const LARGE_PIECE: usize = 4096;
 #[derive(Drop)]
 pub struct FrameReader {
     buffer: BytesMut,
+    small: SmallContents,
 }
 
 impl Model for FrameReader {
@@ -47,6 +47,7 @@ impl FrameReader {
     {
         FrameReader {
             buffer: BytesMut::new(alloc),
+            small: SmallContents::new(alloc),
         }
     }
 
@@ -92,7 +93,7 @@ impl FrameReader {
         ensures cause { IfSome result (λ r. IfErr r (λ fault. HasCause fault self.old)) }
         ensures kept { answered result ≡ [] → self.new ≡ self.old }
     {
-        step(&mut self.buffer)
+        step(&mut self.buffer, &mut self.small)
     }
 }
 
@@ -139,17 +140,21 @@ fn standing_fault(bytes: &[u8]) -> Option<FrameFault>
 }
 
 /// Answers what stands at the front, and takes it off where it is an entry.
-fn step(buffer: &mut BytesMut) -> Option<Result<Frame, FrameFault>>
+fn step(buffer: &mut BytesMut, small: &mut SmallContents) -> Option<Result<Frame, FrameFault>>
     ensures { IsStep result buffer.old.items buffer.new.items }
 {
     let span = match span_at(buffer.as_slice())? {
         Ok(span) => span,
         Err(fault) => return Some(Err(fault)),
     };
-    Some(take_frame(buffer, &span))
+    Some(take_frame(buffer, small, &span))
 }
 
-fn take_frame(buffer: &mut BytesMut, span: &Span) -> Result<Frame, FrameFault>
+fn take_frame(
+    buffer: &mut BytesMut,
+    small: &mut SmallContents,
+    span: &Span,
+) -> Result<Frame, FrameFault>
     requires spelled { IsSpelledAt span.now buffer.old.items }
     requires within { span.now.start + span.now.len ≤ 9 + span.now.head.length }
     requires whole { 9 + span.now.head.length ≤ length buffer.old.items }
@@ -163,7 +168,7 @@ fn take_frame(buffer: &mut BytesMut, span: &Span) -> Result<Frame, FrameFault>
         }
         return Err(FrameFault::ZeroIncrement(span.head.stream));
     }
-    let content = cut(buffer, span)?;
+    let content = cut(buffer, small, span)?;
     Ok(Frame {
         head: span.head,
         content,
@@ -171,7 +176,7 @@ fn take_frame(buffer: &mut BytesMut, span: &Span) -> Result<Frame, FrameFault>
 }
 
 /// Cuts the frame off the front, and keeps its content: a copy of few bytes, or a part of the buffer's block.
-fn cut(buffer: &mut BytesMut, span: &Span) -> Result<Bytes, AllocError>
+fn cut(buffer: &mut BytesMut, small: &mut SmallContents, span: &Span) -> Result<Bytes, AllocError>
     requires within { span.now.start + span.now.len ≤ 9 + span.now.head.length }
     requires whole { 9 + span.now.head.length ≤ length buffer.old.items }
     ensures content { IfOk result
@@ -186,9 +191,8 @@ fn cut(buffer: &mut BytesMut, span: &Span) -> Result<Bytes, AllocError>
         buffer.advance(end);
         return Ok(Bytes::new());
     }
-    if span.len < LEAST_SHARED {
-        let alloc = *buffer.allocator();
-        let content = Bytes::copy_from_slice(alloc, span.content_of(buffer.as_slice()))?;
+    if span.len < SMALL_BLOCK {
+        let content = small.content(span.content_of(buffer.as_slice()))?;
         buffer.advance(end);
         return Ok(content);
     }

@@ -11,7 +11,7 @@ ghost use Rattle.h2frame.specs.Spelling.{IsWritable, head_text, spelled};
 use crate::{Frame, FrameFault, FrameHead};
 
 /// The nine bytes of a head (RFC 9113, section 4.1), whose reserved bit isn't set.
-fn head_text(head: &FrameHead) -> [u8; 9]
+pub fn head_text(head: &FrameHead) -> [u8; 9]
     ensures { result ≡ head_text 0 head.now }
 {
     let [_, a, b, c] = head.length.to_be_bytes();

@@ -1,11 +1,11 @@
 -- The bytes of a reply: the canonical spelling of the response message (messages.proto and empty.proto of grpc.testing).
-use Rattle.std.specs.Prelude.{◌≡◌, ◌≤◌, length, ℕ, ℤ, pos, List, [], replicate, Some, refl}
-use Rattle.pbwire.specs.Spelling.{spelling_of_all}
+use Rattle.std.specs.Prelude.{◌≡◌, ◌≤◌, length, ℕ, zero, suc, ℤ, pos, List, [], ◌++◌, replicate, Some, refl}
+use Rattle.pbwire.specs.Spelling.{varint_spelling, spelling_of_all}
 use Rattle.testproto.specs.declared.messages.Payload.{Payload}
 use Rattle.testproto.specs.declared.messages.SimpleResponse.{SimpleResponse}
 use Rattle.testproto.specs.declared.messages.StreamingInputCallResponse.{StreamingInputCallResponse}
 use Rattle.testproto.specs.declared.messages.StreamingOutputCallResponse.{StreamingOutputCallResponse}
-use Rattle.testproto.specs.Canonical.{simple_response_fields, streaming_input_call_response_fields, streaming_output_call_response_fields}
+use Rattle.testproto.specs.Canonical.{payload_fields, simple_response_fields, streaming_input_call_response_fields, streaming_output_call_response_fields}
 use Rattle.handlers.specs.declared.reply.Reply.{Reply}
 use Rattle.handlers.specs.declared.reply.Reply.TheVariants.{Empty, Zeros, Sum}
 
@@ -23,6 +23,23 @@ abbrev pub reply_bytes : Reply → List ℕ
 reply_bytes Empty = []
 reply_bytes (Zeros size) = spelling_of_all (streaming_output_call_response_fields (output_response size))
 reply_bytes (Sum value) = spelling_of_all (streaming_input_call_response_fields (input_response value))
+
+-- how many zeros a payload ends the message with
+abbrev pub zero_count : Reply → ℕ
+zero_count Empty = 0
+zero_count (Zeros size) = size
+zero_count (Sum value) = 0
+
+-- the tag and the length of a body that has bytes
+abbrev pub body_head : ℕ → List ℕ
+body_head zero = []
+body_head (suc n) = varint_spelling 18 ++ varint_spelling (suc n)
+
+-- the bytes of the message before those zeros
+abbrev pub front_bytes : Reply → List ℕ
+front_bytes Empty = []
+front_bytes (Zeros size) = varint_spelling 10 ++ (varint_spelling (length (spelling_of_all (payload_fields (zero_payload size)))) ++ body_head size)
+front_bytes (Sum value) = reply_bytes (Sum value)
 
 -- a reply that fits into a message of a call, which has at most 4 MiB (the default limit of gRPC)
 abbrev pub IsShort : Reply → Type 0

@@ -3,8 +3,9 @@
 //!
 //! Promised: the replies and the status that a method's steps give, joined, are what `specs/Answers.antt` says of the
 //! whole list of messages and of whether their end was told ([`Method`], and [`run`] for all steps of a call), and
-//! there is only one answer; [`Reply::bytes`] is the canonical spelling of the response message; [`Methods::find`]
-//! answers the least index with a path.
+//! there is only one answer; [`Reply::bytes`] is the canonical spelling of the response message, and
+//! [`Reply::write_front`] appends it but for the zeros of its payload, of which [`Reply::zeros`] is the number;
+//! [`Methods::find`] answers the least index with a path.
 //!
 //! Read [`status`], [`reply`], [`step`] and [`state`] first, the types; then [`method`], the law, and
 //! [`uses::whole_call`], a whole call by it. Then the methods: [`empty_call`] and [`unary_call`],

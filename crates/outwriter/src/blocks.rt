@@ -5,8 +5,9 @@ ghost use Rattle.outwriter.specs.Blocks.{frame_of, rest_of};
 ghost use Rattle.outwriter.specs.Frames.{IsSound};
 
 use crate::frames::{make_continuation, make_headers};
+use crate::out_frame::OutFrame;
 use bytes::Bytes;
-use h2frame::{Frame, MAX_PAYLOAD, StreamId};
+use h2frame::{MAX_PAYLOAD, StreamId};
 use std::alloc::AllocError;
 use std::marker::Model;
 
@@ -38,7 +39,7 @@ impl Model for HeaderBlock {
 
 impl HeaderBlock {
     /// Its next frame, of at most 16,384 bytes, and the block with what is left then, if anything is.
-    pub(crate) fn cut(self) -> Result<(Frame, Option<HeaderBlock>), AllocError>
+    pub(crate) fn cut(self) -> Result<(OutFrame, Option<HeaderBlock>), AllocError>
         ensures frame { IfOk result (λ r. r.0 ≡ frame_of self) }
         ensures sound { IfOk result (λ r. IsSound r.0) }
         ensures rest { IfOk result (λ r. r.1 ≡ rest_of self) }

@@ -3,12 +3,13 @@
 ghost use Rattle.std.specs.Prelude.{◌≡◌, ◌≤◌, ◌<◌, length, IfOk};
 ghost use Rattle.outwriter.specs.Frames.{first_settings, settings_ack, ping_ack, ping_frame, reset_frame, goaway_frame, update_frame, data_frame, headers_frame, continuation_frame, block_bits};
 
-use crate::small::SmallContents;
+use crate::out_frame::OutFrame;
 use bytes::Bytes;
 use flow::MAX_LIVE;
-use h2frame::{ErrorCode, Flags, Frame, FrameKind, StreamId};
+use h2frame::{ErrorCode, Flags, FrameKind, SmallContents, StreamId};
 use reasons::Reason;
 use std::alloc::AllocError;
+use zeros::ZeroTail;
 
 /// The numbers of two parameters (section 6.5.2), which `SettingId::code` has too.
 const MAX_CONCURRENT_STREAMS: u8 = 3;
@@ -34,98 +35,121 @@ static FIRST_SETTINGS: [u8; 12] = [
     (MAX_FIELD_BYTES & 0xff) as u8,
 ];
 
-pub(crate) fn make_first_settings() -> Frame
+pub(crate) fn make_first_settings() -> OutFrame
     ensures { result ≡ first_settings }
 {
-    Frame::new(
+    OutFrame::new(
         FrameKind::Settings,
         Flags::NONE,
         0,
-        Bytes::from_static(&FIRST_SETTINGS),
+        ZeroTail::from(Bytes::from_static(&FIRST_SETTINGS)),
     )
 }
 
-pub(crate) fn make_settings_ack() -> Frame
+pub(crate) fn make_settings_ack() -> OutFrame
     ensures { result ≡ settings_ack }
 {
-    Frame::new(FrameKind::Settings, Flags::ACK, 0, Bytes::new())
+    OutFrame::new(
+        FrameKind::Settings,
+        Flags::ACK,
+        0,
+        ZeroTail::from(Bytes::new()),
+    )
 }
 
-pub(crate) fn make_ping_ack(small: &mut SmallContents, bytes: [u8; 8]) -> Result<Frame, AllocError>
+pub(crate) fn make_ping_ack(
+    small: &mut SmallContents,
+    bytes: [u8; 8],
+) -> Result<OutFrame, AllocError>
     ensures { IfOk result (λ frame. frame ≡ ping_ack bytes) }
 {
     let content = small.content(&bytes)?;
-    Ok(Frame::new(FrameKind::Ping, Flags::ACK, 0, content))
+    Ok(OutFrame::new(FrameKind::Ping, Flags::ACK, 0, ZeroTail::from(content)))
 }
 
-pub(crate) fn make_ping(small: &mut SmallContents, bytes: [u8; 8]) -> Result<Frame, AllocError>
+pub(crate) fn make_ping(small: &mut SmallContents, bytes: [u8; 8]) -> Result<OutFrame, AllocError>
     ensures { IfOk result (λ frame. frame ≡ ping_frame bytes) }
 {
     let content = small.content(&bytes)?;
-    Ok(Frame::new(FrameKind::Ping, Flags::NONE, 0, content))
+    Ok(OutFrame::new(FrameKind::Ping, Flags::NONE, 0, ZeroTail::from(content)))
 }
 
 pub(crate) fn make_reset(
     small: &mut SmallContents,
     id: StreamId,
     code: ErrorCode,
-) -> Result<Frame, AllocError>
+) -> Result<OutFrame, AllocError>
     ensures { IfOk result (λ frame. frame ≡ reset_frame id code) }
 {
     let content = small.content(&code.code().to_be_bytes())?;
-    Ok(Frame::new(FrameKind::RstStream, Flags::NONE, id, content))
+    Ok(OutFrame::new(
+        FrameKind::RstStream,
+        Flags::NONE,
+        id,
+        ZeroTail::from(content),
+    ))
 }
 
 pub(crate) fn make_goaway(
     small: &mut SmallContents,
     last: StreamId,
     reason: Reason,
-) -> Result<Frame, AllocError>
+) -> Result<OutFrame, AllocError>
     ensures { IfOk result (λ frame. frame ≡ goaway_frame last reason) }
 {
     let [a, b, c, d] = last.to_be_bytes();
     let [e, f, g, h] = reason.number().to_be_bytes();
     let text = reason.text().as_bytes();
     let content = small.content_with(&[a, b, c, d, e, f, g, h], text)?;
-    Ok(Frame::new(FrameKind::GoAway, Flags::NONE, 0, content))
+    Ok(OutFrame::new(FrameKind::GoAway, Flags::NONE, 0, ZeroTail::from(content)))
 }
 
 pub(crate) fn make_update(
     small: &mut SmallContents,
     id: StreamId,
     increment: u32,
-) -> Result<Frame, AllocError>
+) -> Result<OutFrame, AllocError>
     ensures { IfOk result (λ frame. frame ≡ update_frame id increment) }
 {
     let content = small.content(&increment.to_be_bytes())?;
-    Ok(Frame::new(FrameKind::WindowUpdate, Flags::NONE, id, content))
+    Ok(OutFrame::new(
+        FrameKind::WindowUpdate,
+        Flags::NONE,
+        id,
+        ZeroTail::from(content),
+    ))
 }
 
-pub(crate) fn make_data(id: StreamId, bytes: Bytes) -> Frame
+pub(crate) fn make_data(id: StreamId, bytes: ZeroTail) -> OutFrame
     requires { length bytes ≤ 16384 }
     ensures { result ≡ data_frame id bytes }
 {
-    Frame::new(FrameKind::Data, Flags::NONE, id, bytes)
+    OutFrame::new(FrameKind::Data, Flags::NONE, id, bytes)
 }
 
 /// The first fragment of a header block; whether the block ends its stream, and whether the fragment is the last.
-pub(crate) fn make_headers(id: StreamId, ends: bool, whole: bool, fragment: Bytes) -> Frame
+pub(crate) fn make_headers(id: StreamId, ends: bool, whole: bool, fragment: Bytes) -> OutFrame
     requires { length fragment ≤ 16384 }
     ensures { result ≡ headers_frame id ends whole fragment }
 {
-    Frame::new(FrameKind::Headers, block_flags(ends, whole), id, fragment)
+    OutFrame::new(
+        FrameKind::Headers,
+        block_flags(ends, whole),
+        id,
+        ZeroTail::from(fragment),
+    )
 }
 
 /// A further fragment.
-pub(crate) fn make_continuation(id: StreamId, whole: bool, fragment: Bytes) -> Frame
+pub(crate) fn make_continuation(id: StreamId, whole: bool, fragment: Bytes) -> OutFrame
     requires { length fragment ≤ 16384 }
     ensures { result ≡ continuation_frame id whole fragment }
 {
-    Frame::new(
+    OutFrame::new(
         FrameKind::Continuation,
         block_flags(false, whole),
         id,
-        fragment,
+        ZeroTail::from(fragment),
     )
 }
 

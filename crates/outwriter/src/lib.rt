@@ -9,7 +9,7 @@
 //! Which runs are lawful is said in `specs/Runs.antt`: windows, acknowledgements in their order, resets that were asked
 //! for, whole header blocks, nothing behind a stream's end. `specs/Parts.antt` says what the frames of one stream tell, and what items spell.
 //!
-//! Read `control` for what goes in; `frames`, `small` and `blocks` for the frames that come out; `stream`, `due`,
+//! Read `control` for what goes in; `out_frame`, `frames` and `blocks` for the frames that come out; `stream`, `due`,
 //! `stream_state`, `resize` and `states` for what is kept, and `outbound`, `writing` and `sending`, which bring it together; `out_core` for
 //! what a control does, `next` for the choice of a frame, `left` for which calls were left without trailers, and `release` for
 //! what a call that is through gives back. `laws` has what follows from the definitions.
@@ -23,11 +23,11 @@ pub mod laws;
 mod left;
 pub mod next;
 pub mod out_core;
+mod out_frame;
 mod outbound;
 mod release;
 mod resize;
 mod sending;
-mod small;
 mod states;
 mod stream;
 mod stream_state;
@@ -36,3 +36,4 @@ mod writing;
 pub use control::{Control, OutFault};
 pub use next::Next;
 pub use out_core::OutCore;
+pub use out_frame::OutFrame;

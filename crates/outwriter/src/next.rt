@@ -7,12 +7,13 @@ ghost use Rattle.std.specs.Prelude.{◌≡◌, ◌<◌, ℕ, List, true, false, 
 
 use crate::control::OutFault;
 use crate::out_core::OutCore;
+use crate::out_frame::OutFrame;
 use crate::sending::Sending;
 use crate::states::StreamStates;
 use crate::stream::{Found, Looked};
 use account::OutItem;
 use callbox::Sender;
-use h2frame::{Frame, StreamId};
+use h2frame::StreamId;
 use lane::Lane;
 use std::alloc::AllocError;
 use std::collections::VecDeque;
@@ -21,7 +22,7 @@ use std::collections::VecDeque;
 #[derive(Debug, Drop)]
 pub enum Next {
     /// It writes this frame.
-    Frame(Frame),
+    Frame(OutFrame),
     /// Nothing can be written now.
     Idle,
     /// Nothing can be written any more.
@@ -90,7 +91,7 @@ impl<L: Lane<Item = OutItem>> Sending<L> {
     ghost use Rattle.outwriter.specs.RunState.{IsSpent, Progresses, IsBetween};
 
     /// SETTINGS first; the rest of a header block; what is due; credit; and then the streams.
-    pub(crate) fn choose(&mut self) -> Result<Option<Frame>, AllocError>
+    pub(crate) fn choose(&mut self) -> Result<Option<OutFrame>, AllocError>
         ensures sound { IfOk result (λ o. IfSome o IsSound) }
         ensures frame { IfOk result (λ o. Progresses o self.old.outbound self.new.outbound) }
         ensures spent { IfOk result (λ o. IfNone o (IsSpent self.new.outbound)) }
@@ -112,7 +113,7 @@ impl<L: Lane<Item = OutItem>> Sending<L> {
     }
 
     /// A frame of an open stream: of one out of turn, so that none is overlooked, or else of the first that has one.
-    fn stream_frame(&mut self) -> Result<Option<Frame>, AllocError>
+    fn stream_frame(&mut self) -> Result<Option<OutFrame>, AllocError>
         requires { IsBetween self.old.outbound }
         ensures picks { IfOk result (λ o. Picks L.got o self.old self.new) }
         ensures gives { Gives L.got L.out_name self.old self.new }
@@ -130,7 +131,7 @@ impl<L: Lane<Item = OutItem>> Sending<L> {
 
     /// A frame of the stream at the cursor, if it isn't in the queue anyway. With as many in the queue as there are senders, none
     /// is out of turn.
-    fn frame_out_of_turn(&mut self) -> Result<Option<Frame>, AllocError>
+    fn frame_out_of_turn(&mut self) -> Result<Option<OutFrame>, AllocError>
         requires { IsBetween self.old.outbound }
         ensures picks { IfOk result (λ o. Picks L.got o self.old self.new) }
         ensures gives { Gives L.got L.out_name self.old self.new }
@@ -152,7 +153,7 @@ impl<L: Lane<Item = OutItem>> Sending<L> {
     }
 
     /// A frame of the first stream in the queue that has one, which goes behind the others. Those that have none leave the queue.
-    fn frame_in_turn(&mut self) -> Result<Option<Frame>, AllocError>
+    fn frame_in_turn(&mut self) -> Result<Option<OutFrame>, AllocError>
         requires { IsBetween self.old.outbound }
         ensures picks { IfOk result (λ o. Picks L.got o self.old self.new) }
         ensures gives { Gives L.got L.out_name self.old self.new }
@@ -171,7 +172,7 @@ impl<L: Lane<Item = OutItem>> Sending<L> {
     }
 
     /// A frame of the first open stream that has one, in the order of the senders. Each open stream has its own.
-    fn frame_of_any(&mut self) -> Result<Option<Frame>, AllocError>
+    fn frame_of_any(&mut self) -> Result<Option<OutFrame>, AllocError>
         requires { IsBetween self.old.outbound }
         ensures picks { IfOk result (λ o. Picks L.got o self.old self.new) }
         ensures gives { Gives L.got L.out_name self.old self.new }
@@ -191,7 +192,7 @@ impl<L: Lane<Item = OutItem>> Sending<L> {
     }
 
     /// A frame of this stream, which takes turns from then on.
-    fn frame_of(&mut self, id: StreamId) -> Result<Option<Frame>, AllocError>
+    fn frame_of(&mut self, id: StreamId) -> Result<Option<OutFrame>, AllocError>
         requires { IsBetween self.old.outbound }
         ensures picks { IfOk result (λ o. Picks L.got o self.old self.new) }
         ensures gives { Gives L.got L.out_name self.old self.new }
@@ -207,7 +208,7 @@ impl<L: Lane<Item = OutItem>> Sending<L> {
 
     /// A frame of this stream, if it is open and has one that may be written now. For a message without bytes nothing is
     /// written; more than 4,294,967,295 of them, one behind another, count as one that there is no memory for.
-    fn look(&mut self, id: StreamId) -> Result<Option<Frame>, AllocError>
+    fn look(&mut self, id: StreamId) -> Result<Option<OutFrame>, AllocError>
         requires { IsBetween self.old.outbound }
         ensures picks { IfOk result (λ o. Picks L.got o self.old self.new) }
         ensures gives { Gives L.got L.out_name self.old self.new }

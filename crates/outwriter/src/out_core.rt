@@ -23,10 +23,11 @@ ghost use Rattle.outwriter.specs.declared.control.Control.TheVariants as order;
 
 use crate::control::{Control, OutFault};
 use crate::frames::make_goaway;
+use crate::out_frame::OutFrame;
 use crate::sending::Sending;
 use account::OutItem;
 use callbox::Sender;
-use h2frame::{Frame, StreamId};
+use h2frame::StreamId;
 use lane::Lane;
 use reasons::Reason;
 use std::alloc::Global;
@@ -202,7 +203,7 @@ impl<L: Lane<Item = OutItem>> OutCore<L> {
 
     /// The last word of a core that is dead, once: GOAWAY, where SETTINGS were written, no header block is unfinished and no GOAWAY
     /// with an error was written. What else was due goes unsaid. Out of memory, nothing is said.
-    pub fn farewell(&mut self, last: StreamId, reason: Reason) -> Option<Frame>
+    pub fn farewell(&mut self, last: StreamId, reason: Reason) -> Option<OutFrame>
         ensures goaway { IfSome result (λ frame. frame ≡ goaway_frame last reason) }
 
         // It is the next step of the run, behind the control that asks for it.

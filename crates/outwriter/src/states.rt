@@ -19,7 +19,6 @@ ghost use Rattle.outwriter.specs.OpenStreams.{Closes, PlaceIs, SameHands, has_ha
 use crate::stream::{Found, Hand, Looked, OpenStream, Polled, kept, next_data, poll_at};
 use crate::stream_state::{Change, Over, StreamState};
 use account::OutItem;
-use bytes::Bytes;
 use callbox::Sender;
 use flow::{Balance, ConnectionWindow, MAX_WINDOW, WindowFault};
 use h2frame::StreamId;
@@ -28,6 +27,7 @@ use indexmap::IndexMap;
 use lane::Lane;
 use std::alloc::{AllocError, Global};
 use std::marker::Model;
+use zeros::ZeroTail;
 
 /// What is kept of a stream.
 #[derive(Drop)]
@@ -160,7 +160,7 @@ impl Stream {
         &mut self,
         id: StreamId,
         window: &mut ConnectionWindow,
-        message: Bytes,
+        message: ZeroTail,
     ) -> Result<Looked, AllocError>
         ensures state { self.new.state ≡ self.old.state }
         ensures begins { IfOk result
@@ -173,7 +173,7 @@ impl Stream {
     }
 
     /// What is left of a message is in hand, if it is open.
-    fn keep(&mut self, rest: Bytes)
+    fn keep(&mut self, rest: ZeroTail)
         ensures state { self.new.state ≡ self.old.state }
         ensures balance { self.new.balance ≡ self.old.balance }
         ensures hand { shown self.new.opened ≡ with_hand (kept_of rest) (shown self.old.opened) }

@@ -11,15 +11,17 @@ ghost use Rattle.outwriter.specs.OpenStreams.{kept as kept_of};
 ghost use Rattle.account.specs.declared.call.OutItem.{OutItem};
 
 use crate::frames::make_data;
+use crate::out_frame::OutFrame;
 use account::OutItem;
 use bytes::Bytes;
 use callbox::Sender;
 use flow::{Balance, ConnectionWindow};
-use h2frame::{Frame, MAX_PAYLOAD, StreamId};
+use h2frame::{MAX_PAYLOAD, StreamId};
 use hpack_codec::Encoder;
 use lane::Lane;
 use lists::Field;
 use std::alloc::AllocError;
+use zeros::ZeroTail;
 
 /// A stream whose items are written.
 #[derive(Drop)]
@@ -27,7 +29,7 @@ pub(crate) struct OpenStream {
     /// Where its sender stands among those of all calls.
     pub(crate) place: usize,
     /// What is left of the message that was begun.
-    pub(crate) in_hand: Option<Bytes>,
+    pub(crate) in_hand: Option<ZeroTail>,
     /// Whether it is in the queue of those that take turns.
     pub(crate) in_turn: bool,
 }
@@ -54,7 +56,7 @@ impl OpenStream {
 }
 
 /// What is in hand of a message of which this is left.
-pub(crate) fn kept(rest: Bytes) -> Option<Bytes>
+pub(crate) fn kept(rest: ZeroTail) -> Option<ZeroTail>
     ensures { result ≡ kept_of rest }
 {
     if rest.is_empty() { None } else { Some(rest) }
@@ -76,7 +78,7 @@ pub(crate) enum Hand {
 pub(crate) enum Polled {
     Nothing,
     /// The bytes of a message.
-    Message(Bytes),
+    Message(ZeroTail),
     /// A header block, and whether it ends the stream.
     Block { bytes: Bytes, ends: bool },
 }
@@ -95,7 +97,7 @@ pub(crate) enum Found {
 /// What a look at an open stream finds.
 #[derive(Drop)]
 pub(crate) enum Looked {
-    Frame(Frame),
+    Frame(OutFrame),
     Nothing,
     /// A message without bytes, for which nothing is written.
     Empty,
@@ -107,7 +109,7 @@ pub(crate) fn next_data(
     window: &mut ConnectionWindow,
     balance: &mut Option<Balance>,
     id: StreamId,
-    message: &mut Bytes,
+    message: &mut ZeroTail,
 ) -> Result<Looked, AllocError>
     ensures { IfOk result
         (CutsData id window.old window.new balance.old balance.new message.old message.new) }

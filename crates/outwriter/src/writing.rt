@@ -9,11 +9,12 @@ use crate::frames::{
     make_first_settings, make_goaway, make_ping, make_ping_ack, make_reset, make_settings_ack,
     make_update,
 };
+use crate::out_frame::OutFrame;
 use crate::outbound::{Outbound, is_stream};
 use crate::stream::encoded;
 use crate::stream_state::Over;
 use bytes::Bytes;
-use h2frame::{ErrorCode, Frame, StreamId};
+use h2frame::{ErrorCode, StreamId};
 use lists::{Field, Sequence};
 use reasons::Reason;
 use std::alloc::AllocError;
@@ -30,7 +31,7 @@ impl Outbound {
     ghost use Rattle.outwriter.specs.RunState.{BeginsBlock, Progress, Stays, IsBetween, Writes, WritesIf, WritesDue, WritesOrSkips, MirrorsOf};
 
     /// SETTINGS, which are first.
-    pub(crate) fn first_frame(&mut self) -> Frame
+    pub(crate) fn first_frame(&mut self) -> OutFrame
         requires begun { self.old.begun ≡ false }
         requires going { self.old.gone ≡ false }
         ensures sound { IsSound result }
@@ -42,7 +43,7 @@ impl Outbound {
     }
 
     /// What comes before anything of the open calls: the rest of a header block, what is due, and credit.
-    pub(crate) fn own_frame(&mut self) -> Result<Option<Frame>, AllocError>
+    pub(crate) fn own_frame(&mut self) -> Result<Option<OutFrame>, AllocError>
         requires begun { self.old.begun ≡ true }
         requires going { self.old.gone ≡ false }
         ensures sound { IfOk result (λ o. IfSome o IsSound) }
@@ -62,7 +63,7 @@ impl Outbound {
     }
 
     /// The next frame of the header block that was begun, if one was.
-    pub(crate) fn block_frame(&mut self) -> Result<Option<Frame>, AllocError>
+    pub(crate) fn block_frame(&mut self) -> Result<Option<OutFrame>, AllocError>
         requires begun { self.old.begun ≡ true }
         requires going { self.old.gone ≡ false }
         ensures sound { IfOk result (λ o. IfSome o IsSound) }
@@ -79,7 +80,7 @@ impl Outbound {
     }
 
     /// The next frame that is due, if one is. A stream that is over isn't refused or reset any more, and one that was reset isn't refused.
-    pub(crate) fn due_frame(&mut self) -> Result<Option<Frame>, AllocError>
+    pub(crate) fn due_frame(&mut self) -> Result<Option<OutFrame>, AllocError>
         requires { IsBetween self.old }
         ensures sound { IfOk result (λ o. IfSome o IsSound) }
         ensures frame { IfOk result (λ o. IfSome o (λ frame. Writes frame self.old self.new)) }
@@ -99,7 +100,7 @@ impl Outbound {
     }
 
     /// The frame that is due, but for a stream that is over, and for the refusal of one that was reset.
-    fn frame_of_due(&mut self, due: Due) -> Result<Option<Frame>, AllocError>
+    fn frame_of_due(&mut self, due: Due) -> Result<Option<OutFrame>, AllocError>
         requires { IsBetween self.old }
         ensures sound { IfOk result (λ o. IfSome o IsSound) }
         ensures written { IfOk result (λ o. WritesOrSkips due o self.old self.new) }
@@ -126,7 +127,7 @@ impl Outbound {
         }
     }
 
-    fn settings_ack(&mut self) -> Frame
+    fn settings_ack(&mut self) -> OutFrame
         requires { IsBetween self.old }
         ensures sound { IsSound result }
         ensures written { WritesDue due_kind.SettingsAck result self.old self.new }
@@ -135,7 +136,7 @@ impl Outbound {
         make_settings_ack()
     }
 
-    fn ping_ack(&mut self, bytes: [u8; 8]) -> Result<Frame, AllocError>
+    fn ping_ack(&mut self, bytes: [u8; 8]) -> Result<OutFrame, AllocError>
         requires { IsBetween self.old }
         ensures sound { IfOk result IsSound }
         ensures written { IfOk result
@@ -146,7 +147,7 @@ impl Outbound {
         make_ping_ack(&mut self.small, bytes)
     }
 
-    fn ping(&mut self, bytes: [u8; 8]) -> Result<Frame, AllocError>
+    fn ping(&mut self, bytes: [u8; 8]) -> Result<OutFrame, AllocError>
         requires { IsBetween self.old }
         ensures sound { IfOk result IsSound }
         ensures written { IfOk result
@@ -157,7 +158,7 @@ impl Outbound {
         make_ping(&mut self.small, bytes)
     }
 
-    fn goaway_frame(&mut self, last: StreamId, reason: Reason) -> Result<Frame, AllocError>
+    fn goaway_frame(&mut self, last: StreamId, reason: Reason) -> Result<OutFrame, AllocError>
         requires { IsBetween self.old }
         ensures sound { IfOk result IsSound }
         ensures written { IfOk result
@@ -194,7 +195,7 @@ impl Outbound {
         is_stream(id) && state.over().is_none() && !state.is_reset()
     }
 
-    fn reset_frame(&mut self, id: StreamId, code: ErrorCode) -> Result<Frame, AllocError>
+    fn reset_frame(&mut self, id: StreamId, code: ErrorCode) -> Result<OutFrame, AllocError>
         requires between { IsBetween self.old }
         requires stream { 0 < id }
         requires number { id < 2 ^ 31 }
@@ -212,7 +213,7 @@ impl Outbound {
     }
 
     /// The one header block of a stream.
-    fn refusal(&mut self, id: StreamId, fields: Sequence<Field>) -> Result<Frame, AllocError>
+    fn refusal(&mut self, id: StreamId, fields: Sequence<Field>) -> Result<OutFrame, AllocError>
         requires between { IsBetween self.old }
         requires stream { 0 < id }
         requires number { id < 2 ^ 31 }
@@ -230,7 +231,7 @@ impl Outbound {
     }
 
     /// The credit that is owed on the connection or on a stream, if any is.
-    pub(crate) fn credit_frame(&mut self) -> Result<Option<Frame>, AllocError>
+    pub(crate) fn credit_frame(&mut self) -> Result<Option<OutFrame>, AllocError>
         requires between { IsBetween self.old }
         ensures sound { IfOk result (λ o. IfSome o IsSound) }
         ensures frame { IfOk result (λ o. IfSome o (λ frame. Writes frame self.old self.new)) }
@@ -251,7 +252,7 @@ impl Outbound {
         id: StreamId,
         ends: bool,
         bytes: Bytes,
-    ) -> Result<Frame, AllocError>
+    ) -> Result<OutFrame, AllocError>
         requires between { IsBetween self.old }
         requires stream { 0 < id }
         requires number { id < 2 ^ 31 }

@@ -1,6 +1,6 @@
 //! The writer of a connection.
 //!
-//! `fill` stops where a frame of the greatest length might not fit, so the buffer never has more than eight of those, and it
+//! `fill` stops where a frame of the greatest length might not fit, so the buffer never has more than seven of those, and it
 //! is used again for the next frames.
 
 ghost use Rattle.std.specs.Prelude.{◌≡◌, ◌≢◌, ◌≤◌, ◌<◌, ◌+◌, ℕ, true, false, not, ◌&&◌, List, [], ◌∷◌, Option, Some, IsErr, OnOk, OnErr, OnSome, IfSome, IfNone, length, vec_len, vec_capacity};
@@ -28,15 +28,16 @@ use crate::taking::Taking;
 use account::OutItem;
 use callbox::Sender;
 use device::{ConnWrite, DeviceFault, write_all};
-use h2frame::{ErrorCode, Flags, Frame, FrameKind, StreamId, write_frame};
+use h2frame::{ErrorCode, Flags, FrameKind, StreamId};
 use lane::Lane;
-use outwriter::{Control, Next, OutCore, OutFault};
+use outwriter::{Control, Next, OutCore, OutFault, OutFrame};
 use reasons::Reason;
 use std::alloc::{AllocError, Global};
 use std::mem;
+use zeros::ZeroBuffer;
 
-/// The most bytes that the buffer has: those of eight frames of the greatest length.
-const BUFFER: usize = 131_144;
+/// The most bytes that the buffer has: those of seven frames of the greatest length.
+const BUFFER: usize = 114_751;
 
 /// The bytes of the longest frame, its head included (RFC 9113, sections 4.1 and 4.2).
 const LONGEST_FRAME: usize = 16_393;
@@ -46,7 +47,7 @@ const LONGEST_FRAME: usize = 16_393;
 pub struct Frames<L: Lane<Item = OutItem>, W: ConnWrite> {
     pub(crate) core: OutCore<L>,
     /// The bytes of frames that weren't written yet.
-    pub(crate) buffer: Vec<u8>,
+    pub(crate) buffer: ZeroBuffer,
     /// The streams whose END_STREAM is in the buffer.
     pub(crate) ended: Vec<StreamId>,
     /// Those whose END_STREAM was written by the last flush.
@@ -68,7 +69,7 @@ impl<L: Lane<Item = OutItem>, W: ConnWrite> Frames<L, W> {
     {
         Frames {
             core: OutCore::new(alloc),
-            buffer: Vec::new(alloc),
+            buffer: ZeroBuffer::new(alloc),
             ended: Vec::new(alloc),
             left: Vec::new(alloc),
             streams: Vec::new(alloc),
@@ -243,7 +244,7 @@ impl<L: Lane<Item = OutItem>, W: ConnWrite> Frames<L, W> {
     }
 
     /// Puts frames into the buffer, until none comes or the longest might not fit. The buffer never has more than
-    /// 131,144 bytes by it.
+    /// 114,751 bytes by it.
     pub fn fill(&mut self) -> Filled
         // Frames are the next steps of the run. Where none comes, all is written that can be.
         ensures wrote { Fills L.got (coming L.got L.ahead) W.contents W.failed
@@ -254,8 +255,8 @@ impl<L: Lane<Item = OutItem>, W: ConnWrite> Frames<L, W> {
             ≡ lanes L.out_name self.old.core.sending.senders.items }
         ensures gave { (id : ℕ) → GaveLeft id (calls L.got self.old.core.sending.senders.items)
             → GaveLeft id (calls L.got self.new.core.sending.senders.items) }
-        ensures room { length self.old.buffer.items ≤ 131144
-            → length self.new.buffer.items ≤ 131144 }
+        ensures room { length self.old.buffer.items ≤ 114751
+            → length self.new.buffer.items ≤ 114751 }
         ensures device { self.new.device ≡ self.old.device }
         ensures left { self.new.left ≡ self.old.left }
         ensures goes { result ≢ filled.Stopped → self.new.standing ≡ stands.Going }
@@ -334,8 +335,8 @@ impl<L: Lane<Item = OutItem>, W: ConnWrite> Frames<L, W> {
         // Behind it nothing more is said.
         ensures once { result ≡ true → self.new.core.may_part ≡ false }
         ensures spent { self.old.core.may_part ≡ false → result ≡ false }
-        ensures room { length self.old.buffer.items ≤ 131144
-            → length self.new.buffer.items ≤ 131144 }
+        ensures room { length self.old.buffer.items ≤ 114751
+            → length self.new.buffer.items ≤ 114751 }
         ensures unsaid { result ≡ false → self.new.buffer.items ≡ self.old.buffer.items }
         ensures rest { self.new ≡ record
             self.old { core = self.new.core; buffer = self.new.buffer } }
@@ -343,13 +344,14 @@ impl<L: Lane<Item = OutItem>, W: ConnWrite> Frames<L, W> {
         if self.standing != Standing::OutOfMemory || self.buffer.len() > BUFFER - LONGEST_FRAME {
             return false;
         }
+        let Ok(()) = self.buffer.reserve(LONGEST_FRAME) else {
+            return false;
+        };
         let Some(frame) = self.core.farewell(last, Reason::Memory) else {
             return false;
         };
-        match write_frame(&frame, &mut self.buffer) {
-            Ok(()) => true,
-            Err(_fault) => false,
-        }
+        frame.append_to(&mut self.buffer);
+        true
     }
 
     /// The senders that are kept, and the device.
@@ -413,8 +415,8 @@ impl<L: Lane<Item = OutItem>, W: ConnWrite> Frames<L, W> {
             ≡ lanes L.out_name self.old.core.sending.senders.items }
         ensures gave { (id : ℕ) → GaveLeft id (calls L.got self.old.core.sending.senders.items)
             → GaveLeft id (calls L.got self.new.core.sending.senders.items) }
-        ensures room { length self.old.buffer.items ≤ 131144
-            → length self.new.buffer.items ≤ 131144 }
+        ensures room { length self.old.buffer.items ≤ 114751
+            → length self.new.buffer.items ≤ 114751 }
         ensures device { self.new.device ≡ self.old.device }
         ensures left { self.new.left ≡ self.old.left }
         ensures goes { result ≢ filled.Stopped → self.new.standing ≡ stands.Going }
@@ -463,37 +465,35 @@ impl<L: Lane<Item = OutItem>, W: ConnWrite> Frames<L, W> {
     }
 
     /// Puts a frame into the buffer.
-    fn put(&mut self, frame: Frame)
+    fn put(&mut self, frame: OutFrame)
         requires sound { IsSound frame }
-        requires room_in_buffer { vec_len self.old.buffer + 16393 ≤ vec_capacity self.old.buffer }
+        requires room_in_buffer { 16393 ≤ self.old.buffer.spare }
         requires room { vec_len self.old.ended < vec_capacity self.old.ended }
         requires room_to_note { vec_len self.old.streams < vec_capacity self.old.streams }
         ensures puts { Puts frame self.old self.new }
         ensures fits { length self.new.buffer.items ≤ length self.old.buffer.items + 16393 }
         ensures left { self.new.left ≡ self.old.left }
     {
-        let Ok(()) = write_frame(&frame, &mut self.buffer) else {
-            unreachable!();
-        };
+        frame.append_to(&mut self.buffer);
+        let head = frame.head();
         if ends_stream(&frame) {
-            self.ended.push_reserved(frame.head.stream);
+            self.ended.push_reserved(head.stream);
         }
         if carries_items(&frame) {
-            note(&mut self.streams, frame.head.stream);
+            note(&mut self.streams, head.stream);
         }
     }
 }
 
 /// Room for one frame more, and for one stream more in both lists. A buffer without memory gets all that it needs, so that it never moves.
 fn make_room(
-    buffer: &mut Vec<u8>,
+    buffer: &mut ZeroBuffer,
     ended: &mut Vec<StreamId>,
     streams: &mut Vec<StreamId>,
 ) -> Result<(), AllocError>
     ensures bytes { buffer.new.items ≡ buffer.old.items }
     ensures items { ended.new.items ≡ ended.old.items }
-    ensures room_in_buffer { OnOk result
-        (vec_len buffer.new + 16393 ≤ vec_capacity buffer.new) }
+    ensures room_in_buffer { OnOk result (16393 ≤ buffer.new.spare) }
     ensures room { OnOk result (vec_len ended.new < vec_capacity ended.new) }
     ensures room_to_note { OnOk result (vec_len streams.new < vec_capacity streams.new) }
 {
@@ -517,8 +517,8 @@ fn note(streams: &mut Vec<StreamId>, id: StreamId)
 }
 
 /// Whether a frame has something of an item of a call.
-fn carries_items(frame: &Frame) -> bool {
-    matches!(frame.head.kind, FrameKind::Data | FrameKind::Headers)
+fn carries_items(frame: &OutFrame) -> bool {
+    matches!(frame.head().kind, FrameKind::Data | FrameKind::Headers)
 }
 
 /// The order that ends a stream, or at 0 the connection.
@@ -537,11 +537,12 @@ fn own_order<S>(id: StreamId, last: StreamId) -> Control<S>
 }
 
 /// Whether a frame ends its stream (RFC 9113, sections 6.1 and 6.2).
-fn ends_stream(frame: &Frame) -> bool
+fn ends_stream(frame: &OutFrame) -> bool
     ensures { result ≡ ends_stream frame.now }
 {
-    match frame.head.kind {
-        FrameKind::Data | FrameKind::Headers => frame.head.flags.contains(Flags::END_STREAM),
+    let head = frame.head();
+    match head.kind {
+        FrameKind::Data | FrameKind::Headers => head.flags.contains(Flags::END_STREAM),
         _ => false,
     }
 }

@@ -149,9 +149,13 @@ fn push_item(text: &mut String, item: &OutItem) -> Result<()> {
             text.push_str("; head")?;
             push_fields(text, fields.as_slice())?;
         }
-        OutItem::Message(bytes) => {
+        OutItem::Message(message) => {
+            let (front, zeros) = message.parts();
             text.push_str("; ")?;
-            push_bytes(text, bytes.as_slice())?;
+            push_bytes(text, front)?;
+            for _ in 0..zeros {
+                text.push_str("00")?;
+            }
         }
         OutItem::Trailers(fields) => {
             text.push_str("; trailers")?;

@@ -8,6 +8,7 @@ use callbox::{FramedFault, Giver, InPiece, OutAccount, Sender, open_call, settle
 use lane::{End, Lane, RingLane};
 use lists::{Field, Octets, Sequence};
 use std::alloc::{AllocError, Global};
+use zeros::ZeroTail;
 
 /// The frame of the one byte 0x41.
 pub const FRAMED: &[u8] = &[0, 0, 0, 0, 1, 0x41];
@@ -28,7 +29,7 @@ pub fn fields(alloc: Global) -> Result<Sequence<Field>, AllocError> {
 /// The bytes of a message, or those of the value of the first field.
 pub fn bytes_of(item: &OutItem) -> &[u8] {
     match item {
-        OutItem::Message(bytes) => bytes.as_slice(),
+        OutItem::Message(message) => message.parts().0,
         OutItem::Head(fields) | OutItem::Trailers(fields) => match fields.as_slice().first() {
             Some(field) => field.value.as_slice(),
             None => &[],
@@ -54,7 +55,7 @@ fn give_framed<L: Lane<Item = OutItem>>(giver: &mut Giver<L>, bytes: &'static [u
     if !giver.has_head() {
         return Framed::Headless;
     }
-    match giver.give_framed(Bytes::from_static(bytes)) {
+    match giver.give_framed(ZeroTail::from(Bytes::from_static(bytes))) {
         Ok(()) => Framed::Given,
         Err(FramedFault::NotAFrame(_)) => Framed::NotAFrame,
         Err(FramedFault::Refused(_)) => Framed::Refused,

@@ -1,9 +1,16 @@
 //! What a peer reads of what is written, told as text.
 
+ghost use Rattle.h2frame.specs.Spelling.{IsWritable};
+
 use anyhow::{Result, bail};
-use h2frame::{Flags, Frame, FrameHead, FrameKind, FrameReader, write_frame};
+use h2frame::{Flags, Frame, FrameHead, FrameKind, FrameReader};
 use hpack_codec::Decoder;
+use outwriter::OutFrame;
 use std::alloc::Global;
+use zeros::ZeroBuffer;
+
+/// The bytes of a frame's head (RFC 9113, section 4.1).
+const HEAD_LEN: usize = 9;
 
 /// Reads frames, and the header blocks in them, and tells them.
 #[derive(Drop)]
@@ -13,7 +20,7 @@ pub struct Peer {
     /// The header block that was begun.
     block: Vec<u8>,
     /// The bytes of the frame that is read.
-    bytes: Vec<u8>,
+    bytes: ZeroBuffer,
     told: String,
 }
 
@@ -23,7 +30,7 @@ impl Peer {
             reader: FrameReader::new(alloc),
             decoder: Decoder::new(alloc),
             block: Vec::new(alloc),
-            bytes: Vec::new(alloc),
+            bytes: ZeroBuffer::new(alloc),
             told: String::new(alloc),
         }
     }
@@ -51,9 +58,10 @@ impl Peer {
     }
 
     /// Tells the bytes of a frame, in hexadecimal digits.
-    pub fn tell_bytes(&mut self, frame: &Frame) -> Result<()> {
-        self.bytes.clear();
-        push_frame(frame, &mut self.bytes)?;
+    pub fn tell_bytes(&mut self, frame: &OutFrame) -> Result<()>
+        requires { IsWritable frame.now }
+    {
+        self.spell(frame)?;
         for byte in self.bytes.as_slice() {
             write!(self.told, "{byte:02x}")?;
         }
@@ -67,14 +75,25 @@ impl Peer {
     }
 
     /// Reads the bytes of a frame.
-    pub fn read(&mut self, frame: &Frame) -> Result<()> {
-        self.bytes.clear();
-        push_frame(frame, &mut self.bytes)?;
+    pub fn read(&mut self, frame: &OutFrame) -> Result<()>
+        requires { IsWritable frame.now }
+    {
+        self.spell(frame)?;
         self.reader.feed(self.bytes.as_slice())?;
         let Some(read) = self.reader.next() else {
             bail!("a frame isn't whole");
         };
         self.tell_frame(&read?)
+    }
+
+    /// Spells a frame alone.
+    fn spell(&mut self, frame: &OutFrame) -> Result<()>
+        requires { IsWritable frame.now }
+    {
+        self.bytes.clear();
+        self.bytes.reserve(HEAD_LEN + frame.head().length as usize)?;
+        frame.append_to(&mut self.bytes);
+        Ok(())
     }
 
     fn tell_frame(&mut self, frame: &Frame) -> Result<()> {
@@ -180,16 +199,4 @@ fn is_block(kind: FrameKind) -> bool {
 fn ends_stream(head: &FrameHead) -> bool {
     matches!(head.kind, FrameKind::Headers | FrameKind::Data)
         && head.flags.contains(Flags::END_STREAM)
-}
-
-/// Appends a frame of a known type whose payload is its content.
-fn push_frame(frame: &Frame, out: &mut Vec<u8>) -> Result<()> {
-    let known = !matches!(frame.head.kind, FrameKind::Unknown(_));
-    let plain = !frame.head.is_padded() && !frame.head.has_priority();
-    let whole = frame.head.length as usize == frame.content.len();
-    if !known || !plain || !whole || frame.head.stream >= 0x8000_0000 {
-        bail!("a frame can't be spelled");
-    }
-    write_frame(frame, out)?;
-    Ok(())
 }

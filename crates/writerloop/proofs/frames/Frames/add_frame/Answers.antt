@@ -6,6 +6,9 @@ use Rattle.outwriter.specs.Polls.{coming}
 use Rattle.writerloop.proofs.WroteSteps.{put-fills, still-on}
 use Rattle.writerloop.proofs.frames.Frames.add_frame.Goals as goal
 
+pub put-requires-clause-sound : goal.put-requires-clause-sound
+put-requires-clause-sound g c = λ κs outlive. c.in-Ok-Frame.ensures.sound c.in-Ok-Frame.frame c.in-Ok-Frame.field-0-is
+
 pub returns-in-Ok-Frame-clause-wrote : goal.returns-in-Ok-Frame-clause-wrote
 returns-in-Ok-Frame-clause-wrote g c =
     let core = c.args.self.now.core in

@@ -10,7 +10,7 @@ use Rattle.writerloop.proofs.frames.Frames.fill_on.Given as goal
 abbrev pub invariant-frames : goal.invariant-frames
 invariant-frames g l = record {
   fills : Fills g.L.Lane.got (coming g.L.Lane.got g.L.Lane.ahead) g.W.ConnWrite.contents g.W.ConnWrite.failed None l.fn.self l.self;
-  room : length l.fn.self.buffer.items ≤ 131144 → length l.self.buffer.items ≤ 131144;
+  room : length l.fn.self.buffer.items ≤ 114751 → length l.self.buffer.items ≤ 114751;
   going : l.self.standing ≡ Going;
   device : l.self.device ≡ l.fn.self.device;
   left : l.self.left ≡ l.fn.self.left;
