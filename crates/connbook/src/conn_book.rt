@@ -3,7 +3,7 @@
 ghost use Rattle.std.specs.Prelude.{◌≡◌, ◌≢◌, ℕ, ◌+◌, ◌<◌, ◌≤◌, true, false, length, slice_get, nat_eq, if◌then◌else◌, IsSome, IsTrue, ◌↔◌, OnOk, OnErr};
 ghost use Rattle.std.specs.Map.{keys_of};
 ghost use Rattle.flow.specs.Books.{new_book, call_at, Meets, GiveBackCause, after_give_back, after_cut, after_end_remote, after_end_local};
-ghost use Rattle.connbook.specs.Receipts.{receipt_of, after_receipt, counted_of, Admits, after_admission, credit_of, after_credit, after_stop};
+ghost use Rattle.connbook.specs.Receipts.{receipt_of, after_receipt, counted_of, Admits, after_admission, credit_of, is_credit_due, after_credit, after_stop};
 ghost use Rattle.connbook.specs.Ledgers.{IsKept};
 ghost use Rattle.connbook.specs.declared.answers.Receipt.TheVariants as receipt;
 ghost use Rattle.connbook.specs.declared.answers.AdmitFault.TheVariants as refused;
@@ -173,6 +173,13 @@ impl<A: Ledger, B: Ledger, C: Ledger> ConnBook<A, B, C> {
         ensures stopped { self.new.stopped ≡ self.old.stopped }
     {
         self.book.give_back(id, n)
+    }
+
+    /// Whether credit is due on the connection: at least as much was returned, and not announced yet, as the peer may still send.
+    pub fn is_credit_due(&self) -> bool
+        ensures { result ≡ is_credit_due self.now.book 0 }
+    {
+        self.book.window(0) <= self.book.due(0)
     }
 
     /// Announces all that was returned on an id, 0 for the connection, and answers how much of it wasn't yet: the increment

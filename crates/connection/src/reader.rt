@@ -476,17 +476,22 @@ where
         Ok(end)
     }
 
-    /// Rings for so many bytes that came. The writer wakes while the calls are answered.
+    /// Rings for so many bytes that came. The writer wakes while the calls are answered. It is rung where an order waits, where few
+    /// bytes came, which may be returned at once, and where credit is due: what came may have made it so, and no worker rings for that.
     fn ring(&mut self, count: usize)
         ensures reading { self.new.reading
             ≡ record self.old.reading { seats = self.new.reading.seats } }
         ensures same { IsSame self.old.orders self.new.orders }
     {
         self.reading.ring_noted();
-        if count >= LARGE_PIECE && !self.orders.are_unrung {
-            return;
+        if count < LARGE_PIECE || self.orders.are_unrung || self.is_credit_due() {
+            self.orders.ring();
         }
-        self.orders.ring();
+    }
+
+    /// Whether credit is due on the connection.
+    fn is_credit_due(&self) -> bool {
+        self.orders.shared.book.lock(&self.rt).is_credit_due()
     }
 
     /// What events lead to, one after another; how the connection ends, if it does.
