@@ -84,12 +84,13 @@ pub fn one_request<R: Clock + AllocGlobal + Print>(rt: &R, sizes: &[String]) -> 
     Ok(())
 }
 
-/// How many replies come of a request, and the nanoseconds.
+/// 1 where a reply comes of a request and 0 where none does, and the nanoseconds.
 fn taken_timed<R: Clock + AllocGlobal>(rt: &R, request: &[u8]) -> Result<(usize, u128)> {
     let mut state = StreamingInputCall.first();
     let start = Instant::now(rt)?;
     let step = StreamingInputCall.message(rt.alloc(), &mut state, request)?;
-    Ok((step.replies.as_slice().len(), start.elapsed(rt)?.as_nanos()))
+    let count = usize::from(!step.replies.is_empty());
+    Ok((count, start.elapsed(rt)?.as_nanos()))
 }
 
 /// How many bytes the frame of a small reply has, copied and in place.

@@ -16,6 +16,7 @@ mod messages;
 mod methods;
 mod out_ends;
 mod protobuf;
+mod replies;
 mod rings;
 mod threads;
 mod values;
@@ -127,6 +128,11 @@ fn run_ends<R: Print + AllocGlobal>(rt: &R) -> Result<()> {
         rt,
         "what is given is sent",
         out_ends::send_what_is_given(alloc)?,
+    )?;
+    tell(
+        rt,
+        "replies are read back in their order",
+        replies::are_read_back(alloc)?,
     )
 }
 

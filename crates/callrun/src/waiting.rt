@@ -7,11 +7,10 @@ use handlers::{Replies, Reply};
 use std::alloc::Global;
 use std::marker::Model;
 
-/// Replies in order, of which the first ones were given. In a contract they are the list of the others.
+/// Replies in order. In a contract they are their list.
 #[derive(Debug, Drop)]
 pub(crate) struct Waiting {
     replies: Replies,
-    given: usize,
     /// How many replies of the call were given in all.
     passed: u64,
     /// How many bytes those had.
@@ -19,12 +18,12 @@ pub(crate) struct Waiting {
 }
 
 impl Model for Waiting {
-    ghost use Rattle.std.specs.Prelude.{List, drop};
+    ghost use Rattle.std.specs.Prelude.{List};
     ghost use Rattle.handlers.specs.declared.reply.Reply.{Reply};
 
     ghost Value = { List Reply };
 
-    ghost view = { λ waiting. drop waiting.given waiting.replies };
+    ghost view = { λ waiting. waiting.replies };
 }
 
 impl Waiting {
@@ -33,7 +32,6 @@ impl Waiting {
     {
         Waiting {
             replies: Replies::new(alloc),
-            given: 0,
             passed: 0,
             bytes: 0,
         }
@@ -44,7 +42,6 @@ impl Waiting {
         ensures { self.new ≡ replies }
     {
         self.replies = replies;
-        self.given = 0;
     }
 
     /// How many replies of the call were given in all, and how many bytes they had.
@@ -57,15 +54,14 @@ impl Waiting {
         ensures { MatchOption result (self.now ≡ [])
             (λ reply. (rest : List ReplyOf) × (self.now ≡ reply ∷ rest)) }
     {
-        let reply = self.replies.as_slice().get(self.given)?;
-        Some(*reply)
+        self.replies.first()
     }
 
     /// Whether all were given.
     pub(crate) fn is_empty(&self) -> bool
         ensures { IsTrue result ↔ (self.now ≡ []) }
     {
-        self.first().is_none()
+        self.replies.is_empty()
     }
 
     /// The next reply was given.
@@ -73,18 +69,10 @@ impl Waiting {
         ensures { (reply : ReplyOf) (rest : List ReplyOf) → self.old ≡ reply ∷ rest
             → self.new ≡ rest }
     {
-        if self.given < self.replies.as_slice().len() {
+        if let Some(reply) = self.replies.first() {
             self.passed = self.passed.saturating_add(1);
-            self.bytes = self.bytes.saturating_add(len_at(&self.replies, self.given));
-            self.given += 1;
+            self.bytes = self.bytes.saturating_add(reply.len() as u64);
+            self.replies.pass();
         }
-    }
-}
-
-/// How many bytes the message of this reply has.
-fn len_at(replies: &Replies, index: usize) -> u64 {
-    match replies.as_slice().get(index) {
-        Some(reply) => reply.len() as u64,
-        None => 0,
     }
 }

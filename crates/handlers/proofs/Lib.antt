@@ -8,3 +8,4 @@ pub mod SomeAnswer
 pub mod ShortReplies
 pub mod AtIndex
 pub mod ReplyLengths
+pub mod RepliesHeld

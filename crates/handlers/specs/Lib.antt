@@ -5,3 +5,4 @@ pub mod Requests
 pub mod Answers
 pub mod Listed
 pub mod Examples
+pub mod HeldReplies

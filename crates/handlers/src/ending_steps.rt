@@ -7,7 +7,8 @@ ghost use Rattle.handlers.specs.Statuses.{status_of};
 ghost use Rattle.handlers.specs.Steps.{ending, done, finished};
 
 use crate::fault::MethodFault;
-use crate::reply::{Replies, Reply};
+use crate::replies::Replies;
+use crate::reply::Reply;
 use crate::state::MethodState;
 use crate::status::{Refusal, Status};
 use crate::step::Step;

@@ -8,7 +8,7 @@ use crate::ending_steps::end_with;
 use crate::fault::MethodFault;
 use crate::judge::judge_output_call;
 use crate::method::Method;
-use crate::reply::Replies;
+use crate::replies::Replies;
 use crate::state::MethodState;
 use crate::step::Step;
 use std::alloc::Global;

@@ -5,7 +5,8 @@ ghost use Rattle.handlers.specs.declared.reply.Reply.TheVariants.{Empty as Empty
 ghost use Rattle.handlers.specs.Requests.{IsRead, EmptyVerdict, SimpleVerdict, asked_status, is_true, is_size, zeros, zeros_of, all_sizes, known_code, judge_simple, judge_output, OutputVerdict, judge_input, InputVerdict, body_length};
 
 use crate::fault::MethodFault;
-use crate::reply::{Replies, Reply};
+use crate::replies::Replies;
+use crate::reply::Reply;
 use crate::status::{Refusal, Status, StatusText};
 use grpc_status::StatusCode;
 use std::alloc::Global;

@@ -7,7 +7,7 @@
 //! [`Reply::write_front`] appends it but for the zeros of its payload, of which [`Reply::zeros`] is the number;
 //! [`Methods::find`] answers the least index with a path.
 //!
-//! Read [`status`], [`reply`], [`step`] and [`state`] first, the types; then [`method`], the law, and
+//! Read [`status`], [`reply`], [`replies`], [`step`] and [`state`] first, the types; then [`method`], the law, and
 //! [`uses::whole_call`], a whole call by it. Then the methods: [`empty_call`] and [`unary_call`],
 //! [`streaming_output_call`], [`streaming_input_call`], [`full_duplex_call`] and [`half_duplex_call`]; `judge` is how a
 //! request is read and judged, `ending_steps` how a call ends. [`methods`] finds a method by its path.
@@ -21,6 +21,7 @@ pub mod half_duplex_call;
 mod judge;
 pub mod method;
 pub mod methods;
+pub mod replies;
 pub mod reply;
 pub mod state;
 pub mod status;
@@ -36,7 +37,8 @@ pub use full_duplex_call::FullDuplexCall;
 pub use half_duplex_call::HalfDuplexCall;
 pub use method::Method;
 pub use methods::Methods;
-pub use reply::{Replies, Reply};
+pub use replies::Replies;
+pub use reply::Reply;
 pub use state::MethodState;
 pub use status::{Refusal, Status, StatusText};
 pub use step::Step;

@@ -3,7 +3,7 @@
 //! `Sum` holds an `i32`, the type of the field; the state's sum is a `u32`. The reply to UnaryCall is written as a
 //! StreamingOutputCallResponse: a SimpleResponse with the same payload is spelled the same (`specs/Replies.antt`).
 
-ghost use Rattle.std.specs.Prelude.{◌≡◌, ◌+◌, ◌<◌, ◌≤◌, ◌++◌, ◌∷◌, [], length, replicate, vec_len, vec_capacity, IfOk, OnOk, OnErr};
+ghost use Rattle.std.specs.Prelude.{◌≡◌, ◌+◌, ◌<◌, ◌≤◌, ◌++◌, length, replicate, vec_len, vec_capacity, IfOk, OnOk, OnErr};
 ghost use Rattle.pbwire.specs.Spelling.{varint_spelling, spelling_of_all};
 ghost use Rattle.testproto.specs.Canonical.{payload_fields};
 ghost use Rattle.handlers.specs.declared.reply.Reply.TheVariants.{Zeros as ZerosReply, Sum as SumReply};
@@ -12,7 +12,6 @@ ghost use Rattle.handlers.specs.Replies.{reply_bytes, front_bytes, body_head, ze
 use crate::fault::MethodFault;
 use pbwire::{varint_len, write_varint};
 use std::alloc::{AllocError, Global};
-use std::marker::Model;
 
 /// One response message.
 #[derive(Clone, Copy, Debug, PartialEq, Eq)]
@@ -207,68 +206,4 @@ fn put_sum(value: i32, out: &mut Vec<u8>)
     }
     put_varint(SUM_TAG, out);
     put_varint(i64::from(value).cast_unsigned(), out);
-}
-
-/// Replies in order. In a contract they are their list.
-#[derive(Debug, Drop)]
-pub struct Replies {
-    items: Vec<Reply>,
-}
-
-impl Model for Replies {
-    ghost use Rattle.std.specs.Prelude.{List};
-    ghost use Rattle.handlers.specs.declared.reply.Reply.{Reply};
-
-    ghost Value = { List Reply };
-
-    ghost view = { λ replies. replies.items.items };
-}
-
-impl Replies {
-    pub fn new(alloc: Global) -> Replies
-        ensures { result ≡ [] }
-    {
-        Replies {
-            items: Vec::new(alloc),
-        }
-    }
-
-    /// One reply.
-    pub fn one(alloc: Global, reply: Reply) -> Result<Replies, AllocError>
-        ensures { IfOk result (λ replies. replies ≡ reply ∷ []) }
-    {
-        let mut items = Vec::with_capacity(alloc, 1)?;
-        items.push(reply)?;
-        Ok(Replies { items })
-    }
-
-    pub fn as_slice(&self) -> &[Reply]
-        ensures { result.now ≡ self.now }
-    {
-        &self.items
-    }
-
-    /// The replies, with no memory taken.
-    pub fn into_vec(self) -> Vec<Reply>
-        ensures { result.items ≡ self }
-    {
-        self.items
-    }
-
-    pub fn push(&mut self, reply: Reply) -> Result<(), AllocError>
-        ensures ok { OnOk result (self.new ≡ self.old ++ reply ∷ []) }
-        ensures err { OnErr result (self.new ≡ self.old) }
-    {
-        self.items.push(reply)?;
-        Ok(())
-    }
-
-    /// Appends these replies.
-    pub(crate) fn append(&mut self, more: &Replies) -> Result<(), AllocError>
-        ensures ok { OnOk result (self.new ≡ self.old ++ more.now) }
-        ensures err { OnErr result (self.new ≡ self.old) }
-    {
-        self.items.extend_from_slice(&more.items)?;
-        Ok(())
-    }
 }

@@ -3,7 +3,7 @@
 ghost use Rattle.std.specs.Prelude.{◌≡◌, ◌∷◌, [], OnOk};
 ghost use Rattle.handlers.specs.Steps.{nothing, replying, ending, done, finished, joined};
 
-use crate::reply::Replies;
+use crate::replies::Replies;
 use crate::status::Status;
 use std::alloc::{AllocError, Global};
 

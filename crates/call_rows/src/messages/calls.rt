@@ -5,19 +5,26 @@ use super::words::{all_bytes, bytes_of, push_bytes};
 use anyhow::{Context, Result, bail, ensure};
 use handlers::{
     CacheableUnaryCall, EmptyCall, FullDuplexCall, HalfDuplexCall, Method, MethodState, Methods,
-    Step, StreamingInputCall, StreamingOutputCall, UnaryCall, run,
+    Replies, Step, StreamingInputCall, StreamingOutputCall, UnaryCall, run,
 };
 use std::alloc::Global;
 
 /// What begins the path of each method.
 const SERVICE: &str = "/grpc.testing.TestService/";
 
-/// The replies of a call, each with a `;` behind it, and its status or `open`.
-fn push_answer(text: &mut String, alloc: Global, answer: &Step) -> Result<()> {
-    for reply in answer.replies.as_slice() {
+/// Replies, each with a `;` behind it.
+fn push_replies(text: &mut String, alloc: Global, mut replies: Replies) -> Result<()> {
+    while let Some(reply) = replies.first() {
         push_bytes(text, reply.bytes(alloc)?.as_slice())?;
         text.push_str("; ")?;
+        replies.pass();
     }
+    Ok(())
+}
+
+/// The replies of a call, and its status or `open`.
+fn push_answer(text: &mut String, alloc: Global, answer: Step) -> Result<()> {
+    push_replies(text, alloc, answer.replies)?;
     match &answer.ends {
         Some(status) => write!(text, "{} {}", status.code.number(), status.text.as_str())?,
         None => text.push_str("open")?,
@@ -37,7 +44,7 @@ fn call_text(
     ensure!(method.path() == path.as_str(), "another path");
     let answer = run(alloc, method, messages, ended)?;
     let mut text = String::new(alloc);
-    push_answer(&mut text, alloc, &answer)?;
+    push_answer(&mut text, alloc, answer)?;
     Ok(text)
 }
 
@@ -87,7 +94,7 @@ fn sum_text(alloc: Global, sum: u32, message: &[u8]) -> Result<String> {
     let mut state = MethodState::Sum(sum);
     let step = StreamingInputCall.message(alloc, &mut state, message)?;
     let mut text = String::new(alloc);
-    push_answer(&mut text, alloc, &step)?;
+    push_answer(&mut text, alloc, step)?;
     Ok(text)
 }
 

@@ -2,7 +2,7 @@
 
 use anyhow::Result;
 use handlers::uses::by_index::run_one;
-use handlers::{EmptyCall, Method, Methods, UnaryCall};
+use handlers::{EmptyCall, Method, Methods, Replies, UnaryCall};
 use std::alloc::Global;
 use std::sync::Arc;
 use std::thread;
@@ -25,13 +25,20 @@ fn is_answered(
     let Ok(step) = run_one(alloc, methods, index, message) else {
         return false;
     };
-    match step.replies.as_slice() {
-        [reply] => match reply.bytes(alloc) {
-            Ok(bytes) => bytes.as_slice() == wanted,
-            Err(_) => false,
-        },
-        _ => false,
-    }
+    is_one(alloc, step.replies, wanted)
+}
+
+/// Whether there is one reply, of these bytes.
+fn is_one(alloc: Global, mut replies: Replies, wanted: &[u8]) -> bool {
+    let Some(reply) = replies.first() else {
+        return false;
+    };
+    replies.pass();
+    let is_same = match reply.bytes(alloc) {
+        Ok(bytes) => bytes.as_slice() == wanted,
+        Err(_) => false,
+    };
+    is_same && replies.is_empty()
 }
 
 /// Calls both methods a few times.
