@@ -16,7 +16,7 @@ ghost use Rattle.outwriter.specs.NextOn.{EndsStream, GetsOne, NextAtEntry, NextO
 ghost use Rattle.outwriter.specs.Polls.{coming};
 ghost use Rattle.outwriter.specs.OpenStreams.{Closes, PlaceIs, SameHands, has_hand, kept as kept_of, shown, stream_at, with_hand, with_place};
 
-use crate::stream::{Found, Hand, Looked, OpenStream, Polled, kept, next_data, poll_at};
+use crate::stream::{Found, Hand, Looked, Opened, Polled, next_data, poll_at};
 use crate::stream_state::{Change, Over, StreamState};
 use account::OutItem;
 use callbox::Sender;
@@ -34,7 +34,7 @@ use zeros::ZeroTail;
 pub(crate) struct Stream {
     state: StreamState,
     /// What is written of it, while it is open.
-    opened: Option<OpenStream>,
+    opened: Option<Opened>,
     /// The balance of its window, while that is open.
     balance: Option<Balance>,
 }
@@ -179,7 +179,7 @@ impl Stream {
         ensures hand { shown self.new.opened ≡ with_hand (kept_of rest) (shown self.old.opened) }
     {
         if let Some(stream) = &mut self.opened {
-            stream.in_hand = kept(rest);
+            stream.keep(rest);
         }
     }
 
@@ -191,7 +191,7 @@ impl Stream {
     {
         match &mut self.opened {
             Some(stream) => {
-                stream.in_turn = in_turn;
+                stream.turn(in_turn);
                 true
             }
             None => false,
@@ -205,9 +205,7 @@ impl Stream {
         ensures place { shown self.new.opened ≡ with_place from to (shown self.old.opened) }
     {
         if let Some(stream) = &mut self.opened {
-            if stream.place == from {
-                stream.place = to;
-            }
+            stream.move_place(from, to);
         }
     }
 }
@@ -307,7 +305,7 @@ impl StreamStates {
     pub(crate) fn waits(&self, id: StreamId) -> bool {
         match self.streams.get(&id) {
             Some(stream) => match &stream.opened {
-                Some(opened) => !opened.in_turn,
+                Some(opened) => !opened.is_in_turn(),
                 None => false,
             },
             None => false,
@@ -320,7 +318,7 @@ impl StreamStates {
     {
         match self.streams.get(&id) {
             Some(stream) => match &stream.opened {
-                Some(opened) => opened.in_hand.is_some(),
+                Some(opened) => opened.has_hand(),
                 None => false,
             },
             None => false,
@@ -350,12 +348,8 @@ impl StreamStates {
         ensures windows { OnOk result (Moves self.old (opening self.old id) self.new) }
         ensures unchanged { OnErr result (self.new ≡ self.old) }
     {
-        let stream = OpenStream {
-            place,
-            in_hand: None,
-            in_turn: false,
-        };
-        self.change(id, Change::Open, Some(stream))
+        let opened = Opened::new(*self.streams.allocator(), place)?;
+        self.change(id, Change::Open, Some(opened))
     }
 
     /// A stream is heard of. It stands as it did.
@@ -452,7 +446,7 @@ impl StreamStates {
         &mut self,
         id: StreamId,
         change: Change,
-        opened: Option<OpenStream>,
+        opened: Option<Opened>,
     ) -> Result<(), AllocError>
         requires stream { 0 < id }
         requires number { id < 2 ^ 31 }
@@ -548,7 +542,7 @@ fn change_of(
     streams: &mut IndexMap<StreamId, Stream>,
     id: StreamId,
     change: Change,
-    opened: Option<OpenStream>,
+    opened: Option<Opened>,
 ) -> Result<(), AllocError>
     ensures changes { OnOk result
         (Changes streams.old.entries id change opened streams.new.entries) }

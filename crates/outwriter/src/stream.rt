@@ -1,13 +1,13 @@
 //! An open stream, and what its call's sender has for it.
 
-ghost use Rattle.std.specs.Prelude.{◌≡◌, [], ◌∷◌, ◌++◌, min, None, IfOk, OnErr};
+ghost use Rattle.std.specs.Prelude.{◌≡◌, [], ◌∷◌, ◌++◌, min, None, Some, is_some, IfOk, OnErr};
 ghost use Rattle.hpack_codec.specs.Codec.{Writes};
 ghost use Rattle.outwriter.specs.Polls.{Polls, coming};
 ghost use Rattle.outwriter.specs.Cores.{calls, lanes};
 ghost use Rattle.outwriter.specs.StreamLooks.{aheads, TakesHand, SameElsewhere};
 ghost use Rattle.outwriter.specs.Data.{CutsData, LooksAtOpen, Spends};
 ghost use Rattle.outwriter.specs.States.{room_in};
-ghost use Rattle.outwriter.specs.OpenStreams.{kept as kept_of};
+ghost use Rattle.outwriter.specs.OpenStreams.{kept as kept_of, shown, stream_at, with_place};
 ghost use Rattle.account.specs.declared.call.OutItem.{OutItem};
 
 use crate::frames::make_data;
@@ -20,21 +20,87 @@ use h2frame::{MAX_PAYLOAD, StreamId};
 use hpack_codec::Encoder;
 use lane::Lane;
 use lists::Field;
-use std::alloc::AllocError;
+use std::alloc::{AllocError, Global};
+use std::marker::Model;
 use zeros::ZeroTail;
 
 /// A stream whose items are written.
 #[derive(Drop)]
-pub(crate) struct OpenStream {
+struct OpenStream {
     /// Where its sender stands among those of all calls.
-    pub(crate) place: usize,
+    place: usize,
     /// What is left of the message that was begun.
-    pub(crate) in_hand: Option<ZeroTail>,
+    in_hand: Option<ZeroTail>,
     /// Whether it is in the queue of those that take turns.
-    pub(crate) in_turn: bool,
+    in_turn: bool,
 }
 
-impl OpenStream {
+/// An open stream, in a box of its own: what is kept of a stream that is over is smaller by that.
+#[derive(Drop)]
+pub(crate) struct Opened {
+    stream: Box<OpenStream>,
+}
+
+impl Model for Opened {
+    ghost use Rattle.outwriter.specs.declared.stream.OpenStream.{OpenStream};
+
+    ghost Value = { OpenStream };
+
+    ghost view = { λ opened. opened.stream.value };
+}
+
+impl Opened {
+    /// A stream whose sender stands at this place, and of which nothing is in hand.
+    pub(crate) fn new(alloc: Global, place: usize) -> Result<Opened, AllocError>
+        ensures { IfOk result (λ opened. opened ≡ stream_at place) }
+    {
+        let stream = OpenStream {
+            place,
+            in_hand: None,
+            in_turn: false,
+        };
+        Ok(Opened {
+            stream: Box::new(alloc, stream)?,
+        })
+    }
+
+    /// Whether an item is in hand.
+    pub(crate) fn has_hand(&self) -> bool
+        ensures { result ≡ is_some self.now.in_hand }
+    {
+        self.stream.in_hand.is_some()
+    }
+
+    /// Whether it is in the queue of those that take turns.
+    pub(crate) fn is_in_turn(&self) -> bool
+        ensures { result ≡ self.now.in_turn }
+    {
+        self.stream.in_turn
+    }
+
+    /// It takes turns from now on, or none.
+    pub(crate) fn turn(&mut self, in_turn: bool)
+        ensures { self.new ≡ record self.old { in_turn = in_turn } }
+    {
+        self.stream.in_turn = in_turn;
+    }
+
+    /// This is left of the message in hand.
+    pub(crate) fn keep(&mut self, rest: ZeroTail)
+        ensures { self.new ≡ record self.old { in_hand = kept_of rest } }
+    {
+        self.stream.in_hand = kept(rest);
+    }
+
+    /// Its sender stands at another place, if it stood there.
+    pub(crate) fn move_place(&mut self, from: usize, to: usize)
+        ensures { shown (Some self.new) ≡ with_place from to (shown (Some self.old)) }
+    {
+        if self.stream.place == from {
+            self.stream.place = to;
+        }
+    }
+
     /// Looks at what is in hand, if anything is: DATA of it are taken out of it, and out of the connection's window and its own,
     /// of which this is the balance.
     pub(crate) fn look(
@@ -46,11 +112,11 @@ impl OpenStream {
         ensures { IfOk result
             (LooksAtOpen id self.old self.new window.old window.new balance.old balance.new) }
     {
-        let Some(mut rest) = self.in_hand.take() else {
-            return Ok(Hand::Empty(self.place));
+        let Some(mut rest) = self.stream.in_hand.take() else {
+            return Ok(Hand::Empty(self.stream.place));
         };
         let looked = next_data(window, balance, id, &mut rest)?;
-        self.in_hand = kept(rest);
+        self.keep(rest);
         Ok(Hand::Message(looked))
     }
 }
