@@ -7,9 +7,9 @@ ghost use Rattle.std.specs.Prelude.{◌≡◌, ◌≤◌, ◌<◌, ◌+◌, ◌-
 use std::sync::{Mutex, Wait};
 use std::time::{Clock, Duration, Instant};
 
-/// How many threads take further connections once theirs have ended: the first that were started. Blocks that a thread holds since
-/// its start keep the heap from being given back up to where they lie, and a thread of a crowd has them above all of the crowd's.
-const STAYING: usize = 16;
+/// How many threads take further connections once theirs have ended: the first that were started. A client that makes a connection
+/// a call needs two. Each holds a heap, which keeps what its largest connection took.
+const STAYING: usize = 4;
 
 /// How many connections at a time are as good as any number, where more and more were tried.
 const MANY: usize = 1_024;
@@ -151,7 +151,7 @@ impl Crowd {
     /// So many threads stay as long as none is wanting.
     fn stay(&mut self) -> bool
         ensures one { result ≡ true → self.new.staying ≡ self.old.staying + 1 }
-        ensures few { result ≡ true → self.new.staying ≤ 16 }
+        ensures few { result ≡ true → self.new.staying ≤ 4 }
         ensures enough { result ≡ true → self.old.most ≡ None }
         ensures none { result ≡ false → self.new ≡ self.old }
     {
