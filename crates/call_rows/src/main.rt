@@ -88,7 +88,7 @@ fn is_same(rt: &impl Print, way: &str, place: &str, got: &str, wanted: &str) -> 
 
 /// Runs the rows of a file, and answers how many differ.
 fn run_file(rt: &(impl Print + Files + AllocGlobal), name: &str) -> Result<u64> {
-    let text = fs::read_to_string(rt, format!(in rt.alloc(); "/work/h1/crates/call_rows/data/{name}")?.as_str())?;
+    let text = fs::read_to_string(rt, name)?;
     let (rows, differing) = run_lines(rt, name, text.as_str())?;
     println!(rt; "{name}: {rows} rows")?;
     Ok(differing)

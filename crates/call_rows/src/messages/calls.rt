@@ -14,7 +14,10 @@ const SERVICE: &str = "/grpc.testing.TestService/";
 
 /// Replies, each with a `;` behind it.
 fn push_replies(text: &mut String, alloc: Global, mut replies: Replies) -> Result<()> {
-    while let Some(reply) = replies.first() {
+    for _ in 0..u64::MAX {
+        let Some(reply) = replies.first() else {
+            break;
+        };
         push_bytes(text, reply.bytes(alloc)?.as_slice())?;
         text.push_str("; ")?;
         replies.pass();

@@ -64,7 +64,7 @@ pub fn try_file<S: Subject + Drop>(
     name: &str,
     subject: S,
 ) -> Result<u32> {
-    let text = fs::read_to_string(rt, format!(in rt.alloc(); "/work/h1/crates/call_rows/data/{name}")?.as_str()).context(format_args!("{name}"))?;
+    let text = fs::read_to_string(rt, name).context(format_args!("{name}"))?;
     let tried = try_lines(rt, name, text.as_str(), &subject)?;
     let rows = tried.rows;
     println!(rt; "{name}: {rows} rows")?;
