@@ -2,9 +2,10 @@
 """wire_table.py NAME=FILE..: what real servers fail, from runs of `interop wire`.
 
 FILE is what `interop wire all --port P --json FILE` left of a server, which the table calls NAME; a NAME may have several files,
-of a group each. The table in docs/WIRE.md, behind
-its line `<!-- wire_table.py -->`, becomes that of these runs: cases, how each server did, and the sentence that binds it. For each
-case of level must that failed, checks/wire-peers/NAME.txt has the bytes that were sent and the frames that were read.
+of a group each. The table in docs/WIRE.md, after
+its line `<!-- wire_table.py -->`, becomes that of these runs: cases, their level and section, and how each server did. For each
+case of level must that failed, checks/wire-peers/NAME.txt has the sentence that binds the server, the bytes that were sent and the
+frames that were read.
 """
 import json
 import os
@@ -12,7 +13,7 @@ import sys
 
 ROOT = os.path.dirname(os.path.dirname(os.path.dirname(os.path.abspath(__file__))))
 MARK = "<!-- wire_table.py -->\n"
-# What stands behind the name of a server, by its verdict. It isn't told of a case that is ok.
+# What follows the name of a server, by its verdict. A server whose case is ok isn't named.
 WORDS = {"failed": "", "unsteady": "?", "not applicable": "-"}
 
 # A sent text of more bytes than this is cut: the case's steps say what stands there.
@@ -55,19 +56,19 @@ def sentence_of(outcome):
 
 
 def rows_of(servers):
-    """The table's rows: those cases together that have the same level, sentence and verdicts, where not each verdict is ok."""
+    """The table's rows: those cases together that have the same level, section and verdicts, where not each verdict is ok."""
     cases = list(dict.fromkeys(case for outcomes in servers.values() for case in outcomes))
     rows = {}
     for case in cases:
         known = next(outcomes[case] for outcomes in servers.values() if case in outcomes)
         verdicts = tuple(outcomes.get(case, {}).get("verdict") for outcomes in servers.values())
         if known["level"] != "ours" and {"failed", "unsteady"} & set(verdicts):
-            rows.setdefault((known["level"], sentence_of(known), verdicts), []).append(case)
+            rows.setdefault((known["level"], known["rule"], verdicts), []).append(case)
     return rows
 
 
 def table_of(servers):
-    lines = ["|Cases|Sentence|Failed by|", "|---|---|---|"]
+    lines = ["|Cases|Section|Failed by|", "|---|---|---|"]
     for (level, rule, verdicts), cases in rows_of(servers).items():
         marks = " ".join(name + WORDS[verdict] for name, verdict in zip(servers, verdicts) if verdict in WORDS)
         lines.append(f"|{joined(cases)}|{level} {rule}|{marks}|")
