@@ -4,53 +4,52 @@
 Of each crate it prints its sentence and its public functions that have a contract: the path, the
 first sentence of the comment, and the names of the clauses, each with the comment before it. A
 clause without a name is printed itself where it fits on its line, else as "..". A law is a public
-function that does nothing: its contract is all that it has. With --all the functions of private
-modules and of programs are listed too.
+function that does nothing: its contract is all that it has. Of a public trait it lists the ghost
+members with a comment too: its laws and definitions. With --all it lists the functions of private
+modules and of programs too.
 """
 import itertools
-import os
 import pathlib
 import re
 import signal
 import sys
 
-ROOT = os.path.dirname(os.path.dirname(os.path.abspath(__file__)))
-FUNCTION = re.compile(r"( *)(pub )?(?:const )?fn (\w+)")
+ROOT = pathlib.Path(__file__).resolve().parent.parent
+FUNCTION = re.compile(r"( *)(pub )?(?:const |final )?(fn|ghost) (\w+)")
 CLAUSE = re.compile(r" *(requires|ensures)\*? ?(\w*) *(\{.*\}(?=;?$))?")
-
-
-def lines_of(path):
-    return pathlib.Path(ROOT, path).read_text(encoding="utf-8").split("\n")
 
 
 def groups():
     """The headings of crates.txt, each with its crates."""
-    parts = re.findall(r"^# (.)(.*)\n([^#]*)", "\n".join(lines_of("crates.txt")), re.MULTILINE)
+    text = (ROOT / "crates.txt").read_text(encoding="utf-8")
+    parts = re.findall(r"^# (.)(.*)\n([^#]*)", text, re.MULTILINE)
     return [(it[0].upper() + it[1], re.findall(r"^\w+", it[2], re.MULTILINE)) for it in parts]
 
 
 def read_comment(lines, mark, is_whole=False):
     """The first sentence of a comment, or its whole first paragraph."""
-    words = [line.strip().removeprefix(mark).strip() or "\n" for line in lines]
+    lines = [line.strip() for line in lines if not line.strip().startswith("#[")]
+    words = [line.removeprefix(mark).strip() or "\n" for line in lines]
     text = " ".join(" ".join(words).strip().partition("\n")[0].split())
     return text if is_whole else re.split(r"(?<=\.)\s+(?=[A-Z`\[])", text)[0]
 
 
 def root_of(crate):
     """The first source file of a crate, and the sentence with which it begins."""
-    for path in (f"crates/{crate}/src/lib.rt", f"crates/{crate}/src/main.rt"):
-        if os.path.exists(os.path.join(ROOT, path)):
-            return path, read_comment([it for it in lines_of(path) if it.startswith("//!")], "//!")
+    for path in (ROOT / "crates" / crate / "src" / name for name in ("lib.rt", "main.rt")):
+        if path.exists():
+            said = re.findall(r"^//!.*", path.read_text(encoding="utf-8"), re.MULTILINE)
+            return path, read_comment(said, "//!")
     sys.exit(f"proved: there is no crate {crate}")
 
 
 def modules(path, folder, name="", is_public=True):
     """The files of a crate: the path of the module, whether others may name it, and the lines."""
-    lines = lines_of(path)
+    lines = path.read_text(encoding="utf-8").split("\n")
     yield name, is_public, lines
     for found in filter(None, (re.match(r"(pub )?mod (\w+);", line) for line in lines)):
-        inner, is_open = os.path.join(folder, found[2]), is_public and bool(found[1])
-        yield from modules(f"{inner}.rt", inner, f"{name}{found[2]}::", is_open)
+        inner, is_open = folder / found[2], is_public and bool(found[1])
+        yield from modules(inner.with_suffix(".rt"), inner, f"{name}{found[2]}::", is_open)
 
 
 def names_of(files):
@@ -90,18 +89,19 @@ def functions(module, is_public, lines, names):
         if re.match(r"impl\b|(pub )?trait ", line):
             block, is_trait = owner(" ".join(lines[at:at + 9]).partition("{")[0])
         elif found and (found[2] or is_trait) and (not found[1] or block):
-            is_free = is_public and not found[1]
-            is_open = names is None or is_free or (block if found[1] else found[3]) in names
-            if is_open and (has := list(clauses(lines[at:]))):
-                path = f"{block}::" if found[1] else module if is_public else ""
-                yield path + found[3], read_comment(said, "///"), has
-        said = [*said, line] if line.strip().startswith("///") else []
+            path = f"{block}::" if found[1] else module if is_public else ""
+            key = block if found[1] else found[4]
+            is_open = names is None or key in names or (is_public and not found[1])
+            has = list(clauses(lines[at:]))
+            if is_open and (has or (found[3] == "ghost" and said)):
+                yield path + found[4], read_comment(said, "///"), has
+        said = [*said, line] if line.strip().startswith(("///", "#[")) else []
 
 
 def show(crate, is_all):
     path, sentence = root_of(crate)
     print(f"\n## `{crate}`\n\n{sentence}\n")
-    files = list(modules(path, os.path.dirname(path))) if is_all or path.endswith("lib.rt") else []
+    files = list(modules(path, path.parent)) if is_all or path.stem == "lib" else []
     for file in files:
         for function, said, has in functions(*file, None if is_all else names_of(files)):
             print(f"- `{function}`{said and ': ' + said}")
