@@ -5,8 +5,7 @@ Of each crate it prints its sentence and its public functions that have a contra
 first sentence of the comment, and the names of the clauses, each with the comment before it. A
 clause without a name is printed itself where it fits on its line, else as "..". A law is a public
 function that does nothing: its contract is all that it has. Of a public trait it lists the ghost
-members with a comment too: its laws and definitions. With --all it lists the functions of private
-modules and of programs too.
+members with a comment too: its laws and definitions. With --all it lists private functions too.
 """
 import itertools
 import pathlib
@@ -15,7 +14,7 @@ import signal
 import sys
 
 ROOT = pathlib.Path(__file__).resolve().parent.parent
-FUNCTION = re.compile(r"( *)(pub )?(?:const |final )?(fn|ghost) (\w+)")
+FUNCTION = re.compile(r"( *)(pub )?(?:pub\(\w+\) |const |final )*(fn|ghost) (\w+)")
 CLAUSE = re.compile(r" *(requires|ensures)\*? ?(\w*) *(\{.*\}(?=;?$))?")
 
 
@@ -86,14 +85,14 @@ def functions(module, is_public, lines, names):
     block, is_trait, said = None, False, []
     for at, line in enumerate(lines):
         found = FUNCTION.match(line)
-        if re.match(r"impl\b|(pub )?trait ", line):
+        if re.match(r"impl\b|(pub )?trait |}", line):
             block, is_trait = owner(" ".join(lines[at:at + 9]).partition("{")[0])
-        elif found and (found[2] or is_trait) and (not found[1] or block):
+        elif found and (found[2] or is_trait or names is None) and (not found[1] or block):
             path = f"{block}::" if found[1] else module if is_public else ""
             key = block if found[1] else found[4]
             is_open = names is None or key in names or (is_public and not found[1])
             has = list(clauses(lines[at:]))
-            if is_open and (has or (found[3] == "ghost" and said)):
+            if is_open and (has or (found[3] == "ghost" and is_trait and said)):
                 yield path + found[4], read_comment(said, "///"), has
         said = [*said, line] if line.strip().startswith(("///", "#[")) else []
 
