@@ -23,6 +23,7 @@ ghost use Rattle.words.specs.Words.{IsInRange};
 
 mod help;
 mod misbehaving;
+mod same_file;
 mod signed;
 
 use commands::{RunFault, listen, run_body, run_drain, run_parts, run_self, serve};
@@ -278,7 +279,10 @@ where
         return explain(rt, reason);
     }
     match read_words(rt.alloc(), words) {
-        Ok(words) => obey_words(rt, words, is_shown).unwrap_or(FAILED),
+        Ok(words) => match same_file::same_file(&words) {
+            Some(reason) => explain(rt, reason),
+            None => obey_words(rt, words, is_shown).unwrap_or(FAILED),
+        },
         Err(WordsFault::BadWords(reason)) => explain(rt, reason),
         Err(WordsFault::OutOfMemory) => FAILED,
     }
