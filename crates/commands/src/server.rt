@@ -52,7 +52,11 @@ where
     let address = listener.local_addr()?;
     let times = times_of(&rt, words);
     let recorder = recorder_of(&rt, alloc, words)?;
-    say_listening(&rt, alloc, address, times)?;
+    let said = say_listening(&rt, alloc, address, times);
+    if let Err(error) = &said {
+        let _ = eprintln!(rt; "interop: standard output can't be written: {error}");
+    }
+    said?;
     tell_ready(&rt, alloc, address, words)?;
     let stop = stop_of(rt, alloc, words)?;
     let log = match times {
