@@ -1,6 +1,7 @@
 #!/usr/bin/env python3
 """made.py FOLDER: writes connections that are too long to write by hand, or many of a kind, into a folder, as the other files of
-this folder have them: NAME.hex and NAME.out, and where several answers are lawful NAME.or1, NAME.or2 .. with the others. What is wanted follows from RFC 9113 and gRPC over HTTP/2, and the statuses and texts
+this folder have them: NAME.hex and NAME.out, and where several answers are lawful NAME.or1, NAME.or2 .. with the others; NAME.has
+where only a part of the answer is the same in every schedule. What is wanted follows from RFC 9113 and gRPC over HTTP/2, and the statuses and texts
 that the server itself gives from docs/PROTOCOL.md.
 """
 import os
@@ -78,6 +79,24 @@ def a_byte_a_frame():
 def the_last_payload_and_a_negative_size():
     request = bytes.fromhex("1a031201aa" "a00601" "1a031201bb" "10ffffffffffffffffff01")
     return connection((("UnaryCall", wire.message(request), ()), ended(3, "bad response size")))
+
+
+def a_message_of_many_windows():
+    """Its client waited for credit again and again."""
+    joined = wire.message(wire.bytes_field(1, wire.bytes_field(2, bytes(2_000_000))))
+    pieces = [joined[at:at + wire.LARGEST] for at in range(0, len(joined), wire.LARGEST)]
+    return connection((("StreamingInputCall", *pieces, ()), answer(wire.message(wire.number_field(1, 2_000_000)))))
+
+
+class Part(str):
+    """Lines of an answer."""
+
+
+def past_the_window():
+    """DATA of two calls that take nothing, since their replies have no window, and together exceed the connection's window."""
+    begun = b"".join(call("FullDuplexCall", 64 * wire.message(wire.output_request(9)), stream=it, end=False) for it in (1, 3))
+    more = 3 * wire.data(1, bytes(wire.LARGEST)) + 2 * wire.data(3, bytes(wire.LARGEST))
+    return wire.PREFACE + wire.settings((wire.INITIAL_WINDOW, 0)) + begun + more, Part("goaway 3 3\n")
 
 
 def statuses():
@@ -177,6 +196,8 @@ def made():
     yield "replies_past_the_window", replies_past_the_window()
     yield "a_byte_a_frame", a_byte_a_frame()
     yield "the_last_payload_and_a_negative_size", the_last_payload_and_a_negative_size()
+    yield "a_message_of_many_windows", a_message_of_many_windows()
+    yield "past_the_window", past_the_window()
     yield "statuses", statuses()
     yield "echoes", echoes()
     yield "reset_before_its_message", reset_before_its_message()
@@ -204,7 +225,8 @@ def made():
 def main():
     for name, (joined, text) in made():
         first, *others = [text] if isinstance(text, str) else text
-        files = [("hex", joined.hex() + "\n"), ("out", first), *((f"or{at}", other) for at, other in enumerate(others, 1))]
+        kind = "has" if isinstance(first, Part) else "out"
+        files = [("hex", joined.hex() + "\n"), (kind, first), *((f"or{at}", other) for at, other in enumerate(others, 1))]
         for ending, content in files:
             with open(os.path.join(sys.argv[1], f"{name}.{ending}"), "w", encoding="utf-8") as file:
                 file.write(content)

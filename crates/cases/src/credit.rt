@@ -246,14 +246,14 @@ impl fmt::Display for WindowViolation {
                 let (length, window) = (ByteCount(u64::from(length)), Grouped(u64::from(window)));
                 write!(
                     f,
-                    "DATA of {length} on stream {stream} behind a window of {window} (RFC 9113, 6.9.1)"
+                    "DATA of {length} on stream {stream} exceeds its window of {window} (RFC 9113, 6.9.1)"
                 )
             }
             WindowViolation::Connection { length, window } => {
                 let (length, window) = (ByteCount(u64::from(length)), Grouped(u64::from(window)));
                 write!(
                     f,
-                    "DATA of {length} behind a connection window of {window} (RFC 9113, 6.9.1)"
+                    "DATA of {length} exceeds the connection's window of {window} (RFC 9113, 6.9.1)"
                 )
             }
             WindowViolation::Overflow { stream, increment } => {

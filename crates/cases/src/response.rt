@@ -102,11 +102,11 @@ impl fmt::Display for StreamViolation {
             }
             StreamViolation::BehindEnd(head) => {
                 let frame = FrameName(head);
-                write!(f, "{frame} came behind END_STREAM (RFC 9113, 5.1)")
+                write!(f, "{frame} came after END_STREAM (RFC 9113, 5.1)")
             }
             StreamViolation::BehindReset(head) => {
                 let frame = FrameName(head);
-                write!(f, "{frame} came behind RST_STREAM (RFC 9113, 5.1)")
+                write!(f, "{frame} came after RST_STREAM (RFC 9113, 5.1)")
             }
             StreamViolation::TrailersWithoutEnd(_) => {
                 write!(f, "trailers came without END_STREAM (RFC 9113, 8.1)")

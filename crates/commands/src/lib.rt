@@ -38,6 +38,5 @@ mod witness;
 pub use body::{RunFault, run_body};
 pub use drain::run_drain;
 pub use listening::listen;
-pub use memory::{MemoryInput, MemoryOutput};
 pub use parts::run_parts;
 pub use server::{run_self, serve};

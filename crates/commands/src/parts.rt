@@ -3,7 +3,7 @@
 //! The whole report is made before any of it is written, so out of memory prints nothing.
 
 use crate::body::RunFault;
-use crate::memory::{MemoryInput, MemoryOutput};
+use crate::memory::{Memory, MemoryInput, MemoryOutput};
 use crate::streams::Streams;
 use crate::text::bytes_of;
 use capture::Side;
@@ -36,16 +36,18 @@ where
 {
     let text = read_all(alloc, input)?;
     let bytes = client_bytes(alloc, text)?;
-    let mut input = Marked::new(MemoryInput::new(bytes));
-    let written = Marked::new(MemoryOutput {
-        bytes: Vec::new(alloc),
+    let memory = Memory::new(alloc)?;
+    let client = MemoryInput::new(rt, alloc, bytes, Arc::try_clone(&memory)?);
+    let mut input = Marked::new(client);
+    let server = Marked::new(MemoryOutput {
+        rt,
+        memory: Arc::try_clone(&memory)?,
     });
-    let Served {
-        report: served,
-        output: written,
-    } = serve_undrained(rt, alloc, &mut input, written, methods, gate);
-    let written = written.into_inner();
-    let report = report(alloc, written.bytes.as_slice(), served.ending)?;
+    let Served { report: served, .. } = serve_undrained(
+        rt, alloc, &mut input, server, methods, gate,
+    );
+    let written = memory.written(&rt, alloc)?;
+    let report = report(alloc, written.as_slice(), served.ending)?;
     write_all(output, report.as_bytes())?;
     Ok(())
 }

@@ -52,7 +52,11 @@ where
     let address = listener.local_addr()?;
     let times = times_of(&rt, words);
     let recorder = recorder_of(&rt, alloc, words)?;
-    say_listening(&rt, alloc, address, times)?;
+    let said = say_listening(&rt, alloc, address, times);
+    if let Err(error) = &said {
+        let _ = eprintln!(rt; "interop: standard output can't be written: {error}");
+    }
+    said?;
     tell_ready(&rt, alloc, address, words)?;
     let stop = stop_of(rt, alloc, words)?;
     let log = match times {
@@ -168,7 +172,7 @@ fn name_left(rt: &impl Eprint, seconds: u16, left: &[Connection]) -> bool {
     left.is_empty()
 }
 
-/// How a server of these words stops, if it does.
+/// How a server of these words stops, if it does. One with a log or a report stops if that can't be written.
 fn stop_of<R>(rt: R, alloc: Global, words: ServeWords<'_>) -> io::Result<Option<Arc<Stop>>>
 where
     R: Input<Reader = StdinLock<'static>>
@@ -181,7 +185,8 @@ where
         + Drop
         + 'static,
 {
-    if words.connections.is_none() && !words.drains_on_eof {
+    let is_told = words.log.is_some() || words.has_report;
+    if words.connections.is_none() && !words.drains_on_eof && !is_told {
         return Ok(None);
     }
     let stop = Arc::new(alloc, Stop::new(alloc, words.connections, words.patience))?;
@@ -211,7 +216,7 @@ fn read_out<R: Input<Reader = StdinLock<'static>> + Clock>(rt: &R) {
 }
 
 /// Serves connections that come, while a thread of its own prints the lines of their log and their report. Where one can't be written, the
-/// server stops, if it can, and a line on standard error says which.
+/// server stops, and a line on standard error says which.
 fn serve_logged<R>(
     rt: R,
     alloc: Global,

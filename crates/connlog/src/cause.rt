@@ -322,7 +322,7 @@ impl fmt::Display for StreamCause {
             }
             StreamCause::BehindEnd(head) => {
                 let kind = KindName(head.kind);
-                write!(f, "{kind} behind END_STREAM (RFC 9113, 5.1)")
+                write!(f, "{kind} after END_STREAM (RFC 9113, 5.1)")
             }
             StreamCause::OpenTrailers => {
                 write!(f, "HEADERS again, without END_STREAM (RFC 9113, 8.1)")

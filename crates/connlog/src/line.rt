@@ -224,9 +224,14 @@ fn write_event(text: &mut String, stream: StreamId, event: &Event) -> Result<(),
             let error = ErrorName(*code);
             write!(text, "stream {stream} reset by the server, {code} {error}")
         }
-        Event::GoAway(code, _) => {
+        Event::GoAway(code, last) => {
             let error = ErrorName(*code);
-            write!(text, "GOAWAY {code} {error}")
+            write!(text, "GOAWAY {code} {error}")?;
+            // (a drain sends two, which differ by that)
+            if *code == 0 {
+                write!(text, ", last stream {last}")?;
+            }
+            Ok(())
         }
         Event::ClientGoAway { code, last, debug } => {
             let error = ErrorName(*code);

@@ -23,6 +23,7 @@ ghost use Rattle.words.specs.Words.{IsInRange};
 
 mod help;
 mod misbehaving;
+mod same_file;
 mod signed;
 
 use commands::{RunFault, listen, run_body, run_drain, run_parts, run_self, serve};
@@ -59,6 +60,8 @@ const FAILED: u8 = 3;
 
 const VERSION: &str = "interop 0.1.0";
 
+const UNWRITTEN: &str = "standard output can't be written";
+
 // Says what these words ask about the program itself, if they do.
 fn describe(rt: &impl Print, words: &[String]) -> Option<io::Result<()>> {
     match words {
@@ -75,8 +78,7 @@ fn print_body<R: Input + Print + Eprint + AllocGlobal>(rt: &R, cut: usize) -> u8
     let mut output = Marked::new(io::writer(rt));
     match run_body(rt.alloc(), &mut input, cut, &mut output) {
         Ok(()) => 0,
-        Err(RunFault::NotHex) => complain(rt, "input is not hexadecimal"),
-        Err(RunFault::ReadFailed | RunFault::WriteFailed | RunFault::OutOfMemory) => FAILED,
+        Err(fault) => explain_fault(rt, fault),
     }
 }
 
@@ -100,8 +102,13 @@ where
             let _said = eprintln!(rt; "interop: bad input: {fault}");
             BAD_WORDS
         }
-        Err(FramesFault::ReadFailed | FramesFault::WriteFailed | FramesFault::OutOfMemory) =>
-            FAILED,
+        Err(FramesFault::WriteFailed) => fail(rt, UNWRITTEN),
+        Err(FramesFault::ReadFailed) if words.files.is_empty() => {
+            fail(rt, "standard input can't be read")
+        }
+        // (which file, and why, was said)
+        Err(FramesFault::ReadFailed) => FAILED,
+        Err(FramesFault::OutOfMemory) => fail(rt, "out of memory"),
     }
 }
 
@@ -121,8 +128,13 @@ where
     R: Net<Stream = TcpStream, Listener = TcpListener> + Print + Eprint + AllocGlobal,
     R: Files<File = File> + Threads + Wait + Clock + Copy + Send + Sync + Drop + 'static,
 {
+    let lists = matches!(&words, CaseWords::List);
     let mut output = Marked::new(io::writer(rt));
-    status_of(run_case(*rt, words, is_shown, &mut output))
+    let answer = run_case(*rt, words, is_shown, &mut output);
+    if lists && output.has_failed() {
+        return fail(rt, UNWRITTEN);
+    }
+    status_of(answer)
 }
 
 // Lists or runs the misbehaviours that the words choose, and answers the exit status.
@@ -131,8 +143,13 @@ where
     R: Net<Stream = TcpStream, Listener = TcpListener> + Print + Eprint + AllocGlobal,
     R: Files<File = File> + Threads + Wait + Clock + Copy + Send + Sync + Drop + 'static,
 {
+    let lists = matches!(&words, MisbehaveWords::List { .. });
     let mut output = Marked::new(io::writer(rt));
-    status_of(run_misbehave(*rt, words, is_shown, &mut output))
+    let answer = run_misbehave(*rt, words, is_shown, &mut output);
+    if lists && output.has_failed() {
+        return fail(rt, UNWRITTEN);
+    }
+    status_of(answer)
 }
 
 // Lists or runs the wire cases that the words choose, and answers the exit status.
@@ -141,8 +158,13 @@ where
     R: Net<Stream = TcpStream, Listener = TcpListener> + Print + Eprint + AllocGlobal,
     R: Files<File = File> + Threads + Wait + Clock + Copy + Send + Sync + Drop + 'static,
 {
+    let lists = matches!(&words, WireWords::List);
     let mut output = Marked::new(io::writer(rt));
-    status_of(run_wire(*rt, words, is_shown, &mut output))
+    let answer = run_wire(*rt, words, is_shown, &mut output);
+    if lists && output.has_failed() {
+        return fail(rt, UNWRITTEN);
+    }
+    status_of(answer)
 }
 
 // A command that answers calls.
@@ -209,6 +231,7 @@ where
     match run_self(rt, methods, listener, port, &mut output) {
         Ok(true) => 0,
         Ok(false) => CASE_FAILED,
+        Err(_) if output.has_failed() => fail(&rt, UNWRITTEN),
         Err(_) => FAILED,
     }
 }
@@ -227,6 +250,7 @@ where
     match run_drain(rt, methods, listener, port, &mut output) {
         Ok(true) => 0,
         Ok(false) => CASE_FAILED,
+        Err(_) if output.has_failed() => fail(&rt, UNWRITTEN),
         Err(_) => FAILED,
     }
 }
@@ -254,8 +278,7 @@ where
     let mut output = Marked::new(io::writer(&rt));
     match run_parts(rt, rt.alloc(), methods, gate, &mut input, &mut output) {
         Ok(()) => 0,
-        Err(RunFault::NotHex) => complain(&rt, "input is not hexadecimal"),
-        Err(RunFault::ReadFailed | RunFault::WriteFailed | RunFault::OutOfMemory) => FAILED,
+        Err(fault) => explain_fault(&rt, fault),
     }
 }
 
@@ -271,14 +294,17 @@ where
     if let Some(said) = describe(rt, words) {
         return match said {
             Ok(()) => 0,
-            Err(_) => FAILED,
+            Err(_) => fail(rt, UNWRITTEN),
         };
     }
     if let Some(reason) = signed::signed_port(words) {
         return explain(rt, reason);
     }
     match read_words(rt.alloc(), words) {
-        Ok(words) => obey_words(rt, words, is_shown).unwrap_or(FAILED),
+        Ok(words) => match same_file::same_file(&words) {
+            Some(reason) => explain(rt, reason),
+            None => obey_words(rt, words, is_shown).unwrap_or(FAILED),
+        },
         Err(WordsFault::BadWords(reason)) => explain(rt, reason),
         Err(WordsFault::OutOfMemory) => FAILED,
     }
@@ -318,6 +344,22 @@ fn explain(rt: &impl Eprint, reason: Reason<'_>) -> u8 {
 fn complain(rt: &impl Eprint, what: &str) -> u8 {
     let _ = eprintln!(rt; "interop: {what}");
     BAD_WORDS
+}
+
+// Says on standard error why a command that reads hexadecimal text gave up.
+fn explain_fault(rt: &impl Eprint, fault: RunFault) -> u8 {
+    match fault {
+        RunFault::NotHex => complain(rt, "input is not hexadecimal"),
+        RunFault::ReadFailed => fail(rt, "standard input can't be read"),
+        RunFault::WriteFailed => fail(rt, UNWRITTEN),
+        RunFault::OutOfMemory => fail(rt, "out of memory"),
+    }
+}
+
+// Says on standard error what failed.
+fn fail(rt: &impl Eprint, what: &str) -> u8 {
+    let _ = eprintln!(rt; "interop: {what}");
+    FAILED
 }
 
 // The words after the program's name.

@@ -52,6 +52,8 @@ pub struct Player<L> {
     probe: Option<u64>,
     /// What was sent, in words.
     pub log: String,
+    /// Whether it has the word of the step that is being done.
+    is_named: bool,
 }
 
 impl<L: Line> Player<L> {
@@ -69,6 +71,7 @@ impl<L: Line> Player<L> {
             is_shown: false,
             probe: None,
             log: String::new(alloc),
+            is_named: false,
         })
     }
 
@@ -192,14 +195,25 @@ impl<L: Line> Player<L> {
     fn note(&mut self, step: &Step) -> Result<(), Halt> {
         let word = step.word();
         if !word.is_empty() && !self.is_cut {
-            if !self.log.is_empty() {
-                self.log.push_str(", ")?;
-            }
-            self.log.push_str(word)?;
+            self.name(word)?;
         }
+        self.is_named = false;
         self.done = self.done.saturating_add(1);
         self.since = self.connection.now;
         self.connection.fence = Fence::Open;
+        Ok(())
+    }
+
+    /// Adds the word of the step that is being done to those of what was sent, once.
+    fn name(&mut self, word: &str) -> Result<(), Halt> {
+        if self.is_named {
+            return Ok(());
+        }
+        if !self.log.is_empty() {
+            self.log.push_str(", ")?;
+        }
+        self.log.push_str(word)?;
+        self.is_named = true;
         Ok(())
     }
 
@@ -327,7 +341,20 @@ impl<L: Line> Player<L> {
         if let Step::Reply(part) = step {
             self.is_shown = self.is_shown || part.is_odd() && !self.is_cut;
         }
-        sending::is_sent(&mut self.connection, index, &mut self.padded, step)
+        let before = self.sent();
+        let is_done = sending::is_sent(&mut self.connection, index, &mut self.padded, step)?;
+        if !is_done && self.sent() > before {
+            self.name(step.word())?;
+        }
+        Ok(is_done)
+    }
+
+    /// How many bytes of its reply were sent of the call that the steps are about.
+    fn sent(&self) -> usize {
+        match self.current_call() {
+            Some(call) => call.sent,
+            None => 0,
+        }
     }
 
     /// Whether the request goes on still, as it has to.

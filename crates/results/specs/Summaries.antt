@@ -96,7 +96,7 @@ abbrev pub other_counts : Summary → List ℕ
 other_counts summary =
     counted summary.unsteady (codes "unsteady") ++ counted summary.not_tested (codes "not tested")
     ++ counted summary.not_applicable (codes "not applicable") ++ counted summary.known (codes "known to fail")
-    ++ counted summary.mended (codes "on the list that don't fail any more")
+    ++ counted summary.mended (codes "no longer failing")
 
 -- `wire: 4 cases, 1 ok, 2 failed (1 must, 1 should, 0 ours), 1 unsteady in 12 ms`
 abbrev pub summary_line : Suite → Summary → ℕ → List ℕ

@@ -24,7 +24,7 @@ pub struct Summary {
     pub not_applicable: usize,
     /// Known failures, whatever their verdict.
     pub known: usize,
-    /// Those that are on the list of known failures and don't fail any more.
+    /// Those that are on the list of known failures and no longer fail.
     pub mended: usize,
     /// How many of the cases fail the run.
     pub failing: usize,
@@ -153,7 +153,7 @@ fn push_others(text: &mut String, summary: &Summary) -> Result<(), AllocError>
     push_count(text, summary.not_tested, "not tested")?;
     push_count(text, summary.not_applicable, "not applicable")?;
     push_count(text, summary.known, "known to fail")?;
-    push_count(text, summary.mended, "on the list that don't fail any more")
+    push_count(text, summary.mended, "no longer failing")
 }
 
 /// Adds the last line of a run: `wire: 407 cases, 390 ok, 3 failed (1 must, 2 should, 0 ours), 1 unsteady, 13 not applicable in

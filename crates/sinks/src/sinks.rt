@@ -375,11 +375,29 @@ fn known_failures<R: Files + Eprint + AllocGlobal>(
     };
     if let Some(other) = stray(known.as_slice(), names) {
         let name = other.name.as_str();
-        let _said = eprintln!(rt; "interop: {file}: {name} is the name of no case");
+        let number = line_of(text.as_str(), name);
+        let _said = eprintln!(rt; "interop: {file}, line {number}: {name} is the name of no case");
         return Err(SinkFault::BadKnown);
     }
     let head = head_of(alloc, text.as_str())?;
     Ok((known, head))
+}
+
+/// The number of the line of a list that names this case, from 1 on.
+fn line_of(text: &str, name: &str) -> usize {
+    let mut number = 0usize;
+    for line in text.lines() {
+        number = number.saturating_add(1);
+        let told = line.trim();
+        let first = match told.split_once(' ') {
+            Some((first, _)) => first,
+            None => told,
+        };
+        if first == name {
+            break;
+        }
+    }
+    number
 }
 
 /// Adds what the list of known failures has of a case, in a line.

@@ -41,8 +41,9 @@ pub(crate) struct Desk {
     is_verbose: bool,
     /// Whether one failed and that is enough.
     is_enough: bool,
-    /// Whether a case has ended the server.
+    /// Whether a case has ended the server, and whether it fails the run by itself.
     is_dead: bool,
+    is_failed: bool,
     lost: Option<Lost>,
 }
 
@@ -60,6 +61,7 @@ impl Desk {
             is_verbose,
             is_enough: false,
             is_dead: false,
+            is_failed: false,
             lost: None,
         })
     }
@@ -124,6 +126,7 @@ impl Desk {
         sinks.ended(&mut ended.outcome, output)?;
         self.is_enough = sinks.is_over();
         self.is_dead = !ended.is_alive;
+        self.is_failed = ended.outcome.fails_the_run();
         if let Some(slot) = self.waiting.as_mut_slice().get_mut(place) {
             *slot = Some(ended);
         }
@@ -144,7 +147,8 @@ impl Desk {
     }
 
     /// Tells of the cases that have ended, though others before them have not, and of one that couldn't be tested: of a server
-    /// that a case has ended, the first that wasn't run, or else the last.
+    /// that a case has ended, the first that wasn't run, or else the last, unless that one fails the run by
+    /// itself.
     pub(crate) fn tell_rest<R, W>(
         &mut self,
         cases: &[Case],
@@ -155,7 +159,8 @@ impl Desk {
         R: Files + Clock + Eprint + AllocGlobal + Drop,
         W: ConnWrite,
     {
-        if self.is_dead {
+        let is_told = self.is_failed && self.next >= self.waiting.len();
+        if self.is_dead && !is_told {
             let last = self.waiting.len().saturating_sub(1);
             let why = String::from_str(self.alloc, NO_ANSWER)?;
             self.lost = Some(Lost {

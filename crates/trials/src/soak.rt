@@ -102,6 +102,10 @@ where
     let mut channel = None;
     for number in 0..plan.words.iterations {
         if plan.limit.left(&rt).is_zero() {
+            let (name, wanted) = (plan.soak.name(), plan.words.iterations);
+            let _said = eprintln!(rt;
+                "{name}: {number} of {wanted} calls began before the time was over"
+            );
             break;
         }
         let begun = plan.limit.spent(&rt);

@@ -118,7 +118,7 @@ impl<'a> fmt::Display for Reason<'a> {
                 let takes = takes(command);
                 write!(
                     f,
-                    "{word} has no place behind {command}, which takes {takes}"
+                    "{word} has no place after {command}, which takes {takes}"
                 )?;
                 push_shared(f, command)
             }
