@@ -206,7 +206,7 @@ impl<R: Wait + Clock> MemoryInput<R> {
             if free >= wanted {
                 return;
             }
-            let Some(head) = head_of(self.bytes.get(self.free..).unwrap_or(&[])) else {
+            let Some(head) = self.next_head() else {
                 self.free = self.bytes.len();
                 return;
             };
@@ -226,6 +226,11 @@ impl<R: Wait + Clock> MemoryInput<R> {
             let end = self.free.saturating_add(HEAD_LEN);
             self.free = end.saturating_add(head.length as usize);
         }
+    }
+
+    /// The head of the frame that the bytes begin with that aren't free, if it is whole.
+    fn next_head(&self) -> Option<Head> {
+        head_of(self.bytes.get(self.free..)?)
     }
 
     /// Whether these DATA have credit on the connection and on their stream, now or within some milliseconds.
