@@ -112,13 +112,12 @@ module _ {J : Type 0} {book : Naming J} where
 
 module _ {A B C J N : Type 0} {book : Naming J} {route : Ghosts N} where
   pub same-of : (old new : Orders A B C J N book route) → new ≡ old → IsSame old new
-  same-of old new is =
-      (
-        ap (λ (o : Orders A B C J N book route). o.outbox) is,
-        ap (λ (o : Orders A B C J N book route). o.has_dropped) is,
-        ap (λ (o : Orders A B C J N book route). o.unput) is,
-        ap (λ (o : Orders A B C J N book route). o.backlog) is,
-      )
+  same-of old new is = (
+    ap (λ (o : Orders A B C J N book route). o.outbox) is,
+    ap (λ (o : Orders A B C J N book route). o.has_dropped) is,
+    ap (λ (o : Orders A B C J N book route). o.unput) is,
+    ap (λ (o : Orders A B C J N book route). o.backlog) is,
+  )
 
   -- the same was put
   pub put-same : (old new : Orders A B C J N book route) → new.outbox ≡ old.outbox → new.backlog ≡ old.backlog → put_of new ≡ put_of old

@@ -1,3 +1,4 @@
+pub mod Backlog
 pub mod Closing
 pub mod CreditSteps
 pub mod Endings

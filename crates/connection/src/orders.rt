@@ -10,7 +10,7 @@ use callparts::{Naming, Order};
 use callworker::Shared;
 use lane::{Ring, RingIn, RingOut};
 use outwriter::Control;
-use std::alloc::Global;
+use std::alloc::{AllocError, Global};
 use std::collections::VecDeque;
 use std::marker::{Brand, PhantomData};
 use std::sync::ledger::Ledger;
@@ -103,6 +103,15 @@ impl<A: Ledger, B: Ledger, C: Ledger, J: Naming, N: Route> Orders<A, B, C, J, N>
             self.defer(order);
             return;
         }
+        self.put_in_ring(rt, order);
+    }
+
+    /// The same, where none was dropped or is in the backlog.
+    fn put_in_ring<R: Wait>(&mut self, rt: &R, order: Order<J>)
+        requires whole { self.old.has_dropped ≡ false }
+        requires none_left { self.old.backlog.items ≡ [] }
+        ensures puts { Puts order self.old self.new }
+    {
         let mut order = order;
         self.are_unrung = true;
         'tries: for _ in rt.forever() {
@@ -149,9 +158,9 @@ impl<A: Ledger, B: Ledger, C: Ledger, J: Naming, N: Route> Orders<A, B, C, J, N>
         requires whole { self.old.has_dropped ≡ false }
         ensures puts { Puts order self.old self.new }
     {
-        match self.backlog.push_back(order) {
-            Ok(()) => {}
-            Err(failed) => self.lay_aside(failed.value),
+        match self.backlog.reserve(1) {
+            Ok(()) => self.backlog.push_back_reserved(order),
+            Err(AllocError) => self.lay_aside(order),
         }
     }
 
@@ -195,21 +204,26 @@ impl<A: Ledger, B: Ledger, C: Ledger, J: Naming, N: Route> Orders<A, B, C, J, N>
         ensures unput { self.new.unput ≡ self.old.unput }
     {
         self.put_backlog();
-        let is_put = !self.has_backlog() && self.put_last();
+        let is_put = self.put_last();
         self.shared.writer.ring();
         is_put
     }
 
-    /// Puts the last order, where there is room. Whether there was.
+    /// Puts the last order, where no backlog is left and there is room. Whether it did.
     fn put_last(&mut self) -> bool
-        requires none_left { self.old.backlog.items ≡ [] }
         ensures put { result ≡ true → put_of self.new ≡ put_of self.old ++ orders.Close ∷ [] }
-        ensures none_left { self.new.backlog.items ≡ [] }
+        ensures none_left { result ≡ true → self.new.backlog.items ≡ [] }
         ensures full { result ≡ false → put_of self.new ≡ put_of self.old }
         ensures dropped { self.new.has_dropped ≡ self.old.has_dropped }
         ensures unput { self.new.unput ≡ self.old.unput }
     {
-        self.outbox.ring.put(Control::Close).is_ok()
+        if self.has_backlog() {
+            return false;
+        }
+        match self.outbox.ring.put(Control::Close) {
+            Ok(()) => true,
+            Err(_full) => false,
+        }
     }
 
     /// Puts what of the backlog there is room for, in order.

@@ -13,7 +13,7 @@ ghost use Rattle.readerloop.specs.Calls.{AreNames, IsFirstWith, Sent, carried_in
 ghost use Rattle.readerloop.specs.Readings.{Reads};
 ghost use Rattle.readerloop.specs.Reports.{AreAccounts};
 ghost use Rattle.readerloop.specs.Steps.{Step, events_of, reported};
-ghost use Rattle.connection.specs.Endings.{ended_by};
+ghost use Rattle.connection.specs.Endings.{ended_by, unless_lacked};
 ghost use Rattle.connection.specs.Heard.{AreCarried, HasRead, Hears, KeptFor};
 ghost use Rattle.connection.specs.Puts.{put_of};
 ghost use Rattle.connection.specs.Rest.{CarriesOpen, CarriesRest};
@@ -548,11 +548,23 @@ fn of_both(read: Ending, written: Option<WriterEnding>, has_dropped: bool) -> En
     if has_dropped {
         return Ending::OutOfMemory;
     }
-    let Some(end) = written else {
-        return read;
-    };
+    match written {
+        None => read,
+        Some(end) => by_writer(read, end.ending()),
+    }
+}
+
+/// The same where the writer ended so, and the reader dropped none: want of memory comes first.
+fn by_writer(read: Ending, end: Ending) -> Ending
+    ensures { result ≡ unless_lacked read end }
+{
     match read {
+        Ending::InputEnded => end,
+        Ending::PeerGoaway => end,
+        Ending::ProtocolError(_) => end,
+        Ending::ReadFailed => end,
+        Ending::WriteFailed => end,
         Ending::OutOfMemory => Ending::OutOfMemory,
-        _ => end.ending(),
+        Ending::Drained => end,
     }
 }

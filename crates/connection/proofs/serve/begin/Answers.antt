@@ -24,6 +24,9 @@ not-both one lacked broke = cc
 not-drained : (one : Ending) → one ≡ OutOfMemory → one ≡ Drained → ⊥
 not-drained one lacked drained = cc
 
+spare : {P : Type 0} (one : Ending) → one ≡ OutOfMemory → (Some one ≢ Some OutOfMemory) → P
+spare one lacked other = absurd (other (ap Some lacked))
+
 pub returns-in-Ok-start-clause-kept : goal.returns-in-Ok-start-clause-kept
 returns-in-Ok-start-clause-kept g c = λ sent.
     kept-none sent _ _ (c.new-in-Ok-start.ensures.reads sent)
@@ -45,14 +48,13 @@ returns-in-Err-clause-served g c = λ read_failed.
     let written = parted.written in
     let sent = c.in-Err.ensures.sent in
     let lacked : c.meet.result.report.ending ≡ OutOfMemory = is.ending ∙ lacked-by written.ending c.start.new.orders.has_dropped in
-    let spared : {P : Type 0} → (Some c.meet.result.report.ending ≢ Some OutOfMemory) → P = λ {P} other. absurd (other (ap Some lacked)) in
     let left = orders_of (order_in written.rest.aside) ++ orders_of is.obeyed.0 in
     let all : put_orders c.start.new.orders ≡ orders_of sent.given ++ left =
     given-first sent.given (order_in written.rest.aside) (taken written.orders) is.obeyed.0 (put_of c.start.new.orders) sent.orders_are is.obeyed.1 in
     let put = told-on contents failed (contents c.args.output) parted.told.amount (orders_of sent.given) (put_orders c.start.new.orders) (ending_told written.ending) (Some c.meet.result.report.ending) false
     (is_drained c.meet.result.report.ending) written.device
-    (λ was. ap Some lacked) (λ broke other. spared other) (λ marked. absurd (not-both c.meet.result.report.ending lacked (some-is marked)))
-    left (sym all) (λ other broke. spared other) sent.written (λ drained. absurd (not-drained c.meet.result.report.ending lacked (drained-is c.meet.result.report.ending drained))) in
+    (λ was. ap Some lacked) (λ broke other. spare c.meet.result.report.ending lacked other) (λ marked. absurd (not-both c.meet.result.report.ending lacked (some-is marked)))
+    left (sym all) (λ other broke. spare c.meet.result.report.ending lacked other) sent.written (λ drained. absurd (not-drained c.meet.result.report.ending lacked (drained-is c.meet.result.report.ending drained))) in
     let ordered = closed-put (InputEnded ∷ []) c.start.new.orders
     (c.in-Err.ensures.put (ordered-none c.new-orders.result (c.new-orders.ensures.put c.requires.unused.0) c.new-orders.ensures.unput)) in
     served-by _ _ (λ calls. items_of calls.full calls.last) contents failed _ _ _ _ _ _ _ is.output

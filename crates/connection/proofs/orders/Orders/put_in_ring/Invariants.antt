@@ -1,6 +1,6 @@
 use Rattle.std.proofs.Common.{◌≡◌}
 use Rattle.lane.specs.Ring.{put_in}
-use Rattle.connection.proofs.orders.Orders.put.Given as goal
+use Rattle.connection.proofs.orders.Orders.put_in_ring.Given as goal
 
 -- nothing was put yet
 abbrev pub invariant-tries : goal.invariant-tries

@@ -1,0 +1,25 @@
+-- What is put, and the backlog behind it.
+use Rattle.std.proofs.Common.{◌≡◌, ◌∙◌, ℕ, Bool, true, false, true≢false, List, [], ◌∷◌, ◌++◌, Result, Ok, Err, OnOk, ap, append-nil, arith, refl, sym}
+use Rattle.std.specs.Prelude.{IsOk, length, not}
+
+pub un-not : (b : Bool) → not b ≡ false → b ≡ true
+un-not true is = refl
+un-not false is = absurd (true≢false is)
+
+pub placed-so : {T E P : Type 0} (result : Result T E) → IsOk result → OnOk result P → P
+placed-so (Ok done) ok on = on
+placed-so (Err fault) ok on = absurd (true≢false (sym ok))
+
+module _ {T : Type 0} where
+  pub nil-of : (xs : List T) → length xs ≡ 0 → xs ≡ []
+  nil-of [] none = refl
+  nil-of (x ∷ xs) none = absurd (omega (arith, none))
+
+  pub both : {one other back rest : List T} → one ≡ other → back ≡ rest → one ++ back ≡ other ++ rest
+  both {other = other} {back = back} is same = ap (λ (xs : List T). xs ++ back) is ∙ ap (λ (xs : List T). other ++ xs) same
+
+  -- an item is put where none waits behind
+  pub alone : {was all back rest : List T} {one : T} → all ≡ was ++ one ∷ [] → back ≡ rest → rest ≡ [] → all ++ back ≡ (was ++ rest) ++ one ∷ []
+  alone {was = was} {all = all} {one = one} placed same none =
+      ap (λ (xs : List T). all ++ xs) (same ∙ none)
+      ∙ (append-nil all ∙ (placed ∙ ap (λ (xs : List T). xs ++ one ∷ []) (sym (ap (λ (xs : List T). was ++ xs) none ∙ append-nil was))))
