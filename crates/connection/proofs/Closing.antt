@@ -72,18 +72,13 @@ any-last : (is : Order → Bool) (xs : List Order) (x : Order) → is x ≡ true
 any-last is [] x one = ap (λ (b : Bool). b || false) one
 any-last is (y ∷ xs) x one = or-right (is y) (list_any is (xs ++ x ∷ [])) (any-last is xs x one)
 
+or-mono : (a b c : Bool) → (b ≡ true → c ≡ true) → (a || b) ≡ true → (a || c) ≡ true
+or-mono true b c on is = refl
+or-mono false b c on is = on is
+
 any-front : (is : Order → Bool) (xs ys : List Order) → list_any is xs ≡ true → list_any is (xs ++ ys) ≡ true
 any-front is [] ys one = absurd (true≢false (sym one))
-any-front is (x ∷ xs) ys one = by (is x) refl
-  where
-    by : (b : Bool) → is x ≡ b → list_any is (x ∷ xs ++ ys) ≡ true
-    by true found = ap (λ (b : Bool). b || list_any is (xs ++ ys)) found
-    by false other = or-right (is x) (list_any is (xs ++ ys)) (any-front is xs ys (other-true (is x) (list_any is xs) other one))
-
-any-more : (is : Order → Bool) (xs ys : List Order) → list_any is xs ≡ true ⊎ list_any is ys ≡ true → list_any is (xs ++ ys) ≡ true
-any-more is xs ys (inl first) = any-front is xs ys first
-any-more is [] ys (inr second) = second
-any-more is (x ∷ xs) ys (inr second) = or-right (is x) (list_any is (xs ++ ys)) (any-more is xs ys (inr second))
+any-front is (x ∷ xs) ys one = or-mono (is x) (list_any is xs) (list_any is (xs ++ ys)) (λ found. any-front is xs ys found) one
 
 -- ---- an order of the writer's own
 
@@ -119,35 +114,38 @@ own-fault order before orders (inr (inr (inr (is, rest)))) = inr (ap fails is)
 
 -- ---- Close was taken, so all orders were
 
+-- the next order is Close, or one before it is
+closes-last : (one : Order) (before : List RunStep) (earlier : List Order) → (is_closed before ≡ true → list_any closes earlier ≡ true) → is_closed (Taken one ∷ before) ≡ true
+    → list_any closes (earlier ++ one ∷ []) ≡ true
+closes-last order.Close before earlier on found = any-last closes earlier order.Close refl
+closes-last (order.Open id sender) before earlier on found = any-front closes earlier (order.Open id sender ∷ []) (on found)
+closes-last (order.Settings settings) before earlier on found = any-front closes earlier (order.Settings settings ∷ []) (on found)
+closes-last (order.Ping bytes) before earlier on found = any-front closes earlier (order.Ping bytes ∷ []) (on found)
+closes-last (order.Probe bytes) before earlier on found = any-front closes earlier (order.Probe bytes ∷ []) (on found)
+closes-last (order.Window id n) before earlier on found = any-front closes earlier (order.Window id n ∷ []) (on found)
+closes-last (order.Refuse id fields) before earlier on found = any-front closes earlier (order.Refuse id fields ∷ []) (on found)
+closes-last (order.Reset id code written) before earlier on found = any-front closes earlier (order.Reset id code written ∷ []) (on found)
+closes-last (order.Goaway last cause) before earlier on found = any-front closes earlier (order.Goaway last cause ∷ []) (on found)
+closes-last order.InputEnded before earlier on found = any-front closes earlier (order.InputEnded ∷ []) (on found)
+
+closed-before : (one : Order) (before : List RunStep) → closes one ≡ false → is_closed (Taken one ∷ before) ≡ true → is_closed before ≡ true
+closed-before order.Close before other found = absurd (true≢false other)
+closed-before (order.Open id sender) before other found = found
+closed-before (order.Settings settings) before other found = found
+closed-before (order.Ping bytes) before other found = found
+closed-before (order.Probe bytes) before other found = found
+closed-before (order.Window id n) before other found = found
+closed-before (order.Refuse id fields) before other found = found
+closed-before (order.Reset id code written) before other found = found
+closed-before (order.Goaway last cause) before other found = found
+closed-before order.InputEnded before other found = found
+
 -- a run that took Close has it of the orders
 pub took-close : (orders : List Order) (run : List RunStep) → HasTaken orders run → is_closed run ≡ true → list_any closes orders ≡ true
 took-close orders [] took is = absurd (true≢false (sym is))
-took-close orders (Taken one ∷ before) (inl (earlier, parts, took)) is = ap (λ (os : List Order). list_any closes os) parts ∙ by one is
-  where
-    by : (o : Order) → is_closed (Taken o ∷ before) ≡ true → list_any closes (earlier ++ o ∷ []) ≡ true
-    by order.Close found = any-last closes earlier order.Close refl
-    by (order.Open id sender) found = any-front closes earlier (order.Open id sender ∷ []) (took-close earlier before took found)
-    by (order.Settings settings) found = any-front closes earlier (order.Settings settings ∷ []) (took-close earlier before took found)
-    by (order.Ping bytes) found = any-front closes earlier (order.Ping bytes ∷ []) (took-close earlier before took found)
-    by (order.Probe bytes) found = any-front closes earlier (order.Probe bytes ∷ []) (took-close earlier before took found)
-    by (order.Window id n) found = any-front closes earlier (order.Window id n ∷ []) (took-close earlier before took found)
-    by (order.Refuse id fields) found = any-front closes earlier (order.Refuse id fields ∷ []) (took-close earlier before took found)
-    by (order.Reset id code written) found = any-front closes earlier (order.Reset id code written ∷ []) (took-close earlier before took found)
-    by (order.Goaway last cause) found = any-front closes earlier (order.Goaway last cause ∷ []) (took-close earlier before took found)
-    by order.InputEnded found = any-front closes earlier (order.InputEnded ∷ []) (took-close earlier before took found)
-took-close orders (Taken one ∷ before) (inr (own, took)) is = took-close orders before took (by one (own-open one before orders own) is)
-  where
-    by : (o : Order) → closes o ≡ false → is_closed (Taken o ∷ before) ≡ true → is_closed before ≡ true
-    by order.Close not found = absurd (true≢false not)
-    by (order.Open id sender) not found = found
-    by (order.Settings settings) not found = found
-    by (order.Ping bytes) not found = found
-    by (order.Probe bytes) not found = found
-    by (order.Window id n) not found = found
-    by (order.Refuse id fields) not found = found
-    by (order.Reset id code written) not found = found
-    by (order.Goaway last cause) not found = found
-    by order.InputEnded not found = found
+took-close orders (Taken one ∷ before) (inl (earlier, parts, took)) is =
+    ap (λ (os : List Order). list_any closes os) parts ∙ closes-last one before earlier (λ found. took-close earlier before took found) is
+took-close orders (Taken one ∷ before) (inr (own, took)) is = took-close orders before took (closed-before one before (own-open one before orders own) is)
 took-close orders (Granted id n ∷ before) took is = took-close orders before took is
 took-close orders (Written frame ∷ before) took is = took-close orders before took is
 took-close orders (Returned id items ∷ before) took is = took-close orders before took is
@@ -162,7 +160,7 @@ head-closes (x ∷ xs) = closes x
 
 nil-right : (xs ys : List Order) → xs ++ ys ≡ [] → ys ≡ []
 nil-right [] ys is = is
-nil-right (x ∷ xs) ys is = cc
+nil-right (x ∷ xs) ys is = absurd cc
 
 -- behind the last order none is left
 pub none-behind : (xs ys front : List Order) → xs ++ ys ≡ front ++ Close ∷ [] → list_any closes xs ≡ true → list_any closes front ≡ false → ys ≡ []
@@ -410,6 +408,11 @@ windows-fail (one ∷ orders) none =
     by true is = none-true (fails one) (neither-left (fails one) (list_any fails orders) none) (window-fails one is)
     by false is = is
 
+fault-or : (one : Order) (before : List RunStep) → (blames_by one ≡ true) ⊎ (fails one ≡ false) → (has_failed before ≡ true → blames_in before ≡ true) → has_failed (Taken one ∷ before) ≡ true
+    → blames_in (Taken one ∷ before) ≡ true
+fault-or one before (inl blames) on is = ap (λ (b : Bool). b || blames_in before) blames
+fault-or one before (inr mild) on is = or-right (blames_by one) (blames_in before) (on (other-true (fails one) (has_failed before) mild is))
+
 -- where it told one, and none was ordered, it was for a window
 failed-blames : (orders : List Order) (run : List RunStep) → HasTaken orders run → list_any fails orders ≡ false → has_failed run ≡ true → blames_in run ≡ true
 failed-blames orders [] took none is = absurd (true≢false (sym is))
@@ -417,11 +420,8 @@ failed-blames orders (Taken one ∷ before) (inl (earlier, parts, took)) none is
     let all : list_any fails (earlier ++ one ∷ []) ≡ false = ap (λ (os : List Order). list_any fails os) (sym parts) ∙ none in
     or-right (blames_by one) (blames_in before)
     (failed-blames earlier before took (none-front fails earlier (one ∷ []) all) (other-true (fails one) (has_failed before) (none-last fails earlier one all) is))
-failed-blames orders (Taken one ∷ before) (inr (own, took)) none is = by (own-fault one before orders own)
-  where
-    by : (blames_by one ≡ true) ⊎ (fails one ≡ false) → blames_in (Taken one ∷ before) ≡ true
-    by (inl blames) = ap (λ (b : Bool). b || blames_in before) blames
-    by (inr mild) = or-right (blames_by one) (blames_in before) (failed-blames orders before took none (other-true (fails one) (has_failed before) mild is))
+failed-blames orders (Taken one ∷ before) (inr (own, took)) none is =
+    fault-or one before (own-fault one before orders own) (λ found. failed-blames orders before took none found) is
 failed-blames orders (Granted id n ∷ before) took none is = failed-blames orders before took none is
 failed-blames orders (Written frame ∷ before) took none is = failed-blames orders before took none is
 failed-blames orders (Returned id items ∷ before) took none is = failed-blames orders before took none is
