@@ -19,7 +19,7 @@ module _ {T : Type 0} where
   both {other = other} {back = back} is same = ap (λ (xs : List T). xs ++ back) is ∙ ap (λ (xs : List T). other ++ xs) same
 
   -- an item is put where none waits behind
-  pub alone : {was all back rest : List T} {one : T} → all ≡ was ++ one ∷ [] → back ≡ rest → rest ≡ [] → all ++ back ≡ (was ++ rest) ++ one ∷ []
-  alone {was = was} {all = all} {one = one} placed same none =
+  pub alone : (was : List T) (one : T) {all back rest : List T} → all ≡ was ++ one ∷ [] → back ≡ rest → rest ≡ [] → all ++ back ≡ (was ++ rest) ++ one ∷ []
+  alone was one {all = all} placed same none =
       ap (λ (xs : List T). all ++ xs) (same ∙ none)
       ∙ (append-nil all ∙ (placed ∙ ap (λ (xs : List T). xs ++ one ∷ []) (sym (ap (λ (xs : List T). was ++ xs) none ∙ append-nil was))))

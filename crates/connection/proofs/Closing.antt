@@ -85,7 +85,7 @@ any-front is (x ∷ xs) ys one = or-mono (is x) (list_any is xs) (list_any is (x
 -- it closes nothing
 own-open : (order : Order) (before : List RunStep) (orders : List Order) → IsAnswer order before ⊎ (ResetsCall order orders ⊎ Warns order before) → closes order ≡ false
 own-open order [] orders (inl answer) = absurd answer
-own-open order (Taken blamed ∷ before) orders (inl (last, id, is, why)) = ap closes is ∙ by (id == 0)
+own-open order (Taken blamed ∷ before) orders (inl (last, id, is, concerns, blames)) = ap closes is ∙ by (id == 0)
   where
     by : (b : Bool) → closes (if b then Goaway last reason.Window else Reset id FlowControlError true) ≡ false
     by true = refl
@@ -100,7 +100,7 @@ own-open order before orders (inr (inr (inr (is, rest)))) = ap closes is
 -- it tells an error only where it ends the connection for a window
 own-fault : (order : Order) (before : List RunStep) (orders : List Order) → IsAnswer order before ⊎ (ResetsCall order orders ⊎ Warns order before) → (blames_by order ≡ true) ⊎ (fails order ≡ false)
 own-fault order [] orders (inl answer) = absurd answer
-own-fault order (Taken blamed ∷ before) orders (inl (last, id, is, why)) = by (id == 0) is
+own-fault order (Taken blamed ∷ before) orders (inl (last, id, is, concerns, blames)) = by (id == 0) is
   where
     by : (b : Bool) → order ≡ (if b then Goaway last reason.Window else Reset id FlowControlError true) → (blames_by order ≡ true) ⊎ (fails order ≡ false)
     by true same = inl (ap blames_by same)
@@ -150,11 +150,11 @@ took-close orders (Granted id n ∷ before) took is = took-close orders before t
 took-close orders (Written frame ∷ before) took is = took-close orders before took is
 took-close orders (Returned id items ∷ before) took is = took-close orders before took is
 
-tail-of : List Order → List Order
+abbrev tail-of : List Order → List Order
 tail-of [] = []
 tail-of (x ∷ xs) = xs
 
-head-closes : List Order → Bool
+abbrev head-closes : List Order → Bool
 head-closes [] = false
 head-closes (x ∷ xs) = closes x
 

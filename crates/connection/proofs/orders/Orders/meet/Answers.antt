@@ -2,10 +2,13 @@ use Rattle.std.proofs.Common.{◌∙◌, [], ◌++◌, ap, append-nil, sym}
 use Rattle.lane.specs.Ring.{ahead, put_in}
 use Rattle.connection.proofs.orders.Orders.meet.Goals as goal
 
-pub returns-clause-first : goal.returns-clause-first
-returns-clause-first g c =
-    let put = put_in c.args.self.outbox.ring in (
-      ahead c.meet.new.rx,
-      ap (λ took. took ++ ahead c.meet.new.rx) (sym c.meet.ensures.reader.1)
-          ∙ (c.meet.ensures.all ∙ (c.meet.ensures.writer.1 ∙ (sym (append-nil put) ∙ ap (λ back. put ++ back) (sym c.requires.none_left)))),
-    )
+pub returns : goal.returns
+returns g c =
+    let put = put_in c.args.self.outbox.ring in
+    record {
+      first = (
+        ahead c.meet.new.rx,
+        ap (λ took. took ++ ahead c.meet.new.rx) (sym c.meet.ensures.reader.1)
+            ∙ (c.meet.ensures.all ∙ (c.meet.ensures.writer.1 ∙ (sym (append-nil put) ∙ ap (λ back. put ++ back) (sym c.requires.none_left)))),
+      );
+    }

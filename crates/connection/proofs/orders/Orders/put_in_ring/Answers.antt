@@ -16,7 +16,7 @@ returns-in_default g c =
     let placed = done _ c.in_default.not-Err c.put.ensures.ok in
     record {
       puts = inl (
-        alone (behind placed c.tries.invariant.0 c.tries.invariant.3) (ap (λ later. later.items) c.tries.invariant.4) c.requires.none_left,
+        alone _ _ (behind placed c.tries.invariant.0 c.tries.invariant.3) (ap (λ later. later.items) c.tries.invariant.4) c.requires.none_left,
         c.requires.whole,
         c.tries.invariant.1 ∙ c.requires.whole,
         c.tries.invariant.2,
