@@ -93,7 +93,7 @@ own-open order (Taken blamed ∷ before) orders (inl (last, id, is, concerns, bl
 own-open order (Granted id n ∷ before) orders (inl answer) = absurd answer
 own-open order (Written frame ∷ before) orders (inl answer) = absurd answer
 own-open order (Returned id items ∷ before) orders (inl answer) = absurd answer
-own-open order before orders (inr (inl (id, is, rest))) = ap closes is
+own-open order before orders (inr (inl (id, is, among, goes))) = ap closes is
 own-open order before orders (inr (inr (inl (is, rest)))) = ap closes is
 own-open order before orders (inr (inr (inr (is, rest)))) = ap closes is
 
@@ -108,7 +108,7 @@ own-fault order (Taken blamed ∷ before) orders (inl (last, id, is, concerns, b
 own-fault order (Granted id n ∷ before) orders (inl answer) = absurd answer
 own-fault order (Written frame ∷ before) orders (inl answer) = absurd answer
 own-fault order (Returned id items ∷ before) orders (inl answer) = absurd answer
-own-fault order before orders (inr (inl (id, is, rest))) = inr (ap fails is)
+own-fault order before orders (inr (inl (id, is, among, goes))) = inr (ap fails is)
 own-fault order before orders (inr (inr (inl (is, rest)))) = inr (ap fails is)
 own-fault order before orders (inr (inr (inr (is, rest)))) = inr (ap fails is)
 

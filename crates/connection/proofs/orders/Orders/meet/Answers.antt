@@ -7,8 +7,8 @@ returns g c =
     let put = put_in c.args.self.outbox.ring in
     record {
       first = (
-        ahead c.meet.new.rx,
-        ap (λ took. took ++ ahead c.meet.new.rx) (sym c.meet.ensures.reader.1)
-            ∙ (c.meet.ensures.all ∙ (c.meet.ensures.writer.1 ∙ (sym (append-nil put) ∙ ap (λ back. put ++ back) (sym c.requires.none_left)))),
+        ahead c.meet-left.new.rx,
+        ap (λ took. took ++ ahead c.meet-left.new.rx) (sym c.meet-left.ensures.reader.1)
+            ∙ (c.meet-left.ensures.all ∙ (c.meet-left.ensures.writer.1 ∙ (sym (append-nil put) ∙ ap (λ back. put ++ back) (sym c.requires.none_left)))),
       );
     }

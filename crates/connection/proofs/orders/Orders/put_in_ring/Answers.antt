@@ -26,6 +26,6 @@ returns-in_default g c =
 pub returns-then-has_stopped : goal.returns-then-has_stopped
 returns-then-has_stopped g c = record {
   puts =
-      puts-from c.into_item.result c.args.order c.args.self.now _ _ (both (c.in-Err.ensures.unchanged ∙ c.tries.invariant.0) (ap (λ later. later.items) c.tries.invariant.4))
-      c.tries.invariant.1 c.tries.invariant.2 (c.into_item.ensures ∙ (c.in-Err.ensures.handed_back ∙ c.tries.invariant.3)) c.defer.ensures.puts;
+      puts-from c.into_item-order.result c.args.order c.args.self.now _ _ (both (c.in-Err.ensures.unchanged ∙ c.tries.invariant.0) (ap (λ later. later.items) c.tries.invariant.4))
+      c.tries.invariant.1 c.tries.invariant.2 (c.into_item-order.ensures ∙ (c.in-Err.ensures.handed_back ∙ c.tries.invariant.3)) c.defer.ensures.puts;
 }
