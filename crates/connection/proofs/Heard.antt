@@ -124,18 +124,6 @@ module _ {A B C J N : Type 0} {book : Naming J} {route : Ghosts N} where
   put-same old new outbox backlog =
       ap (λ (box : Outbox J N book route). put_in box.ring ++ new.backlog.items) outbox ∙ ap (λ later. put_in old.outbox.ring ++ later.items) backlog
 
-  -- an order is put behind those that stood as before
-  pub puts-from : (order other : Control (Opening J book)) (old mid new : Orders A B C J N book route) → put_of mid ≡ put_of old → mid.has_dropped ≡ old.has_dropped → mid.unput ≡ old.unput → order ≡ other
-      → Puts order mid new → Puts other old new
-  puts-from order other old mid new put had unput is (inl (placed, undropped, drops, kept)) = inl (
-    placed ∙ (ap (λ (os : List (Control (Opening J book))). os ++ order ∷ []) put ∙ ap (λ (o : Control (Opening J book)). put_of old ++ o ∷ []) is),
-    sym had ∙ undropped,
-    drops,
-    kept ∙ unput,
-  )
-  puts-from order other old mid new put had unput is (inr (same, drops, inl kept)) = inr (same ∙ put, drops, inl (kept ∙ unput))
-  puts-from order other old mid new put had unput is (inr (same, drops, inr kept)) = inr (same ∙ put, drops, inr (kept ∙ ap Some is))
-
   -- an order more
   pub ordered-put : (all : List Order) (order : Control (Opening J book)) (old new : Orders A B C J N book route) → Puts order old new → IsOwn order → Ordered all old → Ordered (all ++ order_of order ∷ []) new
   ordered-put all order old new (inl (put, had, has, unput)) own ordered =

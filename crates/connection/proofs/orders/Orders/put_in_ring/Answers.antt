@@ -1,6 +1,5 @@
 use Rattle.std.proofs.Common.{◌≡◌, ◌∙◌, List, [], ◌∷◌, ◌++◌, Result, Ok, Err, OnOk, ap, inl, refl}
-use Rattle.connection.proofs.Backlog.{alone, both}
-use Rattle.connection.proofs.Heard.{puts-from}
+use Rattle.connection.proofs.Backlog.{alone, both, puts-behind}
 use Rattle.connection.proofs.orders.Orders.put_in_ring.Goals as goal
 
 done : {T E P : Type 0} (result : Result T E) → ((fault : E) → result ≡ Err fault → ⊥) → OnOk result P → P
@@ -26,6 +25,6 @@ returns-in_default g c =
 pub returns-then-has_stopped : goal.returns-then-has_stopped
 returns-then-has_stopped g c = record {
   puts =
-      puts-from c.into_item-order.result c.args.order c.args.self.now _ _ (both (c.in-Err.ensures.unchanged ∙ c.tries.invariant.0) (ap (λ later. later.items) c.tries.invariant.4))
+      puts-behind _ _ _ _ _ _ _ _ _ _ _ (both (c.in-Err.ensures.unchanged ∙ c.tries.invariant.0) (ap (λ later. later.items) c.tries.invariant.4))
       c.tries.invariant.1 c.tries.invariant.2 (c.into_item-order.ensures ∙ (c.in-Err.ensures.handed_back ∙ c.tries.invariant.3)) c.defer.ensures.puts;
 }
