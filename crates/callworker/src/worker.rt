@@ -41,8 +41,8 @@ pub struct Worker<A: Ledger, B: Ledger, C: Ledger, G: Drop> {
     pub line: Arc<Line>,
     pub shared: Arc<Shared<A, B, C>>,
     pub gate: Arc<G>,
-    /// When the connection began.
-    pub start: Instant,
+    /// When the connection began; nothing where the clock didn't tell.
+    pub start: Option<Instant>,
 }
 
 /// What is left of a call that was answered.
@@ -396,8 +396,12 @@ impl<A: Ledger, B: Ledger, C: Ledger, G: Gate + Drop> Worker<A, B, C, G> {
     }
 }
 
-/// How many nanoseconds there were since the start; the greatest number where the clock doesn't tell.
-pub fn moment(rt: &impl Clock, start: Instant) -> u64 {
+/// How many nanoseconds there were since the start; the greatest number where the clock doesn't tell, or
+/// didn't tell the start. So without a start no deadline of a call comes, but that of a timeout of 0.
+pub fn moment(rt: &impl Clock, start: Option<Instant>) -> u64 {
+    let Some(start) = start else {
+        return u64::MAX;
+    };
     match start.elapsed(rt) {
         Ok(past) => u64::try_from(past.as_nanos()).unwrap_or(u64::MAX),
         Err(_) => u64::MAX,

@@ -10,7 +10,7 @@ use Rattle.callparts.specs.declared.order.Opening.{Opening}
 use Rattle.callparts.specs.declared.order.Returning.{Returning}
 use Rattle.callparts.specs.declared.register.Naming.{Ghosts as Naming}
 use Rattle.callparts.specs.declared.report.Ending.{Ending}
-use Rattle.callparts.specs.declared.report.Ending.TheVariants.{Drained, InputEnded, PeerGoaway, ProtocolError, ReadFailed, OutOfMemory}
+use Rattle.callparts.specs.declared.report.Ending.TheVariants.{Drained, InputEnded, PeerGoaway, ProtocolError, ReadFailed, WriteFailed, OutOfMemory}
 use Rattle.callparts.specs.declared.work.Request.{Request}
 use Rattle.h2frame.specs.declared.error_code.ErrorCode.{ErrorCode}
 use Rattle.handlers.specs.declared.step.Step.{Step as Answer}
@@ -42,6 +42,7 @@ use Rattle.connection.specs.declared.orders.Route.{Ghosts}
 use Rattle.connection.specs.Heard.{Acts, AreCarried, Collects, CutsSome, Grows, HasPut, HasRead, IsEndedBy, KeptFor, ReadsTo, ReadsWith}
 use Rattle.connection.specs.Limits.{AreGoing, Covers, IsJustified, Tally}
 use Rattle.connection.specs.Puts.{Closed, IsKept, IsOwn, IsSame, Ordered, Puts, PutsAll, put_of, put_orders}
+use Rattle.connection.proofs.Endings.{ends-unbroken}
 use Rattle.connection.proofs.Opens.{plain-own}
 use Rattle.connection.proofs.Tallies.{covers-more, covers-none, cuts-justified, going-more}
 
@@ -111,8 +112,17 @@ module _ {J : Type 0} {book : Naming J} where
 
 module _ {A B C J N : Type 0} {book : Naming J} {route : Ghosts N} where
   pub same-of : (old new : Orders A B C J N book route) → new ≡ old → IsSame old new
-  same-of old new is =
-      (ap (λ (o : Orders A B C J N book route). o.outbox) is, ap (λ (o : Orders A B C J N book route). o.has_dropped) is, ap (λ (o : Orders A B C J N book route). o.unput) is)
+  same-of old new is = (
+    ap (λ (o : Orders A B C J N book route). o.outbox) is,
+    ap (λ (o : Orders A B C J N book route). o.has_dropped) is,
+    ap (λ (o : Orders A B C J N book route). o.unput) is,
+    ap (λ (o : Orders A B C J N book route). o.backlog) is,
+  )
+
+  -- the same was put
+  pub put-same : (old new : Orders A B C J N book route) → new.outbox ≡ old.outbox → new.backlog ≡ old.backlog → put_of new ≡ put_of old
+  put-same old new outbox backlog =
+      ap (λ (box : Outbox J N book route). put_in box.ring ++ new.backlog.items) outbox ∙ ap (λ later. put_in old.outbox.ring ++ later.items) backlog
 
   -- an order more
   pub ordered-put : (all : List Order) (order : Control (Opening J book)) (old new : Orders A B C J N book route) → Puts order old new → IsOwn order → Ordered all old → Ordered (all ++ order_of order ∷ []) new
@@ -146,7 +156,7 @@ module _ {A B C J N : Type 0} {book : Naming J} {route : Ghosts N} where
 
   pub ordered-same : (all : List Order) (old new : Orders A B C J N book route) → IsSame old new → Ordered all old → Ordered all new
   ordered-same all old new same ordered =
-      let is : put_of new ≡ put_of old = ap (λ (outbox : Outbox J N book route). put_in outbox.ring) same.0 in
+      let is : put_of new ≡ put_of old = put-same old new same.0 same.3 in
       record {
         dropped = ordered.dropped;
         parts = ap (λ (os : List (Control (Opening J book))). map_of (os ++ ordered.dropped)) is ∙ ordered.parts;
@@ -204,6 +214,12 @@ ended-harsh ending [] is = absurd is
 ended-harsh ending (step ∷ told) (inl is) = subst (λ (found : Option Ending). IfSome found (λ e. is_heard_out e ≡ false)) is (ends-harsh step)
 ended-harsh ending (step ∷ told) (inr is) = ended-harsh ending told is
 
+-- it is no failed write
+pub ended-unbroken : (ending : Ending) (told : List Step) → IsEndedBy ending told → ending ≢ WriteFailed
+ended-unbroken ending [] is = absurd is
+ended-unbroken ending (step ∷ told) (inl is) = subst (λ (found : Option Ending). IfSome found (λ e. e ≢ WriteFailed)) is (ends-unbroken step)
+ended-unbroken ending (step ∷ told) (inr is) = ended-unbroken ending told is
+
 if-ended : (end : Option Ending) (more told : List Step) → IfSome end (λ e. IsEndedBy e more) → IfSome end (λ e. IsEndedBy e (more ++ told))
 if-ended None more told is = tt
 if-ended (Some ending) more told is = ended-front ending more told is
@@ -215,6 +231,11 @@ ended-at step (Some ending) is = inl is
 -- the input ended
 abbrev pub EndsInput : Ending → Type 0
 EndsInput end = (end ≡ InputEnded) ⊎ ((end ≡ PeerGoaway) ⊎ (end ≡ Drained))
+
+pub not-by-writing : (end : Ending) → EndsInput end → end ≢ WriteFailed
+not-by-writing end (inl is) other = cc
+not-by-writing end (inr (inl is)) other = cc
+not-by-writing end (inr (inr is)) other = cc
 
 pub not-by-error : (end : Ending) → EndsInput end → (code : ErrorCode) → end ≢ ProtocolError code
 not-by-error end (inl is) code other = cc
@@ -656,8 +677,8 @@ module _ {A B C J M N : Type 0} {book : Naming J} {route : Ghosts N} {known : �
   -- all events of these bytes were heard
   pub all-read : (sent : List Sent) (end : Ending) (before : List InEvent) (told : List Step) (bytes given : List ℕ) (core : Core) (reading : Reading J M book) (orders : Orders A B C J N book route) → given ≡ bytes → Reached bytes before core
       → events_of told ≡ before → AreCalm told → KeptFor known names sent told reading orders → (end ≡ PeerGoaway → WasTold events.PeerGoaway told) → (end ≡ Drained → is_draining told ≡ true) → ((code : ErrorCode) → end ≢ ProtocolError code)
-      → HasRead known names sent end given told reading orders
-  all-read sent end before told bytes given core reading orders same reached is calm kept goaway drained unfailed = record {
+      → end ≢ WriteFailed → HasRead known names sent end given told reading orders
+  all-read sent end before told bytes given core reading orders same reached is calm kept goaway drained unfailed unbroken = record {
     reads = kept.reads;
     justified = kept.justified;
     going = kept.going;
@@ -671,6 +692,7 @@ module _ {A B C J M N : Type 0} {book : Naming J} {route : Ghosts N} {known : �
     goaway = goaway;
     drained = drained;
     failed = λ code failed. absurd (unfailed code failed);
+    unbroken = unbroken;
   }
 
   -- and then the input ended, or could not be read on
@@ -679,12 +701,12 @@ module _ {A B C J M N : Type 0} {book : Naming J} {route : Ghosts N} {known : �
       → (end ≡ PeerGoaway → (s : List Sent) (steps : List Step) → Reads known names (carried_in s) steps reading → WasTold events.PeerGoaway steps)
       → (end ≡ Drained → (s : List Sent) (steps : List Step) → Reads known names (carried_in s) steps reading → is_draining steps ≡ true) → HasRead known names sent end given told reading orders
   input-read sent end before told bytes given core reading orders same reached is calm kept input goaway drained =
-      all-read sent end before told bytes given core reading orders same reached is calm kept (λ gone. goaway gone sent told kept.reads) (λ drains. drained drains sent told kept.reads) (not-by-error end input)
+      all-read sent end before told bytes given core reading orders same reached is calm kept (λ gone. goaway gone sent told kept.reads) (λ drains. drained drains sent told kept.reads) (not-by-error end input) (not-by-writing end input)
 
   pub failed-read : (sent : List Sent) (before : List InEvent) (told : List Step) (bytes given : List ℕ) (core : Core) (reading : Reading J M book) (orders : Orders A B C J N book route) → given ≡ bytes → Reached bytes before core
       → events_of told ≡ before → AreCalm told → KeptFor known names sent told reading orders → HasRead known names sent ReadFailed given told reading orders
   failed-read sent before told bytes given core reading orders same reached is calm kept =
-      all-read sent ReadFailed before told bytes given core reading orders same reached is calm kept (λ gone. cc) (λ drains. cc) (λ code failed. cc)
+      all-read sent ReadFailed before told bytes given core reading orders same reached is calm kept (λ gone. cc) (λ drains. cc) (λ code failed. cc) (λ broke. cc)
 
   -- some were, and one of them ended the connection
   pub some-read : (sent : List Sent) (tally tally_new : Tally) (end : Ending) (given before : List InEvent) (told : List Step) (bytes : List ℕ) (core : Core) (reading reading_new : Reading J M book) (orders orders_new : Orders A B C J N book route)
@@ -721,6 +743,7 @@ module _ {A B C J M N : Type 0} {book : Naming J} {route : Ghosts N} {known : �
           goaway = λ gone. absurd (not (ap (λ (e : Ending). is_heard_out e) gone));
           drained = λ drains. absurd (not (ap (λ (e : Ending). is_heard_out e) drains));
           failed = λ code is_so. subst (λ (e : Ending). IsEndedBy e (more.0 ++ told)) is_so (ended-front end more.0 told more.1.ended);
+          unbroken = ended-unbroken end more.0 more.1.ended;
         },
         more.2.came,
       )
@@ -769,6 +792,7 @@ module _ {A B C J M N : Type 0} {book : Naming J} {route : Ghosts N} {known : �
     goaway = λ gone. absurd cc;
     drained = λ drains. absurd cc;
     failed = λ code failed. absurd cc;
+    unbroken = λ broke. cc;
   }
 
 -- none came

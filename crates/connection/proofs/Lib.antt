@@ -1,4 +1,7 @@
+pub mod Backlog
+pub mod Closing
 pub mod CreditSteps
+pub mod Endings
 pub mod Tallies
 pub mod Opens
 pub mod Heard

@@ -1,11 +1,11 @@
 -- What the reading thread has heard, and had ordered.
 use mathlib.Core.List.{IsPrefix}
-use Rattle.std.specs.Prelude.{◌≡◌, ◌⊎◌, ℕ, Bool, true, false, All, IfSome, List, [], ◌∷◌, ◌++◌, Option, None, Some}
+use Rattle.std.specs.Prelude.{◌≡◌, ◌≢◌, ◌⊎◌, ℕ, Bool, true, false, All, IfSome, List, [], ◌∷◌, ◌++◌, Option, None, Some}
 use Rattle.lane.specs.Ring.{out_name, taken}
 use Rattle.callparts.specs.declared.order.Returning.{Returning}
 use Rattle.callparts.specs.declared.register.Naming.{Ghosts as Naming}
 use Rattle.callparts.specs.declared.report.Ending.{Ending}
-use Rattle.callparts.specs.declared.report.Ending.TheVariants.{Drained, PeerGoaway, ProtocolError}
+use Rattle.callparts.specs.declared.report.Ending.TheVariants.{Drained, PeerGoaway, ProtocolError, WriteFailed}
 use Rattle.h2frame.specs.declared.error_code.ErrorCode.{ErrorCode}
 use Rattle.handlers.specs.declared.step.Step.{Step as Answer}
 use Rattle.outwriter.specs.Steps.{Order}
@@ -124,6 +124,7 @@ module _ {A B C J M N : Type 0} {book : Naming J} {route : Ghosts N} (known : �
     pub goaway : end ≡ PeerGoaway → WasTold events.PeerGoaway told
     pub drained : end ≡ Drained → is_draining told ≡ true
     pub failed : (code : ErrorCode) → end ≡ ProtocolError code → IsEndedBy (ProtocolError code) told
+    pub unbroken : end ≢ WriteFailed
 
   -- Where what came home is carried so, some steps led to the reading side, and what was ordered is what they lead to.
   abbrev pub Hears : Reading J M book → Orders A B C J N book route → Type 0

@@ -104,8 +104,8 @@ pub(crate) struct Reader<
     /// How the reader's bell stood when it was looked for what came back. None where a half was shut since.
     looked: Option<u64>,
     gate: Arc<G>,
-    /// When the connection began.
-    start: Instant,
+    /// When the connection began; nothing where the clock didn't tell.
+    start: Option<Instant>,
 }
 
 impl<A, B, C, J, M, N, R, G> Reader<A, B, C, J, M, N, R, G>
@@ -127,7 +127,7 @@ where
         front: Front<J>,
         home: RingOut<Returning<J>>,
         gate: Arc<G>,
-        start: Instant,
+        start: Option<Instant>,
     ) -> Reader<A, B, C, J, M, N, R, G>
         ensures reads { (sent : List Sent)
             → Reads M.known M.names (carried_in sent) [] result.reading }
@@ -212,6 +212,7 @@ where
     #[inline(never)]
     pub(crate) fn end(&mut self)
         ensures grows { Grows self.old.reading self.new.reading }
+        ensures none_left { self.new.orders.backlog.items ≡ [] }
         ensures ended { (sent : List Sent) (told : List Step)
             → AreCarried sent (taken self.new.reading.home)
             → Reads M.known M.names (carried_in sent) told self.old.reading
@@ -246,6 +247,7 @@ where
     fn close(&mut self)
         ensures collects { Collects M.known M.names self.old.reading self.new.reading }
         ensures put { put_of self.new.orders ≡ put_of self.old.orders ++ orders.Close ∷ [] }
+        ensures none_left { self.new.orders.backlog.items ≡ [] }
         ensures dropped { self.new.orders.has_dropped ≡ self.old.orders.has_dropped }
         ensures unput { self.new.orders.unput ≡ self.old.orders.unput }
     {
@@ -276,6 +278,7 @@ where
             → AreAccounts M.known M.names (carried_in sent) told (reported told)
             (items_of result.0.full result.0.last) }
         ensures outbox { result.1.outbox ≡ self.orders.outbox }
+        ensures backlog { result.1.backlog ≡ self.orders.backlog }
         ensures dropped { result.1.has_dropped ≡ self.orders.has_dropped }
     {
         let mut reader = self;
@@ -300,6 +303,7 @@ where
             → Reads M.known M.names (carried_in sent) told self.old.reading
             → Reads M.known M.names (carried_in sent) told self.new.reading }
         ensures outbox { self.new.orders.outbox ≡ self.old.orders.outbox }
+        ensures backlog { self.new.orders.backlog ≡ self.old.orders.backlog }
         ensures dropped { self.new.orders.has_dropped ≡ self.old.orders.has_dropped }
     {
         if let Some(Control::Open(_, opening)) = self.orders.unput.take() {
@@ -713,7 +717,7 @@ where
     }
 
     /// Has a worker answer a call that was admitted: one that is free, or a new one. Where there are as many as calls may be live, one of
-    /// them is at a call that is no longer live, and soon is free. Once orders were dropped no call begins: the writer has stopped.
+    /// them is at a call that is no longer live, and soon is free. Once orders wait in the backlog no call begins: the writer has stopped.
     fn start(&mut self, request: Request, methods: &Arc<Methods>) -> Option<Ending>
         requires known { IsKnown M.known (λ m. answers (m.vtable, m.value))
             (listed methods.now.value) }
@@ -725,7 +729,7 @@ where
     {
         let rt = self.rt;
         let (id, method) = (request.id, request.index);
-        if self.orders.has_dropped {
+        if self.orders.are_behind() {
             return self.pass_over(id, method);
         }
         'looks: for _ in rt.forever() {

@@ -22,7 +22,7 @@ pub(crate) fn open_seat<A, B, C, G, J, M, R>(
     shared: &Arc<Shared<A, B, C>>,
     gate: &Arc<G>,
     methods: &Arc<Methods>,
-    start: Instant,
+    start: Option<Instant>,
 ) -> Result<(Seat<J, M>, Hand<J, M>), AllocError>
 where
     A: Ledger + Send + Sync + 'static,

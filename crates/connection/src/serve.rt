@@ -1,21 +1,21 @@
 //! One connection from its first byte to its last.
 
 ghost use mathlib.Core.List.{IsPrefix};
-ghost use Rattle.std.specs.Prelude.{◌≡◌, ◌≢◌, ◌⊎◌, ◌<◌, ◌≤◌, ◌++◌, ℕ, Bool, List, [], Option, Some, IfErr, IfOk, IfSome, false, true};
+ghost use Rattle.std.specs.Prelude.{◌≡◌, ◌<◌, ◌≤◌, ◌++◌, ℕ, Bool, List, [], Option, Some, IfErr, IfOk, IfSome, true};
 ghost use Rattle.std.specs.Io.KnownBytes.{Consumes};
 ghost use Rattle.callparts.specs.Blocks.{items_of};
 ghost use Rattle.callparts.specs.Workers.{IsWithin, answers_by};
 ghost use Rattle.callparts.specs.declared.report.Ending.TheVariants as ending;
 ghost use Rattle.handlers.specs.Listed.{listed};
-ghost use Rattle.h2frame.specs.declared.error_code.ErrorCode.{ErrorCode as Code};
 ghost use Rattle.lane.specs.Ring.{in_name, out_name, put_in, taken};
 ghost use Rattle.session.specs.FlowBytes.{counted_told};
 ghost use Rattle.readerloop.specs.Calls.{AreNames, IsFirstWith, Sent, carried_in};
 ghost use Rattle.readerloop.specs.Readings.{Reads};
-ghost use Rattle.readerloop.specs.Reports.{AreAccounts, is_heard_out};
+ghost use Rattle.readerloop.specs.Reports.{AreAccounts};
 ghost use Rattle.readerloop.specs.Steps.{Step, events_of, reported};
+ghost use Rattle.connection.specs.Endings.{ended_by, unless_lacked};
 ghost use Rattle.connection.specs.Heard.{AreCarried, HasRead, Hears, KeptFor};
-ghost use Rattle.connection.specs.Puts.{AreFirst};
+ghost use Rattle.connection.specs.Puts.{put_of};
 ghost use Rattle.connection.specs.Rest.{CarriesOpen, CarriesRest};
 ghost use Rattle.connection.specs.Served.{IsServed};
 
@@ -40,7 +40,7 @@ use std::sync::ledger::{Blank, Ledger};
 use std::sync::{Arc, Wait};
 use std::thread::Threads;
 use std::time::{Clock, Instant};
-use writerloop::Written;
+use writerloop::{WriterEnding, Written};
 
 /// Serves one connection, and says what became of it. The caller's thread reads; one more writes, and up to 64 answer calls. It
 /// returns once the input has ended, or the connection was ended with an error or drained, and all that could be written was.
@@ -184,18 +184,18 @@ impl<J: Naming> Rings<J> {
     }
 }
 
-/// What the parts of a connection are begun with, and when it began.
+/// What the parts of a connection are begun with, and when it began, where the clock told that.
 #[derive(Drop)]
 struct Common<A: Ledger, B: Ledger, C: Ledger, G: Drop> {
     for_reader: Arc<Shared<A, B, C>>,
     for_orders: Arc<Shared<A, B, C>>,
     for_writer: Arc<Shared<A, B, C>>,
     gate: Arc<G>,
-    start: Instant,
+    start: Option<Instant>,
 }
 
 impl<A: Ledger, B: Ledger, C: Ledger, G: Drop> Common<A, B, C, G> {
-    /// Over what the threads share. A clock that can't be read counts as want of memory.
+    /// Over what the threads share. Where the clock can't be read, the connection goes on without deadlines.
     fn new(
         rt: &impl Clock,
         shared: Arc<Shared<A, B, C>>,
@@ -206,7 +206,10 @@ impl<A: Ledger, B: Ledger, C: Ledger, G: Drop> Common<A, B, C, G> {
             for_writer: Arc::try_clone(&shared)?,
             for_reader: shared,
             gate: Arc::try_clone(gate)?,
-            start: Instant::now(rt).map_err(|_| AllocError)?,
+            start: match Instant::now(rt) {
+                Ok(start) => Some(start),
+                Err(_) => None,
+            },
         })
     }
 }
@@ -392,7 +395,7 @@ where
     let (giving, home) = senders;
     let outlet = Outlet::new(common.for_writer, told);
     let intake = Intake::new(common.for_reader, came, calls);
-    let mut orders: Orders<A, B, C, J, N> = Orders::new(putting, common.for_orders);
+    let mut orders: Orders<A, B, C, J, N> = Orders::new(alloc, putting, common.for_orders);
     match writer::start(
         rt,
         alloc,
@@ -416,12 +419,11 @@ where
                 ending,
                 device,
                 orders: rx,
-                is_faultless,
                 ..
             } = written;
             let calls = Accounts::new(alloc);
             let read = Ending::OutOfMemory;
-            Err(meet(read, ending, calls, orders, rx, is_faultless, device))
+            Err(meet(read, ending, calls, orders, rx, device))
         }
     }
 }
@@ -483,9 +485,8 @@ where
     R: Threads + Wait + Clock + Copy + Send + Sync + Drop + 'static,
     requires route { N.ring ≡ Some (out_name written.orders) }
     requires way { out_name reader.reading.home ≡ in_name written.rest.sends.home }
-    ensures obeyed { AreFirst (taken written.orders) (put_in reader.orders.outbox.ring)
-        ((result.report.ending ≢ ending.OutOfMemory)
-        × (result.report.ending ≢ ending.WriteFailed)) }
+    requires none_left { reader.orders.backlog.items ≡ [] }
+    ensures obeyed { IsPrefix (taken written.orders) (put_of reader.orders) }
     ensures came { IsPrefix (taken reader.reading.home) (put_in written.rest.sends.home) }
     ensures accounts { (sent : List Sent) (told : List Step)
         → AreCarried sent (put_in written.rest.sends.home) → CarriesRest sent written.rest
@@ -494,42 +495,26 @@ where
         → AreAccounts M.known M.names (carried_in sent) told (reported told)
         (items_of result.report.calls.full result.report.calls.last) }
     ensures output { result.output ≡ written.device }
-    ensures memory { written.ending ≡ Some ending.OutOfMemory
-        → result.report.ending ≡ ending.OutOfMemory }
-    ensures broken { written.ending ≡ Some ending.WriteFailed
-        → result.report.ending ≢ ending.OutOfMemory
-        → result.report.ending ≡ ending.WriteFailed }
-    ensures marked { result.report.ending ≡ ending.WriteFailed
-        → written.ending ≡ Some ending.WriteFailed }
-    ensures dropped { result.report.ending ≢ ending.OutOfMemory
-        → result.report.ending ≢ ending.WriteFailed
-        → ((code : Code) → result.report.ending ≢ ending.ProtocolError code)
-        → reader.orders.has_dropped ≡ false }
-    ensures faultless { result.report.ending ≡ ending.Drained → written.is_faultless ≡ true }
-    ensures input { is_heard_out result.report.ending ≡ true → result.report.ending ≡ read }
-    ensures blamed { (code : Code) → result.report.ending ≡ ending.ProtocolError code
-        → (read ≡ ending.ProtocolError code)
-        ⊎ (written.ending ≡ Some (ending.ProtocolError code)) }
+    ensures ending { result.report.ending
+        ≡ ended_by read written.ending reader.orders.has_dropped }
 {
     let Written {
         ending,
         device,
         orders: rx,
-        is_faultless,
         rest,
     } = written;
     let (calls, orders) = reader.meet(rest);
-    meet(read, ending, calls, orders, rx, is_faultless, device)
+    meet(read, ending, calls, orders, rx, device)
 }
 
 /// The same by what either saw.
 fn meet<A, B, C, J, N, O>(
     read: Ending,
-    written: Option<Ending>,
+    written: Option<WriterEnding>,
     calls: Accounts,
     orders: Orders<A, B, C, J, N>,
     rx: RingOut<Order<J>>,
-    is_faultless: bool,
     output: O,
 ) -> Served<O>
 where
@@ -540,80 +525,46 @@ where
     N: Route,
     O: ConnWrite + Send + Drop + 'static,
     requires route { N.ring ≡ Some (out_name rx) }
-    // The orders that the run obeyed begin those that were put; and where the ending doesn't tell why not, they are all of them.
-    ensures obeyed { AreFirst (taken rx) (put_in orders.outbox.ring)
-        ((result.report.ending ≢ ending.OutOfMemory)
-        × (result.report.ending ≢ ending.WriteFailed)) }
+    requires none_left { orders.backlog.items ≡ [] }
+    // The orders that the run obeyed begin those that were put.
+    ensures obeyed { IsPrefix (taken rx) (put_of orders) }
     ensures output { result.output ≡ output }
     ensures calls { result.report.calls ≡ calls }
-    ensures memory { written ≡ Some ending.OutOfMemory
-        → result.report.ending ≡ ending.OutOfMemory }
-    ensures broken { written ≡ Some ending.WriteFailed
-        → result.report.ending ≢ ending.OutOfMemory
-        → result.report.ending ≡ ending.WriteFailed }
-    ensures marked { result.report.ending ≡ ending.WriteFailed
-        → written ≡ Some ending.WriteFailed }
-    // None was dropped, unless the ending tells why.
-    ensures dropped { result.report.ending ≢ ending.OutOfMemory
-        → result.report.ending ≢ ending.WriteFailed
-        → ((code : Code) → result.report.ending ≢ ending.ProtocolError code)
-        → orders.has_dropped ≡ false }
-    // None with an error was told, where the connection drained.
-    ensures faultless { result.report.ending ≡ ending.Drained → is_faultless ≡ true }
-    ensures input { is_heard_out result.report.ending ≡ true → result.report.ending ≡ read }
-    ensures blamed { (code : Code) → result.report.ending ≡ ending.ProtocolError code
-        → (read ≡ ending.ProtocolError code) ⊎ (written ≡ Some (ending.ProtocolError code)) }
-    ensures lacked { read ≡ ending.OutOfMemory → result.report.ending ≡ ending.OutOfMemory }
+    ensures ending { result.report.ending ≡ ended_by read written orders.has_dropped }
 {
     let has_dropped = orders.has_dropped;
-    let are_all = orders.meet(rx);
-    let ending = by_orders(of_both(read, written), are_all, has_dropped, is_faultless);
+    orders.meet(rx);
+    let ending = of_both(read, written, has_dropped);
     Served {
         report: ConnReport { calls, ending },
         output,
     }
 }
 
-/// How a connection ended, by what the reader and the writer see. What a writer, or a reader, doesn't end with
-/// counts as want of memory.
-fn of_both(read: Ending, written: Option<Ending>) -> Ending
-    ensures memory { written ≡ Some ending.OutOfMemory → result ≡ ending.OutOfMemory }
-    ensures failed { written ≡ Some ending.WriteFailed → result ≢ ending.OutOfMemory
-        → result ≡ ending.WriteFailed }
-    ensures marked { result ≡ ending.WriteFailed → written ≡ Some ending.WriteFailed }
-    ensures blamed { (code : Code) → result ≡ ending.ProtocolError code
-        → (read ≡ ending.ProtocolError code) ⊎ (written ≡ Some (ending.ProtocolError code)) }
-    ensures input { is_heard_out result ≡ true → result ≡ read }
-    ensures lacked { read ≡ ending.OutOfMemory → result ≡ ending.OutOfMemory }
+/// How a connection ended, by what its reader saw, how its writer ended, and whether orders were dropped for want of memory.
+fn of_both(read: Ending, written: Option<WriterEnding>, has_dropped: bool) -> Ending
+    ensures { result ≡ ended_by read written has_dropped }
 {
-    match (read, written) {
-        (Ending::OutOfMemory, _) => Ending::OutOfMemory,
-        (_, Some(Ending::OutOfMemory)) => Ending::OutOfMemory,
-        (_, Some(Ending::ProtocolError(code))) => Ending::ProtocolError(code),
-        (_, Some(Ending::WriteFailed)) => Ending::WriteFailed,
-        (_, Some(_)) | (Ending::WriteFailed, None) => Ending::OutOfMemory,
-        (ending, None) => ending,
+    if has_dropped {
+        return Ending::OutOfMemory;
+    }
+    match written {
+        None => read,
+        Some(end) => by_writer(read, end.ending()),
     }
 }
 
-/// The same by whether the writer took all orders that were put, whether others were dropped, and whether it told no error. Where no
-/// ending tells why, it counts as want of memory; but that doesn't come.
-fn by_orders(seen: Ending, are_all: bool, has_dropped: bool, is_faultless: bool) -> Ending
-    ensures memory { seen ≡ ending.OutOfMemory → result ≡ ending.OutOfMemory }
-    ensures failed { seen ≡ ending.WriteFailed → result ≡ ending.WriteFailed }
-    ensures marked { result ≡ ending.WriteFailed → seen ≡ ending.WriteFailed }
-    ensures seen { (result ≡ seen) ⊎ (result ≡ ending.OutOfMemory) }
-    ensures all { result ≢ ending.OutOfMemory → result ≢ ending.WriteFailed → are_all ≡ true }
-    ensures dropped { result ≢ ending.OutOfMemory → result ≢ ending.WriteFailed
-        → ((code : Code) → result ≢ ending.ProtocolError code) → has_dropped ≡ false }
-    ensures faultless { result ≡ ending.Drained → is_faultless ≡ true }
+/// The same where the writer ended so, and the reader dropped none: want of memory comes first.
+fn by_writer(read: Ending, end: Ending) -> Ending
+    ensures { result ≡ unless_lacked read end }
 {
-    match seen {
-        Ending::OutOfMemory | Ending::WriteFailed => seen,
-        _ if !are_all => Ending::OutOfMemory,
-        Ending::ProtocolError(_) => seen,
-        _ if has_dropped => Ending::OutOfMemory,
-        Ending::Drained if !is_faultless => Ending::OutOfMemory,
-        _ => seen,
+    match read {
+        Ending::InputEnded => end,
+        Ending::PeerGoaway => end,
+        Ending::ProtocolError(_) => end,
+        Ending::ReadFailed => end,
+        Ending::WriteFailed => end,
+        Ending::OutOfMemory => Ending::OutOfMemory,
+        Ending::Drained => end,
     }
 }

@@ -4,8 +4,8 @@ ghost use Rattle.std.specs.Prelude.{◌≡◌, ◌⊎◌, ℕ, List, [], ◌∷�
 ghost use Rattle.lane.specs.Ring.{in_name, out_name, put_in, taken};
 ghost use Rattle.writerloop.specs.declared.filled.Filled.TheVariants as filling;
 ghost use Rattle.outwriter.specs.declared.control.Control.TheVariants as controls;
-ghost use Rattle.writerloop.specs.Orders.{orders_of};
-ghost use Rattle.writerloop.specs.Written.{HasSent, HasWritten, IsFlushed, Led, LedOut, LeadsOn, LeadsOutTo, LeadsTo, Stays};
+ghost use Rattle.writerloop.specs.Endings.{ending_told};
+ghost use Rattle.writerloop.specs.Written.{HasSent, IsFlushed, Led, LedOut, LeadsOn, LeadsOutTo, LeadsTo, Stays};
 ghost use Rattle.connection.specs.Puts.{Closed, Ordered};
 
 use crate::orders::{Orders, Route};
@@ -55,8 +55,8 @@ where
         ensures sent { (before : Option (List ℕ))
             → Led W.contents W.failed before self.outlet self.writing
             → HasSent W.contents W.failed before result.told.amount
-            (taken result.written.orders) result.written.rest result.written.ending
-            result.written.is_faultless result.written.device }
+            (taken result.written.orders) result.written.rest
+            (ending_told result.written.ending) result.written.device }
         ensures name { out_name result.written.orders ≡ out_name self.writing.inbox.ring }
         ensures way { in_name result.written.rest.sends.home ≡ in_name self.writing.sends.home }
         ensures parts { result.told.parts ≡ C.parts }
@@ -78,8 +78,8 @@ where
         ensures sent { (before : Option (List ℕ)) (credit : ℕ)
             → LedOut W.contents W.failed before credit self.writing
             → HasSent W.contents W.failed before credit
-            (taken result.written.orders) result.written.rest result.written.ending
-            result.written.is_faultless result.written.device }
+            (taken result.written.orders) result.written.rest
+            (ending_told result.written.ending) result.written.device }
         ensures name { out_name result.written.orders ≡ out_name self.writing.inbox.ring }
         ensures way { in_name result.written.rest.sends.home ≡ in_name self.writing.sends.home }
         ensures amount { result.told.amount ≡ self.outlet }
@@ -393,7 +393,7 @@ impl<C: Ledger, J: Naming, W: ConnWrite + Drop> Promise<Parted<C, J, W>> for Beg
     ghost kept_by = { λ begun r. (out_name r.written.orders ≡ out_name begun.orders.value)
         × (in_name r.written.rest.sends.home ≡ in_name begun.home.value)
         × HasSent W.contents W.failed (W.contents begun.device.value) r.told.amount
-        (taken r.written.orders) r.written.rest r.written.ending r.written.is_faultless
+        (taken r.written.orders) r.written.rest (ending_told r.written.ending)
         r.written.device
         × (r.told.parts ≡ C.parts) };
 }
@@ -434,10 +434,11 @@ where
     ensures same { OnOk result (orders.new ≡ orders.old) }
     ensures put { OnErr result (Ordered [] orders.old
         → Closed (controls.InputEnded ∷ []) orders.new) }
+    ensures none_left { OnErr result (orders.new.backlog.items ≡ []) }
     ensures name { IfErr result (λ parted. out_name parted.written.orders ≡ out_name taking) }
-    ensures written { IfErr result (λ parted. HasWritten W.contents W.failed (W.contents device)
-        parted.told.amount (orders_of (taken parted.written.orders)) parted.written.ending
-        parted.written.is_faultless parted.written.device) }
+    ensures sent { IfErr result (λ parted. HasSent W.contents W.failed (W.contents device)
+        parted.told.amount (taken parted.written.orders) parted.written.rest
+        (ending_told parted.written.ending) parted.written.device) }
     ensures parts { IfErr result (λ parted. parted.told.parts ≡ C.parts) }
 {
     let begun = Begun {
@@ -458,8 +459,8 @@ where
         ensures sent { (before : Option (List ℕ))
             → Led W.contents W.failed before writer.outlet writer.writing
             → HasSent W.contents W.failed before result.told.amount
-            (taken result.written.orders) result.written.rest result.written.ending
-            result.written.is_faultless result.written.device }
+            (taken result.written.orders) result.written.rest
+            (ending_told result.written.ending) result.written.device }
         ensures parts { result.told.parts ≡ C.parts }
     { writer.write(&rt) };
     match Builder::new()

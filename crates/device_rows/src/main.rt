@@ -1,4 +1,4 @@
-//! The server's connections over devices that fail, or that move little at a time, and over clocks that stand still or leap.
+//! The server's connections over devices that fail, or that move little at a time, and over clocks that stand still, leap or can't be read.
 //!
 //! A line of standard input is a run: what the client sends, in hexadecimal digits, behind them words (`plan` reads both). A run serves
 //! it by `serve_connection`, and prints what became of it, line by line:

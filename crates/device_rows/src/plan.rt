@@ -37,7 +37,7 @@ impl Plan {
     /// - `read-good=K`, `write-good=K`: so many reads or writes go well, and each behind them fails;
     /// - `read-most=N`, `write-most=N`: one moves at most so many bytes;
     /// - `cut=N`: no read goes across the N-th byte;
-    /// - `clock=still`, `clock=leaping`;
+    /// - `clock=still`, `clock=leaping`, `clock=silent`;
     /// - `drain=N`: the connection is drained behind so many reads, at 0 before it begins;
     /// - `gate=refusing`, `gate=keeping`, `gate=draining`.
     pub fn read(alloc: Global, line: &str) -> Result<Plan> {
@@ -90,6 +90,7 @@ fn pace_of(value: &str) -> Result<Pace> {
     match value {
         "still" => Ok(Pace::Still),
         "leaping" => Ok(Pace::Leaping),
+        "silent" => Ok(Pace::Silent),
         _ => bail!("an unknown clock"),
     }
 }

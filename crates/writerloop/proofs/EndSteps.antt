@@ -25,13 +25,13 @@ use Rattle.writerloop.specs.declared.sends.Sends.{Sends}
 use Rattle.writerloop.specs.declared.standing.Standing.TheVariants as stands
 use Rattle.writerloop.specs.declared.writing.Senders.{Senders}
 use Rattle.writerloop.specs.declared.writing.Writing.{Writing}
-use Rattle.writerloop.specs.Blamed.{WouldOverflow}
+use Rattle.writerloop.specs.Blamed.{WouldOverflow, blames_in}
 use Rattle.writerloop.specs.Orders.{Obeys, order_in, orders_of}
 use Rattle.writerloop.specs.Rest.{rest_calls}
 use Rattle.writerloop.specs.Sent.{AreApart, HasAll, IsBack, IsTold, got_of, handed_calls, opens}
 use Rattle.writerloop.specs.Spelled.{IsFront, IsAll}
 use Rattle.writerloop.specs.Written.{HasSent, HasWritten, IsFlushed, LedOut, core_of}
-use Rattle.writerloop.proofs.OrderSteps.{given-all, obeys-lost, obeys-more, unopened}
+use Rattle.writerloop.proofs.OrderSteps.{obeys-lost, obeys-more, unopened}
 use Rattle.writerloop.proofs.SentSteps.{apart-last, plain-front}
 use Rattle.writerloop.proofs.WrittenSteps.{among-opens}
 
@@ -77,17 +77,16 @@ module _ {J : Type 0} {naming : Ghosts J} where
 
 module _ {J W : Type 0} {naming : Ghosts J} {conn : ConnGhosts W} (contents : W → Option (List ℕ)) (failed : W → Bool) where
   -- what is left of a writer whose buffer is flushed
-  pub has-written : (before : Option (List ℕ)) (credit : ℕ) (writer : Writing J W naming conn) (device : W) (told : Option Ending) (faultless : Bool) → device ≡ writer.frames.device → IsFlushed writer
+  pub has-written : (before : Option (List ℕ)) (credit : ℕ) (writer : Writing J W naming conn) (device : W) (told : Option Ending) → device ≡ writer.frames.device → IsFlushed writer
       → (led : LedOut contents failed before credit writer)
       → TellOthers led.2.0
       → IsFront (frames_of led.2.0) before (contents device)
       → (writer.frames.standing ≢ stands.Broken → writer.frames.buffer.items ≡ [] → IsAll (frames_of led.2.0) before (contents device))
       → (told ≡ Some ending.WriteFailed → writer.frames.standing ≡ stands.Broken)
-      → (told ≢ Some ending.OutOfMemory → told ≢ Some ending.WriteFailed → (writer.inbox.has_lost ≡ false) × (writer.inbox.set_aside ≡ None))
+      → (told ≢ Some ending.OutOfMemory → told ≢ Some ending.WriteFailed → writer.inbox.has_lost ≡ false)
       → (told ≢ Some ending.OutOfMemory → told ≢ Some ending.WriteFailed → writer.frames.standing ≡ stands.Going)
-      → (faultless ≡ true → has_failed led.2.0 ≡ false)
-      → (written : HasWritten contents failed before credit (orders_of (taken writer.inbox.ring)) told faultless device) × (written.run ≡ led.2.0)
-  has-written before credit writer device told faultless same flushed led others front all broken each going clean =
+      → (written : HasWritten contents failed before credit (orders_of led.0) told false device) × (written.run ≡ led.2.0)
+  has-written before credit writer device told same flushed led others front all broken each going =
       let ends = led.2 in
       let standing = writer.frames.standing in
       let sound : failed device ≡ false → standing ≢ stands.Broken = λ unmarked stood. true≢false (sym (ap failed same ∙ ends.1.marked stood) ∙ unmarked) in (
@@ -95,33 +94,27 @@ module _ {J W : Type 0} {naming : Ghosts J} {conn : ConnGhosts W} (contents : W 
           run = ends.0;
           lawful = ends.1.leads.lawful;
           credited = ends.4;
-          some =
-              subst (λ (orders : List Order). Obeys true orders ends.0) (sym (given-all led.0 writer.inbox led.1))
-              (obeys-more (orders_of led.0) (orders_of (order_in writer.inbox.set_aside)) ends.0 (obeys-lost writer.inbox.has_lost (orders_of led.0) ends.0 ends.2));
-          each = λ spared sent.
-              let found = each spared sent in
-              let none : orders_of led.0 ≡ orders_of (taken writer.inbox.ring) =
-              sym (given-all led.0 writer.inbox led.1 ∙ (ap (λ (aside : Option (Control (Opening J naming))). orders_of led.0 ++ orders_of (order_in aside)) found.1 ∙ append-nil (orders_of led.0))) in
-              subst (λ (orders : List Order). Obeys false orders ends.0) none (subst (λ (lost : Bool). Obeys lost (orders_of led.0) ends.0) found.0 ends.2);
+          some = obeys-lost writer.inbox.has_lost (orders_of led.0) ends.0 ends.2;
+          each = λ spared sent. subst (λ (lost : Bool). Obeys lost (orders_of led.0) ends.0) (each spared sent) ends.2;
           others = others;
           marked = λ sent. ap failed same ∙ ends.1.marked (broken sent);
           front = front;
           all = λ unmarked. all (sound unmarked) (flushed (sound unmarked));
           over = λ spared sent. ends.5 (going spared sent);
-          sound = clean;
+          sound = λ is. absurd (true≢false (sym is));
         },
         refl,
       )
 
   -- what is left of its senders too
-  pub has-sent : (before : Option (List ℕ)) (credit : ℕ) (writer : Writing J W naming conn) (rest : Senders J naming) (device : W) (told : Option Ending) (faultless : Bool) (led : LedOut contents failed before credit writer)
-      → (written : HasWritten contents failed before credit (orders_of (taken writer.inbox.ring)) told faultless device) → written.run ≡ led.2.0
+  pub has-sent : (before : Option (List ℕ)) (credit : ℕ) (writer : Writing J W naming conn) (rest : Senders J naming) (device : W) (told : Option Ending) (led : LedOut contents failed before credit writer)
+      → (written : HasWritten contents failed before credit (orders_of led.0) told false device) → written.run ≡ led.2.0
       → rest.aside ≡ writer.inbox.set_aside → rest.sends ≡ writer.sends → rest.core.items ≡ core_of writer
       → TellFronts led.2.0 (calls got (core_of writer)) → TellReturned led.2.0
-      → (told ≢ Some ending.OutOfMemory → told ≢ Some ending.WriteFailed → (writer.inbox.has_lost ≡ false) × (writer.inbox.set_aside ≡ None))
       → ((code : ErrorCode) → told ≡ Some (ending.ProtocolError code) → (code ≡ FlowControlError) × (writer.blames ≡ true))
-      → HasSent contents failed before credit (taken writer.inbox.ring) rest told faultless device
-  has-sent before credit writer rest device told faultless led written same aside sends core fronts returned each blames =
+      → (told ≡ None → writer.blames ≡ false)
+      → HasSent contents failed before credit (taken writer.inbox.ring) rest told device
+  has-sent before credit writer rest device told led written same aside sends core fronts returned blames unblamed =
       let run : List Step = written.run in
       let are : taken writer.inbox.ring ≡ led.0 ++ order_in rest.aside = sym led.1 ∙ ap (λ (one : Option (Control (Opening J naming))). led.0 ++ order_in one) (sym aside) in
       let has : HasAll led.0 run rest.sends.calls.items rest.core.items (put_in rest.sends.home) =
@@ -135,12 +128,9 @@ module _ {J W : Type 0} {naming : Ghosts J} {conn : ConnGhosts W} (contents : W 
       (subst (λ (senders : List (ℕ × OutSender)). TellFronts led.2.0 (calls got senders)) (sym core) fronts) in
       let gives : TellReturned run = subst (λ (steps : List Step). TellReturned steps) (sym same) returned in
       record {
-        written = written;
         given = led.0;
         orders_are = are;
-        each = λ spared sent.
-            let found = each spared sent in
-            sym (append-nil led.0) ∙ (ap (λ (one : Option (Control (Opening J naming))). led.0 ++ order_in one) (sym (aside ∙ found.1)) ∙ sym are);
+        written = written;
         senders = has;
         told = λ apart.
             let parts : AreApart (led.0 ++ order_in rest.aside) = subst (λ (orders : List (Control (Opening J naming))). AreApart orders) are apart in
@@ -152,6 +142,7 @@ module _ {J W : Type 0} {naming : Ghosts J} {conn : ConnGhosts W} (contents : W 
         blames = λ code says.
             let found = blames code says in
             (found.0, subst (λ (steps : List Step). WouldOverflow 0 steps) (sym same) (led.2.3.blamed found.1));
+        unblamed = λ none found. led.2.3.unblamed (unblamed none) (sym (ap blames_in same) ∙ found);
       }
 
 -- the ending that is told names want of memory, a failed write or that orders are left where there is one
@@ -161,9 +152,8 @@ abbrev pub told-on : {W : Type 0} (contents : W → Option (List ℕ)) (failed :
     → (other ≡ Some ending.WriteFailed → one ≡ Some ending.WriteFailed)
     → (left : List Order) → took ++ left ≡ put
     → (other ≢ Some ending.OutOfMemory → other ≢ Some ending.WriteFailed → left ≡ [])
-    → (surely ≡ true → sure ≡ true)
-    → HasWritten contents failed before credit took one sure device → HasWritten contents failed before credit put other surely device
-told-on contents failed before credit took put one other sure surely device memory failing broken left parts none clean h = record {
+    → (h : HasWritten contents failed before credit took one sure device) → (surely ≡ true → has_failed h.run ≡ false) → HasWritten contents failed before credit put other surely device
+told-on contents failed before credit took put one other sure surely device memory failing broken left parts none h clean = record {
   run = h.run;
   lawful = h.lawful;
   credited = h.credited;
@@ -176,5 +166,5 @@ told-on contents failed before credit took put one other sure surely device memo
   front = h.front;
   all = h.all;
   over = λ spared sent. h.over (λ lacked. spared (memory lacked)) (λ broke. sent (failing broke spared));
-  sound = λ is. h.sound (clean is);
+  sound = clean;
 }

@@ -3,6 +3,7 @@ use Rattle.reasons.specs.declared.Reason.TheVariants as reason
 use Rattle.std.proofs.Common.{◌≡◌, ◌≢◌, ◌⊎◌, ◌∙◌, ◌+◌, ◌==◌, arith, inl, inr, ℕ, zero, suc, Bool, true, false, true≢false, List, [], ◌∷◌, ◌++◌, Option, None, Some, ap, append-nil, append_assoc, sym, refl, map, subst, if◌then◌else◌}
 use Rattle.std.specs.Prelude.{◌||◌, Contains, OnOk, OnErr, Result, Ok, Err, nat_eq, option_map}
 use Rattle.std.specs.List.{list_any}
+use Rattle.std.proofs.lemmas.Bool.{eqb-true}
 use Rattle.std.proofs.lemmas.Cmp.{nat_eq_equiv}
 use Rattle.std.proofs.lemmas.List.Elements.{Contains-append_left}
 use Rattle.std.proofs.lemmas.List.Sorted.{Contains-permutation, IsPermutation-sym}
@@ -42,7 +43,7 @@ use Rattle.writerloop.specs.declared.steps.Took.TheVariants as took
 use Rattle.writerloop.specs.declared.taking.Taking.{Taking}
 use Rattle.writerloop.specs.declared.taking.Taking.TheVariants.{Done, Ended, Unanswered, HandedBack}
 use Rattle.writerloop.specs.declared.writing.Writing.{Writing}
-use Rattle.writerloop.specs.Blamed.{WouldOverflow}
+use Rattle.writerloop.specs.Blamed.{WouldOverflow, blames_by, blames_in}
 use Rattle.writerloop.specs.Keys.{Keys_set}
 use Rattle.writerloop.specs.Left.{left_by, left_in}
 use Rattle.writerloop.specs.Orders.{Gives, HasGiven, IsAmong, IsWarning, Keeps, Obeys, OpensNone, Warns, closes, ends_input, order_in, orders_of, loses_by}
@@ -170,6 +171,9 @@ module _ {S : Type 0} where
   EndsAll (Ended id) = id ≡ 0
   EndsAll _ = ⊥
 
+  pub ends-by : (taking one : Taking S) → taking ≡ one → (EndsAll one → ⊥) → EndsAll taking → ⊥
+  ends-by taking one is other ends = other (subst (λ (found : Taking S). EndsAll found) is ends)
+
   pub ended-by : {B : Type 0} (taking : Taking S) (id : ℕ) → taking ≡ Ended id → (id ≡ 0) ⊎ B → EndsAll taking ⊎ B
   ended-by taking id is (inl none) = inl (subst (λ (one : Taking S). EndsAll one) (sym is) none)
   ended-by taking id is (inr other) = inr other
@@ -210,6 +214,63 @@ unused-plain (control.Reset id code written) plain = tt
 unused-plain (control.Goaway last cause) plain = tt
 unused-plain control.InputEnded plain = tt
 unused-plain control.Close plain = tt
+
+-- ---- a GOAWAY for a window
+
+or-left : (a b c : Bool) → (b ≡ true → c ≡ true) → (a || b) ≡ true → (a || c) ≡ true
+or-left true b c on is = refl
+or-left false b c on is = on is
+
+or-right : (a c : Bool) → c ≡ true → (a || c) ≡ true
+or-right true c is = refl
+or-right false c is = is
+
+own-spares-by : (first : Bool) (last id : ℕ) → (first ≡ true → ⊥) → blames_by (if first then control.Goaway last reason.Window else control.Reset id FlowControlError true) ≡ false
+own-spares-by true last id other = absurd (other refl)
+own-spares-by false last id other = refl
+
+-- what ends a stream doesn't end the connection
+own-spares : (last id : ℕ) → (id ≡ 0 → ⊥) → blames_by (own_order last id) ≡ false
+own-spares last id other = own-spares-by (id == 0) last id (λ is. other (eqb-true id 0 is))
+
+warns-spares : (order : Order) (run : List Step) → Warns order run → blames_by order ≡ false
+warns-spares order run (inl warns) = ap blames_by warns.0
+warns-spares order run (inr probes) = ap blames_by probes.0
+
+blames-frames : (frames : List Frame) (run : List Step) → blames_in (map Written frames ++ run) ≡ blames_in run
+blames-frames [] run = refl
+blames-frames (frame ∷ frames) run = blames-frames frames run
+
+module _ {S : Type 0} where
+  -- the core doesn't end the connection by an order that concerns no window
+  ends-none : (one : Control S) (taking : Taking S) (run : List Step) → ((id : ℕ) → Concerns (PeerWindow id) one → ⊥) → Blamed taking one run → EndsAll taking → ⊥
+  ends-none one Done run spares why ends = ends
+  ends-none one (Ended id) run spares why ends = spares id why.0
+  ends-none one (Unanswered id) run spares why ends = ends
+  ends-none one (HandedBack back) run spares why ends = ends
+
+  -- by an order of the writer's own, and what comes behind it
+  blames-own : (order : Order) (last : ℕ) (taking : Taking S) (run : List Step) → blames_by order ≡ false → (EndsAll taking → ⊥) → blames_in (steps_of order last taking ++ run) ≡ blames_in run
+  blames-own order last Done run none other = ap (λ (b : Bool). b || blames_in run) none
+  blames-own order last (Ended id) run none other =
+      ap (λ (b : Bool). b || (blames_by order || blames_in run)) (own-spares last id other) ∙ ap (λ (b : Bool). b || blames_in run) none
+  blames-own order last (Unanswered id) run none other = ap (λ (b : Bool). b || blames_in run) none
+  blames-own order last (HandedBack back) run none other = refl
+
+  -- by the next order, and what comes behind it
+  blames-steps : (order : Order) (last : ℕ) (taking : Taking S) (run : List Step) (orders : List Order) → (EndsAll taking → ⊥) → (blames_in run ≡ true → list_any blames_by orders ≡ true)
+      → blames_in (steps_of order last taking ++ run) ≡ true → list_any blames_by (orders ++ order ∷ []) ≡ true
+  blames-steps order last Done run orders other was is = sym (any-more blames_by orders order) ∙ or-left (blames_by order) (blames_in run) (list_any blames_by orders) was is
+  blames-steps order last (Ended id) run orders other was is =
+      sym (any-more blames_by orders order)
+      ∙ or-left (blames_by order) (blames_in run) (list_any blames_by orders) was (sym (ap (λ (b : Bool). b || (blames_by order || blames_in run)) (own-spares last id other)) ∙ is)
+  blames-steps order last (Unanswered id) run orders other was is = sym (any-more blames_by orders order) ∙ or-left (blames_by order) (blames_in run) (list_any blames_by orders) was is
+  blames-steps order last (HandedBack back) run orders other was is = sym (any-more blames_by orders order) ∙ or-right (blames_by order) (list_any blames_by orders) (was is)
+
+  blames-more : (orders : List (Control S)) (order : Control S) → list_any blames_by (orders_of orders) ≡ true → list_any blames_by (orders_of (orders ++ order ∷ [])) ≡ true
+  blames-more orders order is =
+      ap (λ (os : List Order). list_any blames_by os) (given-next orders order)
+      ∙ (sym (any-more blames_by (orders_of orders) (order_of order)) ∙ or-right (blames_by (order_of order)) (list_any blames_by (orders_of orders)) is)
 
 -- ---- the credit
 
@@ -342,32 +403,35 @@ module _ {J W : Type 0} {naming : Ghosts J} {conn : ConnGhosts W} where
   GoesOn steps old new = (orders : List (Control (Opening J naming))) (run : List Step) → Holds orders run old → Holds orders (steps ++ run) new
 
   pub goes-by : (steps : List Step) (old new : Writing J W naming conn) → SameSent old new → new.blames ≡ old.blames → ((run : List Step) (id : ℕ) → On run (steps ++ run) id)
-      → ((run : List Step) → left_in (steps ++ run) ≡ left_in run) → ((id : ℕ) → GaveLeft id (calls got (core_of old)) → GaveLeft id (calls got (core_of new))) → GoesOn steps old new
-  goes-by steps old new same blames on lefts gave orders run holds = record {
+      → ((run : List Step) → left_in (steps ++ run) ≡ left_in run) → ((run : List Step) → blames_in (steps ++ run) ≡ blames_in run)
+      → ((id : ℕ) → GaveLeft id (calls got (core_of old)) → GaveLeft id (calls got (core_of new))) → GoesOn steps old new
+  goes-by steps old new same blames on lefts spares gave orders run holds = record {
     senders =
         has-still orders run (steps ++ run) old.sends.calls.items new.sends.calls.items (core_of old) (core_of new) (put_in old.sends.home) (put_in new.sends.home) same.numbers same.way (on run)
         (λ id there. subst (λ (ids : List ℕ). Contains ids id) (lefts run) there) gave holds.senders;
     blamed = λ is. overflow-later 0 steps run (holds.blamed (sym blames ∙ is));
+    unblamed = λ calm found. holds.unblamed (sym blames ∙ calm) (sym (spares run) ∙ found);
   }
 
   gave-same : (old new : Writing J W naming conn) → core_of new ≡ core_of old → (id : ℕ) → GaveLeft id (calls got (core_of old)) → GaveLeft id (calls got (core_of new))
   gave-same old new core id gave = subst (λ (senders : List (ℕ × OutSender)). GaveLeft id (calls got senders)) (sym core) gave
 
   pub goes-none : (old new : Writing J W naming conn) → SameSent old new → new.blames ≡ old.blames → core_of new ≡ core_of old → GoesOn [] old new
-  goes-none old new same blames core = goes-by [] old new same blames on-same (λ run. refl) (gave-same old new core)
+  goes-none old new same blames core = goes-by [] old new same blames on-same (λ run. refl) (λ run. refl) (gave-same old new core)
 
   pub goes-granted : (id n : ℕ) (old new : Writing J W naming conn) → SameSent old new → new.blames ≡ old.blames → core_of new ≡ core_of old → GoesOn (Granted id n ∷ []) old new
-  goes-granted id n old new same blames core = goes-by (Granted id n ∷ []) old new same blames (on-granted id n) (λ run. refl) (gave-same old new core)
+  goes-granted id n old new same blames core = goes-by (Granted id n ∷ []) old new same blames (on-granted id n) (λ run. refl) (λ run. refl) (gave-same old new core)
 
   pub goes-frames : (frames : List Frame) (old new : Writing J W naming conn) → SameSent old new → new.blames ≡ old.blames
       → ((id : ℕ) → GaveLeft id (calls got (core_of old)) → GaveLeft id (calls got (core_of new))) → GoesOn (map Written frames) old new
-  goes-frames frames old new same blames gave = goes-by (map Written frames) old new same blames (on-frames frames) (left-frames frames) gave
+  goes-frames frames old new same blames gave = goes-by (map Written frames) old new same blames (on-frames frames) (left-frames frames) (blames-frames frames) gave
 
   -- an order that opens no call and resets none that was left
-  goes-plain : {S : Type 0} (order : Order) (last : ℕ) (taking : Taking S) (old new : Writing J W naming conn) → ((k : ℕ) → opens_stream k order ≡ false) → left_by order ≡ [] → SameSent old new → new.blames ≡ old.blames
-      → core_of new ≡ core_of old → GoesOn (steps_of order last taking) old new
-  goes-plain order last taking old new plain leaves same blames core =
-      goes-by (steps_of order last taking) old new same blames (λ run k. on-steps order last taking run k (plain k)) (λ run. left-steps order last taking run leaves) (gave-same old new core)
+  goes-plain : {S : Type 0} (order : Order) (last : ℕ) (taking : Taking S) (old new : Writing J W naming conn) → ((k : ℕ) → opens_stream k order ≡ false) → left_by order ≡ [] → blames_by order ≡ false → (EndsAll taking → ⊥)
+      → SameSent old new → new.blames ≡ old.blames → core_of new ≡ core_of old → GoesOn (steps_of order last taking) old new
+  goes-plain order last taking old new plain leaves spares other same blames core =
+      goes-by (steps_of order last taking) old new same blames (λ run k. on-steps order last taking run k (plain k)) (λ run. left-steps order last taking run leaves)
+      (λ run. blames-own order last taking run spares other) (gave-same old new core)
 
   pub knows-same : (orders : List Order) (old new : Writing J W naming conn) → (new.inbox.has_lost ≡ false → old.inbox.has_lost ≡ false) → SameKnown old new → Knows orders old → Knows orders new
   knows-same orders old new kept same knows = record {
@@ -491,7 +555,7 @@ module _ {J W : Type 0} {naming : Ghosts J} {conn : ConnGhosts W} (contents : W 
       → SameSent old new → new.blames ≡ old.blames → old.frames.standing ≡ stands.OutOfMemory → new.frames.standing ≡ old.frames.standing → StaysOn contents failed lost true old new
   parts-on last lost old new on core same blames memory still =
       let goes : GoesOn (parting last true) old new =
-      goes-by (parting last true) old new same blames (λ run k. on-taken (control.Goaway last reason.Memory) run k refl) (λ run. refl) (gave-same old new core) in record {
+      goes-by (parting last true) old new same blames (λ run k. on-taken (control.Goaway last reason.Memory) run k refl) (λ run. refl) (λ run. refl) (gave-same old new core) in record {
         runs = λ orders before credit runs. (
           parting last true ++ runs.0,
           on before runs.0 runs.1,
@@ -537,8 +601,9 @@ module _ {J W : Type 0} {naming : Ghosts J} {conn : ConnGhosts W} (contents : W 
   pub given-on : (one : Control OutSender) (last : ℕ) (taking : Taking OutSender) (old new : Writing J W naming conn) → OpensNone one
       → WritesOn got contents failed (steps_of (order_of one) last taking) old.frames new.frames
       → ((before : Option (List ℕ)) (run : List Step) → Wrote got contents failed before run old.frames → Blamed taking one run)
-      → core_of new ≡ core_of old → SameSent old new → (new.blames ≡ true → EndsAll taking ⊎ (old.blames ≡ true)) → new.inbox.has_lost ≡ loses_by taking → Takes contents failed (order_of one) old new
-  given-on one last taking old new plain on blamed core same blames lost orders order before credit is runs =
+      → core_of new ≡ core_of old → SameSent old new → (new.blames ≡ true → EndsAll taking ⊎ (old.blames ≡ true)) → (new.blames ≡ false → (EndsAll taking → ⊥) × (old.blames ≡ false))
+      → new.inbox.has_lost ≡ loses_by taking → Takes contents failed (order_of one) old new
+  given-on one last taking old new plain on blamed core same blames spares lost orders order before credit is runs =
       let steps : List Step = steps_of (order_of one) last taking in
       let why : Blamed taking one runs.0 = blamed before runs.0 runs.1 in
       subst (λ (found : Bool). Runs contents failed found (orders ++ order ∷ []) before credit new) (sym lost) (
@@ -553,6 +618,9 @@ module _ {J W : Type 0} {naming : Ghosts J} {conn : ConnGhosts W} (contents : W 
               (λ none k there. subst (λ (ids : List ℕ). Contains ids k) (left-steps (order_of one) last taking runs.0 (ap (λ (o : Order). left_by o) (sym is) ∙ none)) there)
               (gave-same old new core) runs.3.senders;
           blamed = λ says. by runs why (blames says);
+          unblamed = λ calm found.
+              ap (λ (os : List Order). list_any blames_by os) (given-next orders order ∙ ap (λ (o : Order). orders_of orders ++ o ∷ []) is)
+              ∙ blames-steps (order_of one) last taking runs.0 (orders_of orders) (spares calm).0 (runs.3.unblamed (spares calm).1) found;
         },
         granted-steps (order_of one) last taking runs.0 credit runs.4,
       )
@@ -587,6 +655,7 @@ module _ {J W : Type 0} {naming : Ghosts J} {conn : ConnGhosts W} (contents : W 
     record {
       senders = has-opened id opening sender orders runs.0 old.sends.calls.items new.sends.calls.items (core_of old) (core_of new) (put_in old.sends.home) (put_in new.sends.home) more way brings runs.3.senders;
       blamed = λ is. overflow-later 0 (Taken (control.Open id tt) ∷ []) runs.0 (runs.3.blamed (sym blames ∙ is));
+      unblamed = λ calm found. blames-more orders (control.Open id opening) (runs.3.unblamed (sym blames ∙ calm) found);
     },
     granted-none (Taken (control.Open id tt)) runs.0 credit refl runs.4,
   )
@@ -599,7 +668,8 @@ module _ {J W : Type 0} {naming : Ghosts J} {conn : ConnGhosts W} (contents : W 
     steps_of (control.Goaway last reason.Memory) last taking ++ runs.0,
     on before runs.0 runs.1,
     obeys-parting last taking (orders_of orders) runs.0 (blamed before runs.0 runs.1) runs.2,
-    goes-plain (control.Goaway last reason.Memory) last taking old new (λ k. refl) refl same blames core orders runs.0 runs.3,
+    goes-plain (control.Goaway last reason.Memory) last taking old new (λ k. refl) refl refl
+        (ends-none (control.Goaway last reason.Memory) taking runs.0 (λ id concerns. concerns) (blamed before runs.0 runs.1)) same blames core orders runs.0 runs.3,
     granted-steps (control.Goaway last reason.Memory) last taking runs.0 credit runs.4,
   )
 
@@ -619,6 +689,10 @@ module _ {J W : Type 0} {naming : Ghosts J} {conn : ConnGhosts W} (contents : W 
               tt same.numbers same.way (λ k. on-steps control.Close last taking runs.0 k refl)
               (λ none k there. subst (λ (ids : List ℕ). Contains ids k) (left-steps control.Close last taking runs.0 refl) there) (gave-same old new core) runs.3.senders;
           blamed = λ is. overflow-later 0 steps runs.0 (runs.3.blamed (sym blames ∙ is));
+          unblamed = λ calm found.
+              ap (λ (os : List Order). list_any blames_by os) (given-next orders control.Close)
+              ∙ blames-steps control.Close last taking runs.0 (orders_of orders) (ends-none control.Close taking runs.0 (λ id concerns. concerns) (blamed before runs.0 runs.1))
+              (runs.3.unblamed (sym blames ∙ calm)) found;
         },
         granted-steps control.Close last taking runs.0 credit runs.4,
       )
@@ -634,6 +708,7 @@ module _ {J W : Type 0} {naming : Ghosts J} {conn : ConnGhosts W} (contents : W 
           has-plain order orders runs.0 runs.0 old.sends.calls.items new.sends.calls.items (core_of old) (core_of new) (put_in old.sends.home) (put_in new.sends.home)
           plain same.numbers same.way (on-same runs.0) (λ none k there. there) (gave-same old new (ap (λ (writes : FrameWriter W). writes.core.sending.senders.items) frames)) runs.3.senders;
       blamed = λ is. runs.3.blamed (sym blames ∙ is);
+      unblamed = λ calm found. blames-more orders order (runs.3.unblamed (sym blames ∙ calm) found);
     },
     runs.4,
   )
@@ -652,6 +727,7 @@ module _ {J W : Type 0} {naming : Ghosts J} {conn : ConnGhosts W} (contents : W 
           (λ among. let found = among-opens orders id among in apart-last orders id opening apart found.0 found.1) runs.2))
           same (ap (λ (writes : FrameWriter W). writes.core.sending.senders.items) frames) home.2 runs.3.senders;
       blamed = λ is. runs.3.blamed (sym blames ∙ is);
+      unblamed = λ calm found. blames-more orders (control.Open id opening) (runs.3.unblamed (sym blames ∙ calm) found);
     },
     runs.4,
   )
@@ -673,6 +749,10 @@ module _ {J W : Type 0} {naming : Ghosts J} {conn : ConnGhosts W} (contents : W 
               has-reset id orders runs.0 (steps ++ runs.0) old.sends.calls.items new.sends.calls.items (core_of old) (core_of new) (put_in old.sends.home) (put_in new.sends.home)
               same.numbers same.way (λ k. on-steps (control.Reset id InternalError true) last taking runs.0 k refl) (λ k. lefts taking k runs.0 (blamed before runs.0 runs.1)) core gave runs.3.senders;
           blamed = λ is. overflow-later 0 steps runs.0 (runs.3.blamed (sym blames ∙ is));
+          unblamed = λ calm found.
+              runs.3.unblamed (sym blames ∙ calm)
+              (sym (blames-own (control.Reset id InternalError true) last taking runs.0 refl
+              (ends-none (control.Reset id InternalError true) taking runs.0 (λ k concerns. concerns) (blamed before runs.0 runs.1))) ∙ found);
         },
         granted-steps (control.Reset id InternalError true) last taking runs.0 credit runs.4,
       )
@@ -700,7 +780,8 @@ module _ {J W : Type 0} {naming : Ghosts J} {conn : ConnGhosts W} (contents : W 
     steps_of (order_of one) last taking ++ runs.0,
     on before runs.0 runs.1,
     obeys-warning one last taking (orders_of orders) runs.0 (blamed before runs.0 runs.1) (mild one own).spares ((mild one own).room runs.0) (warns before runs.0 runs.1) runs.2,
-    goes-plain (order_of one) last taking old new (λ k. plain-opens one k (mild one own).plain) (mild one own).leaves same blames core orders runs.0 runs.3,
+    goes-plain (order_of one) last taking old new (λ k. plain-opens one k (mild one own).plain) (mild one own).leaves (warns-spares (order_of one) runs.0 (warns before runs.0 runs.1))
+        (ends-none one taking runs.0 (mild one own).spares (blamed before runs.0 runs.1)) same blames core orders runs.0 runs.3,
     granted-steps (order_of one) last taking runs.0 credit runs.4,
   )
 
@@ -953,6 +1034,7 @@ module _ {J W : Type 0} {naming : Ghosts J} {conn : ConnGhosts W} (contents : W 
       record {
         senders = has-none writer.sends.calls.items (core_of writer) (put_in writer.sends.home) empty home;
         blamed = λ is. absurd (true≢false (sym is ∙ blameless));
+        unblamed = λ calm found. absurd (true≢false (sym found));
       },
       refl,
     ),
@@ -973,6 +1055,7 @@ module _ {J W : Type 0} {naming : Ghosts J} {conn : ConnGhosts W} where
   goes-returned id sender old new hands releases blames orders run holds = record {
     senders = has-returned id sender orders run old.sends.calls.items new.sends.calls.items (core_of old) (core_of new) (put_in old.sends.home) (put_in new.sends.home) hands releases holds.senders;
     blamed = λ is. overflow-later 0 (Returned id (got sender.rx) ∷ []) run (holds.blamed (sym blames ∙ is));
+    unblamed = λ calm found. holds.unblamed (sym blames ∙ calm) found;
   }
 
 module _ {J W : Type 0} {naming : Ghosts J} {conn : ConnGhosts W} (contents : W → Option (List ℕ)) (failed : W → Bool) where
@@ -1081,7 +1164,7 @@ module _ {J W : Type 0} {naming : Ghosts J} {conn : ConnGhosts W} (contents : W 
       → SameSent old new → new.blames ≡ old.blames → LeadsOn contents failed old new
   leads-looked old new inbox known on same sent blames =
       leads-still contents failed old new inbox known (λ lost. runs-same contents failed lost old new on
-      (goes-by [] old new sent blames on-same (λ run. refl) (λ id gave. subst (λ (all : List (ℕ × List OutItem)). GaveLeft id all) (sym same) gave)))
+      (goes-by [] old new sent blames on-same (λ run. refl) (λ run. refl) (λ id gave. subst (λ (all : List (ℕ × List OutItem)). GaveLeft id all) (sym same) gave)))
 
 abbrev one-of : OutItem → Option OutItem → OutItem
 one-of other None = other

@@ -1,5 +1,5 @@
 -- What the writer of a connection wrote: the frames of a lawful run of its core, as far as they went out.
-use Rattle.std.specs.Prelude.{◌≡◌, ◌≢◌, ◌||◌, All, ℕ, Bool, true, false, List, [], ◌∷◌, ◌++◌, Option, Some, slice_get}
+use Rattle.std.specs.Prelude.{◌≡◌, ◌≢◌, ◌||◌, All, ℕ, Bool, true, false, List, [], ◌∷◌, ◌++◌, Option, None, Some, slice_get}
 use Rattle.std.specs.List.{list_any}
 use Rattle.account.specs.declared.call.OutItem.{OutItem}
 use Rattle.lane.specs.declared.ring_lane.RingLane.{RingLane}
@@ -33,7 +33,7 @@ use Rattle.writerloop.specs.declared.steps.Rest.{Rest}
 use Rattle.writerloop.specs.declared.steps.Rest.TheVariants as rests
 use Rattle.writerloop.specs.declared.writing.Senders.{Senders}
 use Rattle.writerloop.specs.declared.writing.Writing.{Writing}
-use Rattle.writerloop.specs.Blamed.{WouldOverflow}
+use Rattle.writerloop.specs.Blamed.{WouldOverflow, blames_by, blames_in}
 use Rattle.writerloop.specs.Orders.{HasGiven, Obeys, closes, ends_input, order_in, orders_of}
 use Rattle.writerloop.specs.Rest.{rest_calls}
 use Rattle.writerloop.specs.Sent.{AreApart, HasAll, IsTold, handed_calls, ids_of}
@@ -59,10 +59,12 @@ module _ {J W : Type 0} {naming : Ghosts J} {conn : ConnGhosts W} where
   abbrev pub stream_at : ℕ → Writing J W naming conn → Option ℕ
   stream_at n writer = slice_get (ids_of writer.sends.calls.items) n
 
-  -- No sender of these orders' calls is lost, and the writer blames its peer for none but by its run.
+  -- No sender of these orders' calls is lost. The writer blames its peer for none but by its run; and where it blames it for none, no GOAWAY for that
+  -- was taken, unless one was ordered.
   pub record Holds (orders : List (Control (Opening J naming))) (run : List Step) (writer : Writing J W naming conn) : Type 0 where
     pub senders : HasAll orders run writer.sends.calls.items (core_of writer) (put_in writer.sends.home)
     pub blamed : writer.blames ≡ true → WouldOverflow 0 run
+    pub unblamed : writer.blames ≡ false → blames_in run ≡ true → list_any blames_by (orders_of orders) ≡ true
 
   -- whether the input has ended by these orders, and that no more come
   pub record Knows (orders : List Order) (writer : Writing J W naming conn) : Type 0 where
@@ -188,15 +190,16 @@ pub record HasWritten {W : Type 0} (contents : W → Option (List ℕ)) (failed 
   -- no GOAWAY with an error was ordered, by either side
   pub sound : faultless ≡ true → has_failed run ≡ false
 
--- A device has that; and of each call that the orders opened the sender was handed back, or is among the rest: no more was told of the call than it got.
+-- A device has that, by these orders, but for one that may be set aside still; and of each call that they opened the sender was handed back, or is among
+-- the rest: no more was told of the call than it got.
 pub record HasSent {J W : Type 0} {naming : Ghosts J} (contents : W → Option (List ℕ)) (failed : W → Bool) (before : Option (List ℕ)) (credit : ℕ)
-    (orders : List (Control (Opening J naming))) (rest : Senders J naming) (ending : Option Ending) (faultless : Bool) (device : W) : Type 0 where
-  pub written : HasWritten contents failed before credit (orders_of orders) ending faultless device
-  -- an order may be set aside still, but not where memory didn't run out and no write failed
+    (orders : List (Control (Opening J naming))) (rest : Senders J naming) (ending : Option Ending) (device : W) : Type 0 where
   pub given : List (Control (Opening J naming))
   pub orders_are : orders ≡ given ++ order_in rest.aside
-  pub each : ending ≢ Some OutOfMemory → ending ≢ Some WriteFailed → given ≡ orders
+  pub written : HasWritten contents failed before credit (orders_of given) ending false device
   pub senders : HasAll given written.run rest.sends.calls.items rest.core.items (put_in rest.sends.home)
   pub told : AreApart orders → All (IsTold written.run) (rest_calls rest ++ handed_calls senders.handed)
   -- the connection ended with no error but for its own window, or for an initial size
   pub blames : (code : ErrorCode) → ending ≡ Some (ProtocolError code) → (code ≡ FlowControlError) × WouldOverflow 0 written.run
+  -- where it ended since all was written, it told no such error, unless one was ordered
+  pub unblamed : ending ≡ None → blames_in written.run ≡ true → list_any blames_by (orders_of given) ≡ true

@@ -9,7 +9,7 @@ ghost use Rattle.device.specs.Bytes.{AppendsPrefix};
 ghost use Rattle.flow.specs.Windows.{room};
 ghost use Rattle.outwriter.specs.Calls.{TellFronts, TellReturned, TellOthers};
 ghost use Rattle.outwriter.specs.Cores.{calls, lanes, open_stream, takes_credit, IsUnused};
-ghost use Rattle.outwriter.specs.Drains.{has_failed, is_going_away, was_probed};
+ghost use Rattle.outwriter.specs.Drains.{is_going_away, was_probed};
 ghost use Rattle.outwriter.specs.Frames.{IsSound, ends_stream};
 ghost use Rattle.outwriter.specs.LeftCalls.{GaveLeft, WasLeft, WasNotLeftAt};
 ghost use Rattle.outwriter.specs.Polls.{coming};
@@ -165,15 +165,6 @@ impl<L: Lane<Item = OutItem>, W: ConnWrite> Frames<L, W> {
         ensures value { result ≡ (not self.now.core.is_dead && not self.now.core.has_probed) }
     {
         self.core.may_probe()
-    }
-
-    /// Whether no error was told by GOAWAY, nor is to be.
-    pub fn is_faultless(&self) -> bool
-        ensures none { result ≡ true → (before : Option (List ℕ)) (run : List Step)
-            → Wrote L.got W.contents W.failed before run self.now → has_failed run ≡ false }
-        ensures value { result ≡ (not self.now.core.is_dead && not self.now.core.has_failed) }
-    {
-        self.core.is_faultless()
     }
 
     /// Takes an order. Where the peer's window overflows by it, the writer ends the stream or the connection by an order

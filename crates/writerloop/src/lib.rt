@@ -9,7 +9,7 @@
 //!
 //! - `inbox`: the writing side's end of the ring of orders; `sends`: the calls that are sent; `opening`: how one begins.
 //! - `frames`: core, buffer and device, with `standing`, `taking` and `filled` for its answers.
-//! - `steps`: what a step answers; `writing`: the machine.
+//! - `steps`: what a step answers; `writing`: the machine; `writer_ending`: how it ends by itself.
 //!
 //! `specs/Orders.antt` says when a run of the core obeys orders, `specs/Spelled.antt` and `specs/Wrote.antt` what of its frames was
 //! written, and `specs/Sent.antt` where each call's sender is; each step leads on by these (`specs/Written.antt`).
@@ -23,6 +23,7 @@ mod sends;
 mod standing;
 pub mod steps;
 mod taking;
+mod writer_ending;
 pub mod writing;
 
 pub use filled::Filled;
@@ -31,4 +32,5 @@ pub use inbox::Inbox;
 pub use standing::Standing;
 pub use steps::{Rest, Took, Waiting};
 pub use taking::Taking;
+pub use writer_ending::WriterEnding;
 pub use writing::{Senders, Writing, Written};

@@ -12,8 +12,9 @@ use crate::sends::Sends;
 use crate::standing::Standing;
 use crate::steps::{Rest, Took, Waiting};
 use crate::taking::Taking;
+use crate::writer_ending::WriterEnding;
 use callbox::Sender;
-use callparts::{Ending, Naming, Opening, Order, OutLane, Returning};
+use callparts::{Naming, Opening, Order, OutLane, Returning};
 use device::{ConnWrite, DeviceFault};
 use h2frame::{ErrorCode, StreamId};
 use lane::{RingIn, RingOut};
@@ -44,12 +45,11 @@ pub struct Writing<J: Naming, W: ConnWrite> {
     ghost aligned: { keys sends.calls.items ≡ core_keys frames.core.sending.senders.items } by { Keys_set (keys sends.calls.items) (core_keys frames.core.sending.senders.items) },
 }
 
-/// What a writer hands back: how the connection ended as far as it sees, whether no error was told
-/// by GOAWAY, what it wrote to, its end of the ring of orders, and the senders that didn't go back before.
+/// What a writer hands back: how it ended, or nothing where all was written, what it wrote to, its
+/// end of the ring of orders, and the senders that didn't go back before.
 #[derive(Drop)]
 pub struct Written<J: Naming, W: ConnWrite + Drop> {
-    pub ending: Option<Ending>,
-    pub is_faultless: bool,
+    pub ending: Option<WriterEnding>,
     pub device: W,
     pub orders: RingOut<Order<J>>,
     pub rest: Senders<J>,
@@ -145,11 +145,12 @@ impl<J: Naming, W: ConnWrite + Drop> Writing<J, W> {
     ghost use Rattle.writerloop.specs.declared.steps.Rest.TheVariants as rest;
     ghost use Rattle.writerloop.specs.declared.steps.Took.TheVariants as took;
     ghost use Rattle.writerloop.specs.declared.steps.Waiting.TheVariants as waiting;
-    ghost use Rattle.writerloop.specs.Orders.{IsWarning, OpensNone, TakesNoWindow, Warns, closes, orders_of, waiting_of};
+    ghost use Rattle.writerloop.specs.Orders.{IsWarning, OpensNone, TakesNoWindow, Warns, closes, waiting_of};
     ghost use Rattle.writerloop.specs.OwnOrders.{Blamed, steps_of};
     ghost use Rattle.writerloop.specs.Sent.{SameCalls};
     ghost use Rattle.writerloop.specs.Wrote.{WritesOn, Wrote};
-    ghost use Rattle.writerloop.specs.Written.{Begins, HasSent, HasWritten, Heeds, IsFlushed, Led, core_of};
+    ghost use Rattle.writerloop.specs.Endings.{ending_told};
+    ghost use Rattle.writerloop.specs.Written.{Begins, HasSent, Heeds, IsFlushed, Led, core_of};
     ghost use Rattle.writerloop.specs.Written.{LedOut, LeadsOn, LeadsOut, LeadsTo, Parts};
     ghost use Rattle.writerloop.specs.Written.{PassesOver, Stays, Takes, rest_of, stream_at};
 
@@ -388,6 +389,7 @@ impl<J: Naming, W: ConnWrite + Drop> Writing<J, W> {
         ensures input { self.new.input_ended ≡ self.old.input_ended }
         ensures closed { self.new.closed ≡ self.old.closed }
         ensures blames { self.new.blames ≡ true → (id ≡ 0) ⊎ (self.old.blames ≡ true) }
+        ensures spares { self.new.blames ≡ false → (id ≢ 0) × (self.old.blames ≡ false) }
         ensures stops { result ≡ took.Stops → self.new.blames ≡ true }
         ensures ends { result ≢ took.Lost }
     {
@@ -771,16 +773,11 @@ impl<J: Naming, W: ConnWrite + Drop> Writing<J, W> {
     /// What is handed back once no more is to be written.
     pub fn into_end(self) -> Written<J, W>
         requires flushed { IsFlushed self }
-        ensures written { (before : Option (List ℕ)) (credit : ℕ)
-            → LedOut W.contents W.failed before credit self
-            → HasWritten W.contents W.failed before credit (orders_of (taken result.orders))
-            result.ending result.is_faultless result.device }
-
         // With the senders of all calls, which tell what was sent of each.
         ensures sent { (before : Option (List ℕ)) (credit : ℕ)
             → LedOut W.contents W.failed before credit self
             → HasSent W.contents W.failed before credit (taken result.orders) result.rest
-            result.ending result.is_faultless result.device }
+            (ending_told result.ending) result.device }
         ensures ring { result.orders ≡ self.inbox.ring }
         ensures way { result.rest.sends.home ≡ self.sends.home }
     {
@@ -791,7 +788,6 @@ impl<J: Naming, W: ConnWrite + Drop> Writing<J, W> {
             sends,
             ..
         } = self;
-        let is_faultless = frames.is_faultless();
         let (core, device) = frames.into_parts();
         let Inbox {
             ring,
@@ -800,7 +796,6 @@ impl<J: Naming, W: ConnWrite + Drop> Writing<J, W> {
         } = inbox;
         Written {
             ending,
-            is_faultless,
             device,
             orders: ring,
             rest: Senders {
@@ -811,31 +806,30 @@ impl<J: Naming, W: ConnWrite + Drop> Writing<J, W> {
         }
     }
 
-    fn ending(&self) -> Option<Ending>
+    /// How the writer ended; nothing, where all was written.
+    fn ending(&self) -> Option<WriterEnding>
         ensures memory { self.now.frames.standing ≡ stands.OutOfMemory
-            → result ≡ Some ending.OutOfMemory }
-        ensures broken { result ≡ Some ending.WriteFailed
+            → ending_told result ≡ Some ending.OutOfMemory }
+        ensures broken { ending_told result ≡ Some ending.WriteFailed
             → self.now.frames.standing ≡ stands.Broken }
-        ensures each { result ≢ Some ending.OutOfMemory → result ≢ Some ending.WriteFailed
-            → (self.now.inbox.has_lost ≡ false) × (self.now.inbox.set_aside ≡ None) }
-        ensures going { result ≢ Some ending.OutOfMemory → result ≢ Some ending.WriteFailed
+        ensures each { ending_told result ≢ Some ending.OutOfMemory
+            → ending_told result ≢ Some ending.WriteFailed
+            → self.now.inbox.has_lost ≡ false }
+        ensures going { ending_told result ≢ Some ending.OutOfMemory
+            → ending_told result ≢ Some ending.WriteFailed
             → self.now.frames.standing ≡ stands.Going }
-        ensures blames { (code : Code) → result ≡ Some (ending.ProtocolError code)
+        ensures blames { (code : Code) → ending_told result ≡ Some (ending.ProtocolError code)
             → (code ≡ FlowControlError) × (self.now.blames ≡ true) }
-        ensures blamed { self.now.blames ≡ true → result ≢ Some ending.OutOfMemory
-            → result ≢ Some ending.WriteFailed
-            → result ≡ Some (ending.ProtocolError FlowControlError) }
+        ensures unblamed { ending_told result ≡ None → self.now.blames ≡ false }
     {
         if self.inbox.has_lost {
-            return Some(Ending::OutOfMemory);
+            return Some(WriterEnding::OutOfMemory);
         }
         match self.frames.standing() {
-            Standing::OutOfMemory => Some(Ending::OutOfMemory),
-            Standing::Broken => Some(Ending::WriteFailed),
-            // It doesn't come that an order is set aside still.
-            Standing::Going if self.inbox.set_aside.is_some() => Some(Ending::OutOfMemory),
+            Standing::OutOfMemory => Some(WriterEnding::OutOfMemory),
+            Standing::Broken => Some(WriterEnding::WriteFailed),
             Standing::Going if self.blames => {
-                Some(Ending::ProtocolError(ErrorCode::FlowControlError))
+                Some(WriterEnding::ProtocolError(ErrorCode::FlowControlError))
             }
             Standing::Going => None,
         }

@@ -22,6 +22,7 @@ pub returns-then-try_close : goal.returns-then-try_close
 returns-then-try_close g c = record {
   collects = collects-then _ _ _ c.tries.invariant.0 c.settle_all.ensures.collects;
   put = behind _ _ _ Close (c.try_close.ensures.put c.if-try_close.true) (ap put_of c.settle_all.ensures.orders ∙ c.tries.invariant.1);
+  none_left = c.try_close.ensures.none_left c.if-try_close.true;
   dropped = c.try_close.ensures.dropped ∙ (ap (λ orders. orders.has_dropped) c.settle_all.ensures.orders ∙ c.tries.invariant.2);
   unput = c.try_close.ensures.unput ∙ (ap (λ orders. orders.unput) c.settle_all.ensures.orders ∙ c.tries.invariant.3);
 }

@@ -24,7 +24,7 @@ returns-clause-ended g c = λ sent told carried reads.
             let all = orders_by (cuts.0 ++ told) ++ InputEnded ∷ [] in
             closed-behind all c.join_all.new.self.orders c.close.new.self.orders c.close.ensures.put c.close.ensures.dropped c.close.ensures.unput
             (ordered-same all c.ring.new.self c.join_all.new.self.orders (same-of c.ring.new.self c.join_all.new.self.orders c.join_all.ensures.orders)
-            (ordered-same all c.put.new.self c.ring.new.self (c.ring.ensures.outbox, c.ring.ensures.dropped, c.ring.ensures.unput)
+            (ordered-same all c.put.new.self c.ring.new.self (c.ring.ensures.outbox, c.ring.ensures.dropped, c.ring.ensures.unput, c.ring.ensures.backlog)
             (ordered-put (orders_by (cuts.0 ++ told)) _ c.cut_all.new.self.orders c.put.new.self c.put.ensures.puts tt (cuts.1.ordered ordered))));
       },
     )

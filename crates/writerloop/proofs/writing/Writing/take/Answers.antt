@@ -10,7 +10,8 @@ use Rattle.writerloop.specs.OwnOrders.{steps_of}
 use Rattle.writerloop.specs.Sent.{numbers}
 use Rattle.writerloop.specs.Written.{Heeds, Takes}
 use Rattle.writerloop.specs.Wrote.{WritesOn}
-use Rattle.writerloop.proofs.WrittenSteps.{ended-by, given-on, takes-from}
+use Rattle.writerloop.specs.declared.taking.Taking.TheVariants.{Done, Ended}
+use Rattle.writerloop.proofs.WrittenSteps.{ended-by, ends-by, given-on, takes-from}
 use Rattle.writerloop.proofs.writing.Writing.take.Goals as goal
 use Rattle.writerloop.proofs.writing.Writing.take.Goals.{in-Done, in-Ended, in-Unanswered, in-HandedBack}
 
@@ -36,6 +37,7 @@ returns-clause-takes g c = elim c.match-give.branch [
       (takes-from g.W.ConnWrite.contents g.W.ConnWrite.failed (order_of c.args.order) c.args.self.now c.note.new.self c.give.new.self c.note.ensures.frames (record { numbers = c.note.ensures.calls.numbers; way = ap put_in c.note.ensures.way }) c.note.ensures.blames
       (given-on g.W.ConnWrite.contents g.W.ConnWrite.failed c.args.order c.args.last c.give.result c.note.new.self c.give.new.self c.requires.plain c.give.ensures.wrote c.give.ensures.blamed c.give.ensures.core
       (record { numbers = ap (λ sends. numbers sends.calls.items) c.give.ensures.sends; way = ap (λ sends. put_in sends.home) c.give.ensures.sends }) (λ is. inr (sym c.give.ensures.blames ∙ is))
+      (λ calm. (ends-by c.give.result Done w.in-Done.is (λ ends. ends), sym c.give.ensures.blames ∙ calm))
       (ap (λ inbox. inbox.has_lost) (c.give.ensures.inbox ∙ c.note.ensures.inbox) ∙ (c.requires.kept ∙ sym (ap (λ taking. loses_by taking) w.in-Done.is)))))
   | in-Ended w ↦
       subst (λ new. Takes g.W.ConnWrite.contents g.W.ConnWrite.failed (order_of c.args.order) c.args.self.now new) (sym w.self-is)
@@ -48,6 +50,7 @@ returns-clause-takes g c = elim c.match-give.branch [
         numbers = w.end.ensures.calls.numbers ∙ ap (λ sends. numbers sends.calls.items) c.give.ensures.sends;
         way = ap put_in w.end.ensures.way ∙ ap (λ sends. put_in sends.home) c.give.ensures.sends;
       }) (λ is. ended-by c.give.result w.in-Ended.id w.in-Ended.is (ended-or (w.end.ensures.blames is)))
+      (λ calm. (ends-by c.give.result (Ended w.in-Ended.id) w.in-Ended.is (w.end.ensures.spares calm).0, sym c.give.ensures.blames ∙ (w.end.ensures.spares calm).1))
       (ap (λ inbox. inbox.has_lost) (w.end.ensures.inbox ∙ (c.give.ensures.inbox ∙ c.note.ensures.inbox)) ∙ (c.requires.kept ∙ sym (ap (λ taking. loses_by taking) w.in-Ended.is)))))
   | in-Unanswered w ↦
       subst (λ new. Takes g.W.ConnWrite.contents g.W.ConnWrite.failed (order_of c.args.order) c.args.self.now new) (sym w.self-is)
@@ -60,6 +63,7 @@ returns-clause-takes g c = elim c.match-give.branch [
         numbers = ap (λ one. numbers one.sends.calls.items) w.lose.ensures.rest ∙ ap (λ sends. numbers sends.calls.items) c.give.ensures.sends;
         way = ap (λ one. put_in one.sends.home) w.lose.ensures.rest ∙ ap (λ sends. put_in sends.home) c.give.ensures.sends;
       }) (λ is. inr (sym (ap (λ one. one.blames) w.lose.ensures.rest ∙ c.give.ensures.blames) ∙ is))
+      (λ calm. (ends-by c.give.result _ w.in-Unanswered.is (λ ends. ends), sym (ap (λ one. one.blames) w.lose.ensures.rest ∙ c.give.ensures.blames) ∙ calm))
       (ap (λ one. one.inbox.has_lost) w.lose.ensures.rest ∙ sym (ap (λ taking. loses_by taking) w.in-Unanswered.is))))
   | in-HandedBack w ↦
       subst (λ new. Takes g.W.ConnWrite.contents g.W.ConnWrite.failed (order_of c.args.order) c.args.self.now new) (sym w.self-is)
@@ -72,6 +76,7 @@ returns-clause-takes g c = elim c.match-give.branch [
         numbers = ap (λ one. numbers one.sends.calls.items) w.lose-in-HandedBack.ensures.rest ∙ ap (λ sends. numbers sends.calls.items) c.give.ensures.sends;
         way = ap (λ one. put_in one.sends.home) w.lose-in-HandedBack.ensures.rest ∙ ap (λ sends. put_in sends.home) c.give.ensures.sends;
       }) (λ is. inr (sym (ap (λ one. one.blames) w.lose-in-HandedBack.ensures.rest ∙ c.give.ensures.blames) ∙ is))
+      (λ calm. (ends-by c.give.result _ w.in-HandedBack.is (λ ends. ends), sym (ap (λ one. one.blames) w.lose-in-HandedBack.ensures.rest ∙ c.give.ensures.blames) ∙ calm))
       (ap (λ one. one.inbox.has_lost) w.lose-in-HandedBack.ensures.rest ∙ sym (ap (λ taking. loses_by taking) w.in-HandedBack.is))))
 ]
   where
