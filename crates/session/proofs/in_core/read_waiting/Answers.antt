@@ -1,12 +1,12 @@
 use Rattle.session.proofs.Reading.{reader_shrinks, reads_next, reads_none, reads_end, reads_on, sound_at}
 use Rattle.session.proofs.in_core.read_waiting.Goals as goal
 
-pub returns-in_default-next : goal.returns-in_default-next
-returns-in_default-next c = record {
+pub returns-in_default : goal.returns-in_default
+returns-in_default c = record {
   reads = record {
     sound = c.loop-answer.invariant.sound;
     reads = λ text before reads.
-        reads_none _ _ _ _ _ _ _ _ c.in_default-next.is c.next.ensures.unfinished c.next.ensures.kept
+        reads_none _ _ _ _ _ _ _ _ c.in_default.is c.next.ensures.unfinished c.next.ensures.kept
         (c.loop-answer.invariant.follows _ before reads);
   };
 }
