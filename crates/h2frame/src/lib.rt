@@ -20,6 +20,7 @@ mod frame;
 mod kind;
 mod laws;
 mod reader;
+mod room;
 mod setting;
 mod settings;
 mod small;

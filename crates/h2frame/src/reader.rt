@@ -3,21 +3,27 @@
 //! The reader keeps no mark of a fault: the faulty bytes stay where they are, first, and are judged again at each
 //! call, in constant time. What is fed behind them isn't kept.
 //!
+//! `read_from` reads into the reader's own block, so that the contents of what was read aren't copied.
+//!
 //! A content shares the block that the reader's bytes stand in, and holds it as long as it is held itself. So one of
 //! few bytes is copied, into a small block that it shares with others of few bytes: what waits to be taken holds at most
 //! some hundred times its own bytes, and where all of them wait, little more than these.
 //!
 //! A ZeroIncrement of a stream is the entry `NoIncrement`; `answered` says which answers are entries.
 
-ghost use Rattle.std.specs.Prelude.{◌≡◌, ◌≢◌, ◌+◌, ◌^◌, ◌<◌, ◌≤◌, ◌↔◌, List, ℕ, [], ◌∷◌, ◌++◌, length, take, drop, Some, Err, IsNone, IfNone, IfOk, IfErr, IfSome, OnOk, OnErr, ◌⊎◌};
+ghost use Rattle.std.specs.Prelude.{◌≡◌, ◌≢◌, ◌+◌, ◌^◌, ◌<◌, ◌≤◌, ◌↔◌, List, ℕ, [], ◌∷◌, ◌++◌, length, take, drop, true, Some, Err, IsNone, IfNone, IfOk, IfErr, IfSome, IsErrOf, OnOk, OnErr, ◌⊎◌};
+ghost use Rattle.std.specs.Io.KnownBytes.{Consumes, IsAtEnd, Keeps};
+ghost use Rattle.device.specs.declared.whole.ReadFault.TheVariants.{Device};
 ghost use Rattle.h2frame.specs.FrameList.{Entry, Whole, Joined, IsUnfinished, IsFaulty, IsLawful, answered, HasCause};
 ghost use Rattle.h2frame.specs.Reading.{IsSpelledAt, IsStep};
 
 use crate::frame::lacks_increment;
+use crate::room::{BLOCK, FIRST_BLOCK, make_room, read_into};
 use crate::small::{SMALL_BLOCK, SmallContents};
 use crate::span::{HEAD_LEN, Span, span_at};
 use crate::{Frame, FrameFault, FrameKind};
 use bytes::{Bytes, BytesMut};
+use device::{ConnRead, ReadFault};
 use std::alloc::{AllocError, Global};
 use std::marker::Model;
 
@@ -30,6 +36,8 @@ const LARGE_PIECE: usize = 4096;
 pub struct FrameReader {
     buffer: BytesMut,
     small: SmallContents,
+    /// A read filled the room that it had.
+    is_large: bool,
 }
 
 impl Model for FrameReader {
@@ -48,6 +56,7 @@ impl FrameReader {
         FrameReader {
             buffer: BytesMut::new(alloc),
             small: SmallContents::new(alloc),
+            is_large: false,
         }
     }
 
@@ -72,6 +81,28 @@ impl FrameReader {
         }
         extend(&mut self.buffer, piece)?;
         Ok(())
+    }
+
+    /// Reads once, and takes what came as `feed` does, without a copy. Answers how many bytes came: none at the end of the
+    /// input. A read has room for 1,024 bytes until one fills that, then for 32,832 to 65,664. After an `Err` nothing was read.
+    pub fn read_from<I: ConnRead>(&mut self, input: &mut I) -> Result<usize, ReadFault>
+        ensures ok { IfOk result (λ n. (came : List ℕ) × (length came ≡ n)
+            × Consumes (I.remaining input.old) (I.remaining input.new) came
+            × (self.new ≡ self.old ++ came)
+            × ((bytes : List ℕ) (entries : List Entry) →
+            Joined bytes entries self.old → Joined (bytes ++ came) entries self.new)) }
+        ensures end { IfOk result (λ n. n ≡ 0 → IsAtEnd (I.remaining input.new)) }
+        ensures err { OnErr result ((self.new ≡ self.old)
+            × Keeps (I.remaining input.old) (I.remaining input.new)) }
+        ensures marked { IsErrOf result Device → I.failed input.new ≡ true }
+        ensures unmarked { ¬ (IsErrOf result Device)
+            → I.failed input.new ≡ I.failed input.old }
+    {
+        let block = if self.is_large { BLOCK } else { FIRST_BLOCK };
+        let most = make_room(&mut self.buffer, block)?;
+        let count = read_into(&mut self.buffer, most, input)?;
+        self.is_large = self.is_large || count == most;
+        Ok(count)
     }
 
     /// The next frame or fault of the bytes so far, or nothing while none is there. A frame's content shares the

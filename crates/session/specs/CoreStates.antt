@@ -128,6 +128,13 @@ ReadsOn text given (Reading position) waiting streams kept = ReadsTo text given 
 ReadsOn text given Dead waiting streams kept = IsOver text given
 ReadsOn text given (Greeting due) waiting streams kept = ⊥
 
+-- The frames that wait are read: whatever bytes behind the preface led to them, with these events, lead on to this stage.
+pub record ReadsWaiting (at : Position) (waiting : List ℕ) (streams : Streams) (kept : Option Table) (before : List InEvent)
+    (next : Stage) (left : List ℕ) (new_streams : Streams) (new_kept : Option Table) (after : List InEvent) : Type 0 where
+  pub sound : IsSoundStage next new_streams
+  pub reads : (text : List ℕ) (earlier : List InEvent) → ReadsTo text (earlier ++ before) at waiting streams kept
+      → ReadsOn text (earlier ++ after) next left new_streams new_kept
+
 -- The bytes so far, with these events, lead to this core.
 abbrev pub AtStage : List ℕ → List InEvent → Stage → List ℕ → Streams → Option Table → Type 0
 AtStage bytes given (Greeting due) waiting streams kept =

@@ -1,7 +1,7 @@
 use Rattle.std.proofs.Common.{List, ℕ, ◌++◌, length}
 use Rattle.session.specs.declared.event.InEvent.{InEvent}
 use Rattle.session.specs.CoreStates.{IsSound, ReadsTo}
-use Rattle.session.proofs.in_core.read.Given as goal
+use Rattle.session.proofs.in_core.read_waiting.Given as goal
 
 abbrev pub invariant-loop-answer : goal.invariant-loop-answer
 invariant-loop-answer l = record {
