@@ -1,8 +1,9 @@
-//! What a worker of a connection does: one thread, which answers one call after another.
+//! One worker thread of a connection, which answers one call after another.
 //!
 //! - `worker`: the loops, which wait: from call to call, and from turn to turn of a call.
 //! - `pace`: how long a call waits, and when the writer is rung for it.
-//! - `ways`: how a worker is handed its calls, and hands them back; `hired`: a worker in a thread of its own, and its promise.
+//! - `ways`: how a worker is handed its calls, and hands them back; `hired`: a worker in a thread
+//!   of its own, and its promise.
 //! - `jobs`: where a worker waits for its next call.
 //! - `shared`: the connection's lock and bells; `gate`: who says when a call goes on.
 //!
