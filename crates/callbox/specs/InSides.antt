@@ -63,8 +63,8 @@ abbrev pub IsMissing : Bool → List InPiece → List ℕ → Type 0
 IsMissing true items missing = last_of items ≡ Some (piece.Bytes missing)
 IsMissing false items missing = missing ≡ []
 
--- Of the items that were polled these messages were taken, and this is what is kept behind them. Where the last piece
--- is unread, for want of memory, its bytes are missing from what is kept.
+-- Of the items that were polled these messages were taken, and this is what is kept behind them.
+-- Where the last piece is unread, for want of memory, its bytes are missing from what is kept.
 pub record Took (items : List InPiece) (progress : Progress) (messages : List (List ℕ)) : Type 0 where
   pub missing : List ℕ
   pub whole : bytes_of items ≡ frames messages ++ (progress.splitter ++ missing)
@@ -74,8 +74,8 @@ pub record Took (items : List InPiece) (progress : Progress) (messages : List (L
   pub telling : MayTell progress.told (bytes_of items) (shut_of items) messages
   pub count : progress.taken ≡ count_of messages
 
--- What was got spells these messages and less than a whole one behind them, and no shut came: so more is needed before
--- there is anything to take or tell.
+-- What was got spells these messages and less than a whole one behind them, and no shut came: so
+-- more is needed before there is anything to take or tell.
 abbrev pub NeedsMore : List InPiece → List (List ℕ) → Type 0
 NeedsMore got messages = (rest : List ℕ) × Spells (bytes_of got) messages rest × (shut_of got ≡ None)
 

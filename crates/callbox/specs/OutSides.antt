@@ -62,13 +62,15 @@ is_message (Message bytes) = true
 is_message (Trailers fields) = false
 is_message Left = false
 
--- Why a message is handed back: as the lane refuses an item, or for want of memory for the message with its prefix.
+-- Why a message is handed back: as the lane refuses an item, or for want of memory for the message
+-- with its prefix.
 abbrev pub MayRefuseMessage : Type 0 → ℕ → ℕ → ℕ → PutFault (List ℕ) → Type 0
 MayRefuseMessage MayMiss room put seen_taken (Full message waiting) = (waiting + seen_taken ≡ put) × (room ≤ waiting)
 MayRefuseMessage MayMiss room put seen_taken (OutOfMemory message) = Unit {0}
 MayRefuseMessage MayMiss room put seen_taken (NotTaken message) = MayMiss
 
--- Why bytes with their prefix are handed back: they aren't one message, or they are, and the lane refuses them.
+-- Why bytes with their prefix are handed back: they aren't one message, or they are, and the lane
+-- refuses them.
 abbrev pub RefusesFramed : (ℕ → Type 0) → Type 0 → ℕ → ℕ → ℕ → List ℕ → FramedFault → Type 0
 RefusesFramed WantsMemory MayMiss room put seen_taken framed (NotAFrame bytes) = (bytes ≡ framed) × (IsFrame framed → ⊥)
 RefusesFramed WantsMemory MayMiss room put seen_taken framed (Refused fault) = (item_of fault ≡ framed) × IsFrame framed × MayRefuse WantsMemory MayMiss room put seen_taken fault

@@ -1,7 +1,8 @@
 //! The end of a call that gives what goes out.
 //!
-//! A giver keeps a message until the lane has taken its frame, so that each refusal hands back the message, also where
-//! there was no memory for the frame. Bytes that have their prefix, and a head, are handed back out of the item.
+//! A giver keeps a message until the lane has taken its frame, so that each refusal hands back the
+//! message, also where there was no memory for the frame. Bytes that have their prefix, and a head,
+//! are handed back out of the item.
 //!
 //! That what was given is a response is a ghost field and no test: there is at most one proof of it
 //! (`specs/OutSides.antt`), as a struct's facts need.
@@ -33,7 +34,8 @@ pub enum FramedFault {
     Refused(GiveFault<ZeroTail>),
 }
 
-/// Gives the items of a call's response, as far as the trailers, or until the call is left without them.
+/// Gives the items of a call's response, as far as the trailers, or until the call is left without
+/// them.
 #[derive(Drop)]
 pub struct Giver<L: Lane<Item = OutItem>> {
     pub(crate) tx: L::In,
@@ -102,8 +104,9 @@ impl<L: Lane<Item = OutItem>> Giver<L> {
         }
     }
 
-    /// Whether there is room for a head or a message: if not, how many of the items that were given this end had not seen
-    /// sent, in this call. After `Ok` the next `head`, `give` or `give_framed` isn't `Full`. It takes no memory.
+    /// Whether there is room for a head or a message: if not, how many of the items that were given
+    /// this end had not seen sent, in this call. After `Ok` the next `head`, `give` or
+    /// `give_framed` isn't `Full`. It takes no memory.
     pub fn check_room(&mut self) -> Result<(), u64>
         ensures name { L.in_name self.new.tx ≡ L.in_name self.old.tx }
         ensures seen { L.seen_taken self.old.tx ≤ L.seen_taken self.new.tx }
@@ -152,7 +155,8 @@ impl<L: Lane<Item = OutItem>> Giver<L> {
         }
     }
 
-    /// Gives one message whose prefix stands before it already, or hands the bytes back and changes nothing.
+    /// Gives one message whose prefix stands before it already, or hands the bytes back and changes
+    /// nothing.
     ///
     /// The bytes are shared, and nothing is copied. It takes constant time.
     pub fn give_framed(&mut self, framed: ZeroTail) -> Result<(), FramedFault>
@@ -217,7 +221,8 @@ impl<L: Lane<Item = OutItem>> Giver<L> {
 
     /// Leaves the call without trailers, where `placed` then says so. It takes no memory.
     ///
-    /// Nothing is sent for it. It is for a call that needs no answer any more, as one that was reset.
+    /// Nothing is sent for it. It is for a call that needs no answer any more, as one that was
+    /// reset.
     pub fn leave(self) -> GivenShut<L>
         ensures name { L.shut_name result.shut ≡ L.in_name self.tx }
         ensures put { MatchBool (L.was_placed result.shut)

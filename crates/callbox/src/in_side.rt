@@ -23,7 +23,8 @@ pub struct InAccount {
     pub told: Option<Told>,
 }
 
-/// Brings the two ends of one call's in side together.
+/// Brings the two ends of one call's in side together. What was taken of what was fed is a lawful
+/// account (`account::IsLawful`), and the answer has its counts.
 pub fn settle_in<L: Lane<Item = InPiece>>(
     end: End<Feeder<L>, FedShut<L>>,
     taker: Taker<L>,

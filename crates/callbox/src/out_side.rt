@@ -1,7 +1,7 @@
 //! The two ends of a call's out side, brought together.
 //!
-//! Neither end counts: the numbers come from `Lane::settle`, and trailers were sent exactly where they were placed and
-//! nothing is left.
+//! Neither end counts: the numbers come from `Lane::settle`, and trailers were sent exactly where
+//! they were placed and nothing is left.
 
 ghost use Rattle.std.specs.Prelude.{◌≡◌, [], IfOk};
 ghost use Rattle.lane.specs.End.{of_end};

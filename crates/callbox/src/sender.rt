@@ -12,8 +12,8 @@ use lane::Lane;
 
 /// Takes the items of a call's response, in the order in which they were given.
 ///
-/// It is the one end that leaves its call, for the connection's writer, which has those of many calls: so it alone
-/// knows the number of its call's stream.
+/// It is the one end that leaves its call, for the connection's writer, which has those of many
+/// calls: so it alone knows the number of its call's stream.
 #[derive(Drop)]
 pub struct Sender<L: Lane<Item = OutItem>> {
     pub(crate) rx: L::Out,

@@ -1,15 +1,15 @@
 //! The end of a call that takes its messages.
 //!
-//! The messages that were taken are stored nowhere: `take` speaks of each list of messages that leads there (`Took`),
-//! and `open_in` starts it with none.
+//! The messages that were taken are stored nowhere: `take` speaks of each list of messages that
+//! leads there (`Took`), and `open_in` starts it with none.
 //!
-//! A piece whose sharing is refused stays unread. A lane lends its item until the next poll, and `Bytes::clone` can be
-//! refused; so the taker counts the piece for `credit` once, marks it unread, still takes the messages and tells the
-//! faults that were whole before it, then answers Fault(OutOfMemory), and reads it again (`Lane::polled`) at its next
-//! `take`.
+//! A piece whose sharing is refused stays unread. A lane lends its item until the next poll, and
+//! `Bytes::clone` can be refused; so the taker counts the piece for `credit` once, marks it unread,
+//! still takes the messages and tells the faults that were whole before it, then answers
+//! Fault(OutOfMemory), and reads it again (`Lane::polled`) at its next `take`.
 //!
-//! `Taker::look`: it polls at most 2^64 - 1 times, since it has to return and a writer may put pieces without bytes
-//! for good.
+//! `Taker::look`: it polls at most 2^64 - 1 times, since it has to return and a writer may put
+//! pieces without bytes for good.
 
 ghost use Rattle.std.specs.Prelude.{◌≡◌, ℕ, ◌+◌, ◌-◌, min, true, false, None, Some, List, [], ◌∷◌, ◌++◌, length, All, IfNone, IfSome, MatchOption, is_some};
 ghost use Rattle.lpm.specs.Messages.{IsUnfinished};
@@ -52,7 +52,8 @@ pub(crate) enum Polled {
 /// How far a `Taker` has come.
 #[derive(Drop)]
 pub(crate) struct Progress {
-    /// The bytes that were polled, but for those of the messages that were taken and of an unread piece.
+    /// The bytes that were polled, but for those of the messages that were taken and of an unread
+    /// piece.
     pub(crate) splitter: Splitter,
     /// Whether the piece that was polled last is unread, since memory ran out.
     pub(crate) unread: bool,
@@ -265,10 +266,11 @@ impl<L: Lane<Item = InPiece>> Taker<L> {
         Taker { rx, progress }
     }
 
-    /// The next message, or what there is to be told.
+    /// The next message, or what there is to be told. It answers `Nothing` only where it holds no
+    /// whole message and no fault, no shut was polled, and nothing is known to be ahead.
     ///
-    /// Once the end, a reset or a fault of the bytes was told it is told again. After `Fault(OutOfMemory)` nothing is lost,
-    /// and it may be called again.
+    /// Once it has told the end, a reset or a fault of the bytes, it tells that again.
+    /// `Fault(OutOfMemory)` loses nothing: it may be called again.
     pub fn take(&mut self) -> Taken
         ensures name { L.out_name self.new.rx ≡ L.out_name self.old.rx }
         // Of all messages that were taken so far.
@@ -282,7 +284,8 @@ impl<L: Lane<Item = InPiece>> Taker<L> {
         ensures nothing { result ≡ taken.Nothing → IsUnfinished self.new.progress.splitter
             × (self.new.progress.shut ≡ None) × (self.new.progress.unread ≡ false)
             × (L.ahead self.new.rx ≡ []) }
-        // It polls only where the bytes that are held make no whole message and no fault, and no shut was polled.
+        // It polls only where the bytes that are held make no whole message and no fault, and no
+        // shut was polled.
         ensures needed { (messages : List (List ℕ))
             → Took (L.got self.old.rx) self.old.progress messages
             → (items : List InPiece) × (L.got self.new.rx ≡ L.got self.old.rx ++ items)
@@ -329,7 +332,8 @@ impl<L: Lane<Item = InPiece>> Taker<L> {
         ensures nothing { result ≡ taken.Nothing → IsUnfinished self.new.progress.splitter
             × (self.new.progress.shut ≡ None) × (self.new.progress.unread ≡ false)
             × (L.ahead self.new.rx ≡ []) }
-        // It polls only where the bytes that are held make no whole message and no fault, and no shut was polled.
+        // It polls only where the bytes that are held make no whole message and no fault, and no
+        // shut was polled.
         ensures needed { (messages : List (List ℕ))
             → Took (L.got self.old.rx) self.old.progress messages
             → (items : List InPiece) × (L.got self.new.rx ≡ L.got self.old.rx ++ items)

@@ -1,4 +1,5 @@
--- The value of a binary metadata field, whose name ends in -bin: gRPC over HTTP/2, "Custom-Metadata"; RFC 4648, section 4.
+-- The value of a binary metadata field, whose name ends in -bin: gRPC over HTTP/2,
+-- "Custom-Metadata"; RFC 4648, section 4.
 use Rattle.std.specs.Prelude.{◌≡◌, ℕ, ◌<◌, ◌⊎◌, List, [], ◌∷◌, ◌++◌, length, replicate, slice_index, codes}
 use Rattle.base64.specs.Rfc4648.{encode_symbols, padding_len}
 

@@ -86,7 +86,8 @@ pub is_malformed-upper_case : is_malformed (request ++ field_of (codes "X-a") (c
 unfolding is_malformed
 is_malformed-upper_case = refl
 
--- trailers: none, a field of the caller's own, a pseudo-header, an upper-case letter, a line feed, and a field of the connection
+-- trailers: none, a field of the caller's own, a pseudo-header, an upper-case letter, a line feed,
+-- and a field of the connection
 pub are_malformed_trailers-none : are_malformed_trailers [] ≡ false
 unfolding are_malformed_trailers
 are_malformed_trailers-none = refl

@@ -1,4 +1,5 @@
--- The head of a call: gRPC over HTTP/2, "Requests"; the echoes are those of the interop test cases' custom metadata.
+-- The head of a call: gRPC over HTTP/2, "Requests"; the echoes are those of the interop test cases'
+-- custom metadata.
 use Rattle.std.specs.Prelude.{◌≡◌, ℕ, ◌<◌, nat_le, ◌⊎◌, Bool, true, false, ◌&&◌, List, [], ◌∷◌, ◌++◌, filter, Option, Some, None, MatchOption, if◌then◌else◌, bytes_eq, codes}
 use Rattle.std.specs.List.{list_all}
 use Rattle.lists.specs.declared.field.Field.{Field}

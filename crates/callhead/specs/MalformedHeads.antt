@@ -1,4 +1,5 @@
--- Which fields are no request, and which no trailers of one: RFC 9113, sections 8.1, 8.2, 8.2.1, 8.2.2, 8.3 and 8.3.1.
+-- Which fields are no request, and which no trailers of one: RFC 9113, sections 8.1, 8.2, 8.2.1,
+-- 8.2.2, 8.3 and 8.3.1.
 use Rattle.std.specs.Prelude.{ℕ, ◌-◌, ◌==◌, nat_lt, nat_le, Bool, false, not, ◌&&◌, ◌||◌, List, [], ◌∷◌, length, drop, count_by, Option, Some, None, is_none, slice_get, bytes_eq, codes}
 use Rattle.std.specs.List.{list_any, prefix_len}
 use Rattle.lists.specs.declared.field.Field.{Field}

@@ -34,7 +34,8 @@ abbrev pub timeout_fields : Option (List ℕ) → List Field
 timeout_fields None = []
 timeout_fields (Some text) = field_of (codes "grpc-timeout") text ∷ []
 
--- values that are to come back in the head of the response, and bytes that are to come back in the trailers
+-- values that are to come back in the head of the response, and bytes that are to come back in the
+-- trailers
 abbrev pub echo_fields : List (List ℕ) → List (List ℕ) → List Field
 echo_fields initial trailing =
     map (field_of (codes "x-grpc-test-echo-initial")) initial

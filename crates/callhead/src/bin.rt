@@ -1,6 +1,8 @@
-//! Binary metadata, in fields whose name ends in `-bin` (gRPC over HTTP/2, "Custom-Metadata"; RFC 4648, section 4).
+//! Binary metadata, in fields whose name ends in `-bin` (gRPC over HTTP/2, "Custom-Metadata"; RFC
+//! 4648, section 4).
 //!
-//! `read_bin_values`: A field that carries no values is no fault, it is only not echoed: so the answer is an Option.
+//! `read_bin_values`: A field that carries no values is no fault, it is only not echoed: so the
+//! answer is an Option.
 
 ghost use Rattle.std.specs.Prelude.{◌≡◌, ℕ, ◌+◌, ◌^◌, ◌<◌, ◌==◌, ◌↔◌, List, [], ◌∷◌, ◌++◌, take, drop, length, position, Some, IsTrue, IfOk, IfSome, IfNone, string_bytes};
 ghost use Rattle.base64.specs.GeneralPurpose.{encode_of, IsStrict};
@@ -21,8 +23,9 @@ pub fn bin_value(alloc: Global, value: &[u8]) -> Result<String, AllocError>
     STANDARD_NO_PAD.encode(alloc, value)
 }
 
-/// The values that a `-bin` field carries: base64, padded or not, with commas between several. An empty part is the
-/// empty value. There is no answer where a part is no base64, is padded by half, or has bits left over that aren't 0.
+/// The values that a `-bin` field carries: base64, padded or not, with commas between several. An
+/// empty part is the empty value. There is no answer where a part is no base64, is padded by half,
+/// or has bits left over that aren't 0.
 pub fn read_bin_values(alloc: Global, text: &[u8]) -> Result<Option<Values>, AllocError>
     ensures { (values : List (List ℕ))
         → IfOk result (λ found. (found ≡ Some values) ↔ IsBinValues text.now values) }

@@ -1,8 +1,10 @@
 //! The head of a call (gRPC over HTTP/2, "Requests").
 //!
-//! `read`: faults are looked for before memory is taken, so that a fault is answered whether or not there is memory.
+//! `read`: faults are looked for before memory is taken, so that a fault is answered whether or not
+//! there is memory.
 //!
-//! `initial_echoes`: the texts are made by std's lossy reading, which changes nothing of bytes 20 to 7E.
+//! `initial_echoes`: the texts are made by std's lossy reading, which changes nothing of bytes 20
+//! to 7E.
 
 ghost use Rattle.std.specs.Prelude.{◌≡◌, ◌⊎◌, ◌↔◌, ℕ, List, Option, Ok, Err, Some, IfOk, IfErr, IfSome, IsTrue, codes};
 ghost use Rattle.callhead.specs.declared.head.CallHead.{CallHead};
@@ -47,7 +49,8 @@ pub struct CallHead {
 }
 
 impl CallHead {
-    /// The head of a call, or the first fault that stands. Only a head takes memory.
+    /// The head of a call exactly where the fields are one, memory aside; else the fault with the
+    /// least number of those that stand. Only a head takes memory.
     pub fn read(alloc: Global, fields: &[Field]) -> Result<CallHead, HeadFault>
         ensures ok { IfOk result (λ head. IsHead fields.now head) }
         ensures only { (head : CallHead) → IsHead fields.now head → (result ≡ Ok head)

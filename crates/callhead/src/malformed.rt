@@ -1,7 +1,7 @@
 //! Which fields are no request, and which no trailers of one (RFC 9113, sections 8.1, 8.2 and 8.3).
 //!
-//! Each cause is a test of the whole list of fields, a word of its own. That a pseudo-header is late is said of what
-//! stands behind the longest run of pseudo-headers at the beginning.
+//! Each cause is a test of the whole list of fields, a word of its own. That a pseudo-header is
+//! late is said of what stands behind the longest run of pseudo-headers at the beginning.
 
 ghost use Rattle.std.specs.Prelude.{◌≡◌, ◌==◌, drop, option_copied};
 ghost use Rattle.callhead.specs.MalformedHeads.{is_forbidden_in_names, has_bad_name, is_blank, is_forbidden_in_values, has_bad_value, is_connection_specific, is_other_te, is_pseudo_header, is_unknown, is_empty_path, has_late_pseudo_header, is_repeated, is_missing, is_malformed_field, is_malformed, is_malformed_trailer, are_malformed_trailers, pseudo_headers, required_headers};
@@ -50,7 +50,8 @@ fn is_malformed_field(field: &Field) -> bool
         || is_empty_path(field)
 }
 
-/// Whether the name is empty, has a forbidden byte, or a colon that isn't its first byte (RFC 9113, section 8.2.1).
+/// Whether the name is empty, has a forbidden byte, or a colon that isn't its first byte (RFC 9113,
+/// section 8.2.1).
 pub fn has_bad_name(field: &Field) -> bool
     ensures { result ≡ has_bad_name field.now }
 {
@@ -110,7 +111,8 @@ pub fn is_blank(byte: Option<&u8>) -> bool
     }
 }
 
-/// Whether the field speaks of one connection alone (RFC 9113, section 8.2.2), but for `te`, which a request may have.
+/// Whether the field speaks of one connection alone (RFC 9113, section 8.2.2), but for `te`, which
+/// a request may have.
 pub fn is_connection_specific(field: &Field) -> bool
     ensures { result ≡ is_connection_specific field.now }
 {

@@ -25,8 +25,8 @@ pub fn response_fields(alloc: Global, echo_initial: &Texts) -> Result<Vec<Field>
     Ok(fields)
 }
 
-/// The fields that end the response to a call: the status's number, its text unless that is empty, and one for each
-/// echo.
+/// The fields that end the response to a call: the status's number, its text unless that is empty,
+/// and one for each echo.
 pub fn status_fields(
     alloc: Global,
     code: u32,
@@ -44,8 +44,8 @@ pub fn status_fields(
     Ok(fields)
 }
 
-/// The fields of a Trailers-Only response, which begins and ends in one block: those that each response begins with,
-/// the status's number, and its text unless that is empty.
+/// The fields of a Trailers-Only response, which begins and ends in one block: those that each
+/// response begins with, the status's number, and its text unless that is empty.
 pub fn trailers_only(alloc: Global, code: u32, text: &str) -> Result<Vec<Field>, AllocError>
     ensures { IfOk result (λ fields. fields.items ≡ trailers_only code text.now) }
 {
@@ -54,7 +54,8 @@ pub fn trailers_only(alloc: Global, code: u32, text: &str) -> Result<Vec<Field>,
     Ok(block)
 }
 
-/// The fields of the block that answers a call whose path names no method: UNIMPLEMENTED (12), `unknown method`.
+/// The fields of the block that answers a call whose path names no method: UNIMPLEMENTED (12),
+/// `unknown method`.
 pub fn unknown_method(alloc: Global) -> Result<Vec<Field>, AllocError>
     ensures { IfOk result (λ fields. fields.items ≡ unknown_method) }
 {
@@ -62,8 +63,8 @@ pub fn unknown_method(alloc: Global) -> Result<Vec<Field>, AllocError>
 }
 
 impl HeadFault {
-    /// The fields of the block that answers what is no head of a call. A malformed request is answered by none (its
-    /// stream is reset), and that memory ran out isn't the client's fault.
+    /// The fields of the block that answers what is no head of a call. A malformed request is
+    /// answered by none (its stream is reset), and that memory ran out isn't the client's fault.
     pub fn refusal(self, alloc: Global) -> Result<Option<Vec<Field>>, AllocError>
         ensures { IfOk result
             (λ found. MatchOption found (refusal_of self ≡ None)

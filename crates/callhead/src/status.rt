@@ -11,8 +11,8 @@ use std::alloc::{AllocError, Global};
 /// The greatest number of a status: UNAUTHENTICATED.
 const MAX_CODE: u32 = 16;
 
-/// The status that fields tell: its number and its text. There is none where the first `grpc-status` is missing or is
-/// no decimal number of 0 to 16. A missing text is the empty one.
+/// The status that fields tell: its number and its text. There is none where the first
+/// `grpc-status` is missing or is no decimal number of 0 to 16. A missing text is the empty one.
 pub fn read_status(alloc: Global, fields: &[Field]) -> Result<Option<(u32, String)>, AllocError>
     ensures some { IfOk result
         (λ found. IfSome found

@@ -55,14 +55,16 @@ abbrev pub GoesOn : {A : Type 0} → (A → List (List ℕ) → Bool → Step �
 GoesOn answers stands methods before after =
     IfSome (slice_get methods before.index) (λ m. LeadsOn (answers m) (stands m) before after)
 
--- It is one call: over the same ends, of one method, head and deadline. The deadline counts as come only where it has one.
+-- It is one call: over the same ends, of one method, head and deadline. The deadline counts as come
+-- only where it has one.
 abbrev pub IsOneCall : LaneRun → LaneRun → Type 0
 IsOneCall before after = (out_name after.taker.rx ≡ out_name before.taker.rx)
     × (giver_name after.response ≡ giver_name before.response)
     × (after.index ≡ before.index) × (after.call.head ≡ before.call.head) × (after.call.deadline ≡ before.call.deadline)
     × (after.call.overdue ≡ true → (before.call.overdue ≡ true) ⊎ IsSome before.call.deadline)
 
--- What was given is an outcome of whatever answer led to the call, maybe with a status, and behind it at most that the call was left.
+-- What was given is an outcome of whatever answer led to the call, maybe with a status, and behind
+-- it at most that the call was left.
 abbrev pub EndsAs : LaneRun → List OutItem → Option ℕ → Type 0
 EndsAs run given status = (items : List OutItem) × IsGivenAs items given
     × ((answer : Step) → GivesOf run.taker.progress.told answer run.call (shows run)

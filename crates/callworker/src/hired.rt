@@ -18,12 +18,13 @@ use std::sync::{Arc, Wait};
 use std::thread::{Builder, Promise, PromisedHandle, Threads};
 use std::time::Clock;
 
-/// How large the stacks of a connection's threads are, in bytes. They need less than 20,000: none of their direct calls recurs. Those of the
-/// usual size, 8 MiB, take address space, and longer to make.
+/// How large the stacks of a connection's threads are, in bytes. They need less than 20,000: none
+/// of their direct calls recurs. Those of the usual size, 8 MiB, take address space, and longer to
+/// make.
 pub const STACK: usize = 262_144;
 
-/// What a worker was given. It promises that the ends that it hands back are of the same rings, and that it handed back each call that it
-/// took, in their order.
+/// What a worker was given. It promises that the ends that it hands back are of the same rings, and
+/// that it handed back each call that it took, in their order.
 #[derive(Drop)]
 pub struct Hired<J: Naming, M: Answering> {
     pub ways: Snapshot<Ways<J, M>>,

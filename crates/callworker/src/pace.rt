@@ -3,13 +3,16 @@
 use callrun::Turn;
 use std::time::Duration;
 
-/// How long a worker sleeps at most, where all that it waits for rings its bell, before it looks again, in seconds.
+/// How long a worker sleeps at most, where all that it waits for rings its bell, before it looks
+/// again, in seconds.
 pub(crate) const IDLE: u64 = 3600;
 
-/// How many milliseconds a worker waits at most, where the writer has to get what was given, before it looks again.
+/// How many milliseconds a worker waits at most, where the writer has to get what was given, before
+/// it looks again.
 pub(crate) const STEP: u64 = 1;
 
-/// How many turns a call goes on before the writer is rung. A short call has come to its end by then, and rings once.
+/// How many turns a call goes on before the writer is rung. A short call has come to its end by
+/// then, and rings once.
 const FEW_TURNS: u32 = 4;
 
 /// How many times the gate may hold a call back.

@@ -1,6 +1,7 @@
 //! What a worker does with its calls.
 //!
-//! `Worker::work` answers one call after another, and hands each back as soon as it is over: with its ends, and what is known of it.
+//! `Worker::work` answers one call after another, and hands each back as soon as it is over: with
+//! its ends, and what is known of it.
 
 ghost use Rattle.std.specs.Prelude.{◌≡◌, ◌<◌, [], ◌∷◌, ◌++◌, false, length, None, Some};
 ghost use Rattle.lane.specs.End.{of_end};
@@ -55,7 +56,8 @@ struct Served {
 }
 
 impl<A: Ledger, B: Ledger, C: Ledger, G: Gate + Drop> Worker<A, B, C, G> {
-    /// Answers one call after another, until no more come, and hands each back.
+    /// Answers one call after another, until no more come. It hands back each call that it took, in
+    /// order.
     pub fn work<J, M, R>(&self, rt: &R, methods: &Methods, ways: Ways<J, M>) -> Ways<J, M>
     where
         J: Naming,
@@ -79,8 +81,9 @@ impl<A: Ledger, B: Ledger, C: Ledger, G: Gate + Drop> Worker<A, B, C, G> {
         unreachable!()
     }
 
-    /// Hands a call back. There is room for it, since the one before it was taken before this one came. Only then the others are rung, so
-    /// that this worker is free by the time that the peer sees the end of the call.
+    /// Hands a call back. There is room for it, since the one before it was taken before this one
+    /// came. Only then the others are rung, so that this worker is free by the time that the peer
+    /// sees the end of the call.
     fn hand_back<J: Naming, M: Answering>(
         &self,
         rt: &impl Wait,
@@ -234,7 +237,8 @@ impl<A: Ledger, B: Ledger, C: Ledger, G: Gate + Drop> Worker<A, B, C, G> {
         }
     }
 
-    /// Gives the call a turn, and waits where there was nothing to do; a call that is no longer live ends. Answers whether it goes on.
+    /// Gives the call a turn, and waits where there was nothing to do; a call that is no longer
+    /// live ends. Answers whether it goes on.
     fn step<R: Wait + Clock>(
         &self,
         rt: &R,
@@ -274,7 +278,8 @@ impl<A: Ledger, B: Ledger, C: Ledger, G: Gate + Drop> Worker<A, B, C, G> {
         }
     }
 
-    /// Gives the call a turn; where that finds no room, another one, once its bell is rung for room.
+    /// Gives the call a turn; where that finds no room, another one, once its bell is rung for
+    /// room.
     fn look(&self, methods: &Methods, run: &mut CallRun<InLane, OutLane>, now: u64) -> Turn
         requires index { run.old.index < length (listed methods.now) }
         ensures goes_on { GoesOn (λ m. answers (m.vtable, m.value))
@@ -291,8 +296,8 @@ impl<A: Ledger, B: Ledger, C: Ledger, G: Gate + Drop> Worker<A, B, C, G> {
         run.turn(methods, now)
     }
 
-    /// Returns what was taken, and says whether the call is live still. The writer is rung where something was returned, or
-    /// where it wasn't told yet of what was given.
+    /// Returns what was taken, and says whether the call is live still. The writer is rung where
+    /// something was returned, or where it wasn't told yet of what was given.
     fn is_live(
         &self,
         rt: &impl Wait,
@@ -322,7 +327,8 @@ impl<A: Ledger, B: Ledger, C: Ledger, G: Gate + Drop> Worker<A, B, C, G> {
         is_live
     }
 
-    /// Leaves a call that is no longer live, unless it was reset: then that is what it is told last.
+    /// Leaves a call that is no longer live, unless it was reset: then that is what it is told
+    /// last.
     fn give_up<R: Wait + Clock>(
         &self,
         rt: &R,
@@ -376,7 +382,8 @@ impl<A: Ledger, B: Ledger, C: Ledger, G: Gate + Drop> Worker<A, B, C, G> {
         }
     }
 
-    /// Returns what was taken of a call that is over. Its last item was given before. One without trailers is live no more.
+    /// Returns what was taken of a call that is over. Its last item was given before. One without
+    /// trailers is live no more.
     fn settle(&self, rt: &impl Wait, id: StreamId, credit: u32, has_trailers: bool) {
         let mut book = self.shared.book.lock(rt);
         if credit > 0 {
@@ -387,7 +394,8 @@ impl<A: Ledger, B: Ledger, C: Ledger, G: Gate + Drop> Worker<A, B, C, G> {
         }
     }
 
-    /// The moment, in nanoseconds of the connection. No clock is read for a call without a deadline.
+    /// The moment, in nanoseconds of the connection. No clock is read for a call without a
+    /// deadline.
     fn now(&self, rt: &impl Clock, run: &CallRun<InLane, OutLane>) -> u64 {
         if run.has_deadline() {
             return moment(rt, self.start);
@@ -396,7 +404,8 @@ impl<A: Ledger, B: Ledger, C: Ledger, G: Gate + Drop> Worker<A, B, C, G> {
     }
 }
 
-/// How many nanoseconds there were since the start; the greatest number where the clock doesn't tell.
+/// How many nanoseconds there were since the start; the greatest number where the clock doesn't
+/// tell.
 pub fn moment(rt: &impl Clock, start: Instant) -> u64 {
     match start.elapsed(rt) {
         Ok(past) => u64::try_from(past.as_nanos()).unwrap_or(u64::MAX),

@@ -22,8 +22,8 @@ discards_ended = refl
 pub overruns : receipt_of (after_admit new_book 1) 1 65536 ≡ Overrun
 overruns = refl
 
--- The connection's window was opened again by a call that isn't live, and that of call 1 is used up: a byte more is past it,
--- and counts on the connection.
+-- The connection's window was opened again by a call that isn't live, and that of call 1 is used
+-- up: a byte more is past it, and counts on the connection.
 pub past_the_call :
     let b = after_credit (after_receipt (after_receipt (after_admit new_book 1) 1 65535 0 Feed) 3 0 0 Discard) 0 in
     receipt_of (record b { connection = record b.connection { returned = 65535; announced = 65535 } }) 1 1 ≡ CallWindow

@@ -1,4 +1,5 @@
--- What the calls of a shared credit book answer, and what they leave of it (RFC 9113, sections 5.2 and 6.9).
+-- What the calls of a shared credit book answer, and what they leave of it (RFC 9113, sections 5.2
+-- and 6.9).
 use Rattle.std.specs.Prelude.{◌≡◌, ℕ, ◌<◌, ◌≤◌, Bool, true, false, if◌then◌else◌, [], Result, Ok, Err, nat_le, nat_lt, length}
 use Rattle.std.specs.Option.{option_map_or}
 use Rattle.flow.specs.declared.TheConstants.{MAX_LIVE}
@@ -15,7 +16,8 @@ use Rattle.connbook.specs.declared.answers.AdmitFault.TheVariants.{NotNew, Drain
 abbrev pub receipt_on : Books → ℕ → ℕ → Call → Receipt
 receipt_on b id n call = if nat_lt (window_of b id) n then CallWindow else if call.marks.local then Discard else Feed
 
--- What n bytes on an id come to. The connection's window stands before the call's; those of no live call are taken by nobody.
+-- What n bytes on an id come to. The connection's window stands before the call's; those of no live
+-- call are taken by nobody.
 abbrev pub receipt_of : Books → ℕ → ℕ → Receipt
 receipt_of b id n = if nat_lt (window_of b 0) n then Overrun else option_map_or (receipt_on b id n) (call_at b id) Discard
 
@@ -23,8 +25,9 @@ receipt_of b id n = if nat_lt (window_of b 0) n then Overrun else option_map_or 
 abbrev pub after_loose : Books → ℕ → Books
 after_loose b n = record b { connection = with_received b.connection n true }
 
--- The book behind them. What is to be fed counts on its call and the connection, its padding as returned; what is past the
--- call's window, or on no live call, counts on the connection alone; what is past the connection's window counts nowhere.
+-- The book behind them. What is to be fed counts on its call and the connection, its padding as
+-- returned; what is past the call's window, or on no live call, counts on the connection alone;
+-- what is past the connection's window counts nowhere.
 abbrev pub after_receipt : Books → ℕ → ℕ → ℕ → Receipt → Books
 after_receipt b id n padding Feed = after_give_back (after_receive b id n) id padding
 after_receipt b id n padding Discard = option_map_or (λ call. after_receive b id n) (call_at b id) (after_loose b n)
@@ -63,8 +66,8 @@ after_admission stopped b id = if stopped then after_cut (after_admit b id) id e
 
 -- ---- credit
 
--- It is due on an id where what is to be announced is at least what the peer may still send. So it never starves: a peer
--- whose window is shut is told of all that was returned.
+-- It is due on an id where what is to be announced is at least what the peer may still send. So it
+-- never starves: a peer whose window is shut is told of all that was returned.
 abbrev pub is_credit_due : Books → ℕ → Bool
 is_credit_due b id = nat_le (window_of b id) (announcement b id)
 

@@ -13,9 +13,11 @@ pub enum Receipt {
     Feed,
     /// Nobody takes them. They are returned.
     Discard,
-    /// They are past the call's window, an error of its stream (RFC 9113, section 6.9.1). They are returned.
+    /// They are past the call's window, an error of its stream (RFC 9113, section 6.9.1). They are
+    /// returned.
     CallWindow,
-    /// They are past the connection's window, or more than can be counted, an error of the connection. They count nowhere.
+    /// They are past the connection's window, or more than can be counted, an error of the
+    /// connection. They count nowhere.
     Overrun,
 }
 

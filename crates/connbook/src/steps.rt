@@ -1,4 +1,5 @@
-//! What is done to the credit book alone: each step whatever is live, with what it leaves of the numbers that ledgers count.
+//! What is done to the credit book alone: each step whatever is live, with what it leaves of the
+//! numbers that ledgers count.
 
 ghost use Rattle.std.specs.Prelude.{◌≡◌, ◌+◌, ◌≤◌, length, nat_eq, if◌then◌else◌, IsSome, MatchOption, OnOk, OnErr};
 ghost use Rattle.flow.specs.Books.{IsLawful, call_at, window_of, after_receive, after_give_back, after_admit, after_cut, after_end_remote, after_end_local};

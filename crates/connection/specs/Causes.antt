@@ -1,6 +1,6 @@
--- Why a stream is reset or refused: the cause of each error code of an RST_STREAM (RFC 9113, sections 5.4.2, 6.4 and 7), and of
--- each refusal (RFC 9113, section 8.1; gRPC over HTTP/2, "Responses").
--- Lists of steps and runs have the latest first, lists of orders the earliest.
+-- Why a stream is reset or refused: the cause of each error code of an RST_STREAM (RFC 9113,
+-- sections 5.4.2, 6.4 and 7), and of each refusal (RFC 9113, section 8.1; gRPC over HTTP/2,
+-- "Responses"). Lists of steps and runs have the latest first, lists of orders the earliest.
 use Rattle.std.specs.Prelude.{◌≡◌, ◌⊎◌, ℕ, true, false, List, [], ◌∷◌, ◌++◌, None, Some}
 use Rattle.std.specs.List.{list_any}
 use Rattle.callhead.specs.declared.fault.HeadFault.{HeadFault}
@@ -115,12 +115,14 @@ WasWritten frame (Returned id items ∷ before) = WasWritten frame before
 
 -- ---- streams without a call
 
--- The stream began with a head that is refused with these fields, or with one whose path names no method.
+-- The stream began with a head that is refused with these fields, or with one whose path names no
+-- method.
 abbrev pub IsRefusedWith : ℕ → List Field → List Step → Type 0
 IsRefusedWith id fields told = ((fault : HeadFault) × WasTold (events.BadHead id fault) told × (refusal_of fault ≡ Some fields))
     ⊎ ((head : CallHead) × (before : List Step) × WasHeard (Told (events.Open id head) Unknown) before told × (fields ≡ unknown_method))
 
--- What the frames of the stream tell is nothing, an RST_STREAM, or one header block with the fields of its refusal, which ends the stream.
+-- What the frames of the stream tell is nothing, an RST_STREAM, or one header block with the fields
+-- of its refusal, which ends the stream.
 abbrev pub IsRefusal : ℕ → List Step → List Mark → Type 0
 IsRefusal id told part = (part ≡ [])
     ⊎ (((code : ℕ) × (part ≡ Reset code ∷ [])) ⊎ ((fields : List Field) × IsRefusedWith id fields told × (part ≡ Fields fields ∷ End ∷ [])))

@@ -1,6 +1,6 @@
--- What each error code of a reset says of the bytes that came, of the calls that were admitted, and of what they were fed (RFC 9113, sections
--- 5.1.2, 5.4.2, 6.9.1, 7 and 8.1.1).
--- Lists of steps and runs have the latest first.
+-- What each error code of a reset says of the bytes that came, of the calls that were admitted, and
+-- of what they were fed (RFC 9113, sections 5.1.2, 5.4.2, 6.9.1, 7 and 8.1.1). Lists of steps and
+-- runs have the latest first.
 use Rattle.std.specs.Prelude.{◌≡◌, ◌≢◌, ◌⊎◌, ◌<◌, ℕ, true, false, nat_eq, List}
 use Rattle.std.specs.List.{list_any}
 use Rattle.callparts.specs.declared.call_account.CallAccount.{CallAccount}
@@ -31,8 +31,9 @@ WasUnended id told = (is_admitted id told ≡ true) × (ending_told id (events_o
 abbrev pub MissesData : ℕ → List Step → Type 0
 MissesData id told = (is_admitted id told ≡ true) × (fed_by id (since id told) ≢ pieces id (events_of (since id told)))
 
--- The cause of a code. 1: the head is malformed. 2: the call was left, as the writer saw, and its account has no status. 3: the payloads of DATA that
--- came, padding too, have more than 65,535 bytes, or with a control of the peer that the run took the stream's window would be too large.
+-- The cause of a code. 1: the head is malformed. 2: the call was left, as the writer saw, and its
+-- account has no status. 3: the payloads of DATA that came, padding too, have more than 65,535
+-- bytes, or with a control of the peer that the run took the stream's window would be too large.
 abbrev pub HasCodeCause : ErrorCode → ℕ → List Entry → List Step → List Order → List RunStep → List CallAccount → Type 0
 HasCodeCause error.ProtocolError id entries told put run accounts = IsMalformed id told
 HasCodeCause error.InternalError id entries told put run accounts = WasOpened id put × WasLeft id accounts

@@ -1,4 +1,5 @@
--- Calls that were left without trailers: their streams are reset with INTERNAL_ERROR (RFC 9113, section 7), and their accounts have no status.
+-- Calls that were left without trailers: their streams are reset with INTERNAL_ERROR (RFC 9113,
+-- section 7), and their accounts have no status.
 use Rattle.std.specs.Prelude.{◌≡◌, ℕ, All, Contains, List, None}
 use Rattle.callparts.specs.declared.call_account.CallAccount.{CallAccount}
 

@@ -1,6 +1,6 @@
--- When the reading side may refuse what the peer sends: how many calls may be live at once (RFC 9113, section 5.1.2), how many bytes of
--- DATA may come (section 6.9.1), and that no more calls are admitted once the server drains (section 6.8).
--- Lists of steps have the latest first.
+-- When the reading side may refuse what the peer sends: how many calls may be live at once (RFC
+-- 9113, section 5.1.2), how many bytes of DATA may come (section 6.9.1), and that no more calls are
+-- admitted once the server drains (section 6.8). Lists of steps have the latest first.
 use Rattle.std.specs.Prelude.{◌≡◌, ◌≤◌, ◌<◌, ◌+◌, ℕ, Bool, true, All, List, [], ◌∷◌, ◌++◌, length}
 use Rattle.callhead.specs.declared.head.CallHead.{CallHead}
 use Rattle.connbook.specs.declared.answers.AdmitFault.{AdmitFault}
@@ -13,21 +13,24 @@ use Rattle.session.specs.FlowBytes.{counted_by, counted_told}
 use Rattle.readerloop.specs.Orders.{IsDue}
 use Rattle.readerloop.specs.Steps.{Received, Missed, Lacking, TurnedAway, Step, Told, CutOff, Drains, Lacks, events_of, is_draining, reported}
 
--- A call isn't admitted behind 64 or more that were, where the server drains, for want of memory, or since its number doesn't rise.
+-- A call isn't admitted behind 64 or more that were, where the server drains, for want of memory,
+-- or since its number doesn't rise.
 abbrev pub MayTurnAway : ℕ → Bool → AdmitFault → Type 0
 MayTurnAway calls draining refused.TooMany = 64 ≤ calls
 MayTurnAway calls draining refused.Draining = draining ≡ true
 MayTurnAway calls draining refused.NotNew = Unit {0}
 MayTurnAway calls draining refused.OutOfMemory = Unit {0}
 
--- DATA are past a window only where more bytes of them came, padding too, than a window has at first
+-- DATA are past a window only where more bytes of them came, padding too, than a window has at
+-- first
 abbrev pub MayRefuse : ℕ → Receipt → Type 0
 MayRefuse came receipt.CallWindow = 65535 < came
 MayRefuse came receipt.Overrun = 65535 < came
 MayRefuse came receipt.Feed = Unit {0}
 MayRefuse came receipt.Discard = Unit {0}
 
--- a piece is missed, and there is no memory for one, only where it has bytes, and its call's half was open
+-- a piece is missed, and there is no memory for one, only where it has bytes, and its call's half
+-- was open
 abbrev pub IsDueOf : InEvent → List Step → Type 0
 IsDueOf (events.Data id piece counted) before = IsDue id piece before
 IsDueOf _ before = Unit {0}
@@ -86,7 +89,8 @@ pub record Covers (told : List Step) (tally : Tally) : Type 0 where
 
 -- ---- a call too many
 
--- A call of this stream was turned away behind at least 64 that were admitted, all of them on lesser streams.
+-- A call of this stream was turned away behind at least 64 that were admitted, all of them on
+-- lesser streams.
 pub record IsOneTooMany (id : ℕ) (told : List Step) : Type 0 where
   pub head : CallHead
   pub before : List Step

@@ -1,5 +1,5 @@
--- What the peer tells the side that writes, in its order: SETTINGS, PING and WINDOW_UPDATE, and what acknowledges it (RFC 9113, sections
--- 6.5.3, 6.7 and 6.9).
+-- What the peer tells the side that writes, in its order: SETTINGS, PING and WINDOW_UPDATE, and
+-- what acknowledges it (RFC 9113, sections 6.5.3, 6.7 and 6.9).
 use Rattle.std.specs.Prelude.{Bool, true, false, not, ◌&&◌, List, [], ◌∷◌, ◌++◌, filter, flat_map}
 use Rattle.h2frame.specs.declared.frame.Frame.{Frame}
 use Rattle.h2frame.specs.declared.kind.FrameKind.{FrameKind}

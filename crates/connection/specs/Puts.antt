@@ -20,7 +20,8 @@ module _ {T : Type 0} where
   AreFirst first all P = (left : List T) × (first ++ left ≡ all) × (P → left ≡ [])
 
 module _ {J : Type 0} {book : Naming J} where
-  -- a call that an order opens stands in the register, at the number of its sender, with the order's stream
+  -- a call that an order opens stands in the register, at the number of its sender, with the
+  -- order's stream
   abbrev pub IsOwn : Control (Opening J book) → Type 0
   IsOwn (Open id opening) =
       IsSomeAnd (request_at opening.sending.value.number.seen.log opening.sending.value.number.value) (λ request. request.id ≡ id)
@@ -37,7 +38,8 @@ module _ {A B C J N : Type 0} {book : Naming J} {route : Ghosts N} where
   abbrev pub put_orders : Orders A B C J N book route → List Order
   put_orders orders = map (λ order. order_of order) (put_of orders)
 
-  -- an order stands behind the others, none of which was dropped; or it is dropped, and may be kept aside
+  -- an order stands behind the others, none of which was dropped; or it is dropped, and may be kept
+  -- aside
   abbrev pub Puts : Control (Opening J book) → Orders A B C J N book route → Orders A B C J N book route → Type 0
   Puts order old new =
       ((put_of new ≡ put_of old ++ order ∷ []) × (old.has_dropped ≡ false) × (new.has_dropped ≡ false) × (new.unput ≡ old.unput))
@@ -51,7 +53,8 @@ module _ {A B C J N : Type 0} {book : Naming J} {route : Ghosts N} where
   abbrev pub IsSame : Orders A B C J N book route → Orders A B C J N book route → Type 0
   IsSame old new = (new.outbox ≡ old.outbox) × (new.has_dropped ≡ old.has_dropped) × (new.unput ≡ old.unput)
 
-  -- What was put begins these orders, and is all of them where none was dropped. That which is kept aside is one of those that were dropped.
+  -- What was put begins these orders, and is all of them where none was dropped. That which is kept
+  -- aside is one of those that were dropped.
   pub record Ordered (all : List Order) (orders : Orders A B C J N book route) : Type 0 where
     pub dropped : List (Control (Opening J book))
     pub parts : map (λ order. order_of order) (put_of orders ++ dropped) ≡ all

@@ -1,4 +1,5 @@
--- The senders that come back at the end: that of an order which wasn't put, and those that the writer had.
+-- The senders that come back at the end: that of an order which wasn't put, and those that the
+-- writer had.
 use Rattle.std.specs.Prelude.{ℕ, Contains, List}
 use Rattle.callparts.specs.declared.order.Opening.{Opening}
 use Rattle.callparts.specs.declared.order.Returning.{Returning}

@@ -10,12 +10,14 @@ use Rattle.outwriter.specs.Parts.{Mark, spelled}
 use Rattle.outwriter.specs.Steps.{Step}
 use Rattle.writerloop.specs.Sent.{IsTold}
 
--- What the frames of a call's stream tell begins what these items spell, which were sent of it, or is a front of that with a reset behind it.
+-- What the frames of a call's stream tell begins what these items spell, which were sent of it, or
+-- is a front of that with a reset behind it.
 abbrev pub CarriesWhatWasSent : List Step → ℕ → List OutItem → Type 0
 CarriesWhatWasSent run id items = IsTold run (id, items)
 
--- What the frames of a stream tell is the whole response to its call: all that was given, which is an outcome of what the method of its
--- index answers to all that was taken, with the status of its account.
+-- What the frames of a stream tell is the whole response to its call: all that was given, which is
+-- an outcome of what the method of its index answers to all that was taken, with the status of its
+-- account.
 pub record IsWholeResponse (answers : ℕ → List (List ℕ) → Bool → Answer → Type 0) (head : CallHead) (whole : Account) (account : CallAccount) (part : List Mark) : Type 0 where
   -- all that was given was sent
   pub sent : whole.sent ≡ whole.given

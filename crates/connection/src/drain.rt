@@ -14,7 +14,8 @@ pub struct Drainer<A: Ledger, B: Ledger, C: Ledger> {
     shared: Arc<Shared<A, B, C>>,
 }
 
-/// What a connection is served with, so that its drainer can end it: what its threads share, and the shares of its credit book.
+/// What a connection is served with, so that its drainer can end it: what its threads share, and
+/// the shares of its credit book.
 #[derive(Drop)]
 pub struct DrainSeat<A: Ledger, B: Ledger, C: Ledger> {
     pub(crate) shared: Arc<Shared<A, B, C>>,
@@ -56,8 +57,8 @@ impl<A: Ledger, B: Ledger, C: Ledger> Drainer<A, B, C> {
         Ok((Drainer { shared }, seat))
     }
 
-    /// Lets no more calls be admitted. The peer is warned, and told which calls go on; the connection ends behind the last of them.
-    /// A second drain changes nothing.
+    /// Lets no more calls be admitted. The peer is warned, and told which calls go on; the
+    /// connection ends behind the last of them. A second drain changes nothing.
     pub fn drain(&self, rt: &impl Wait) {
         self.shared.book.lock(rt).close();
         self.shared.writer.ring();

@@ -11,8 +11,8 @@ use std::marker::Model;
 use std::sync::ledger::{Ledger, Share};
 use std::sync::{Arc, Wait};
 
-/// The credit book, and the shares of the one who counts what comes and admits calls: all parts of their ledgers, so that
-/// they are what the book counts. Its value is the tally of both.
+/// The credit book, and the shares of the one who counts what comes and admits calls: all parts of
+/// their ledgers, so that they are what the book counts. Its value is the tally of both.
 #[derive(Drop)]
 pub(crate) struct Intake<A: Ledger, B: Ledger, C: Ledger> {
     shared: Arc<Shared<A, B, C>>,
@@ -74,7 +74,8 @@ impl<A: Ledger, B: Ledger, C: Ledger> Intake<A, B, C> {
         shared.book.lock(rt).receive(id, flow, padding, came)
     }
 
-    /// Where the reader meets the writer, which hands in its share: no more was announced on the connection than came.
+    /// Where the reader meets the writer, which hands in its share: no more was announced on the
+    /// connection than came.
     pub(crate) fn audit(self, rt: &impl Wait, told: Share<C>)
         requires told { told.parts ≡ C.parts }
         ensures within { told.amount ≤ self.came }

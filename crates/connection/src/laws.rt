@@ -1,4 +1,5 @@
-//! Laws of what becomes of a connection, by the fields of its record (`IsServed`). None of them does anything.
+//! Laws of what becomes of a connection, by the fields of its record (`IsServed`). None of them
+//! does anything.
 
 ghost use mathlib.Core.List.{IsPrefix};
 ghost use Rattle.std.specs.Prelude.{◌≡◌, ◌⊎◌, ◌<◌, ◌++◌, ◌∷◌, ℕ, List, [], false, map, true};
@@ -34,7 +35,8 @@ ghost use Rattle.connection.specs.Limits.{AreJustified, EndsLast, IsOneTooMany, 
 ghost use Rattle.connection.specs.Heard.{HasPut};
 ghost use Rattle.connection.specs.News.{acknowledgements, answers_to, news_in, news_told, taken_by};
 
-/// Each reset that is to be written was ordered for its cause, by what was heard: RFC 9113, section 5.4.2.
+/// Each reset that is to be written was ordered for its cause, by what was heard: RFC 9113, section
+/// 5.4.2.
 pub fn ordered_resets()
     ensures { (told : List Step) (put : List Order) (id : ℕ) (code : Code) →
         HasPut (orders_by told ++ InputEnded ∷ []) put → IsAmong (Reset id code true) put
@@ -57,8 +59,8 @@ pub fn written_resets()
         × HasCauseOf code frame.head.stream told put run }
 {}
 
-/// What is told on a stream whose call no worker serves: nothing, one RST_STREAM, or one header block that ends it, with the
-/// fields of its refusal.
+/// What is told on a stream whose call no worker serves: nothing, one RST_STREAM, or one header
+/// block that ends it, with the fields of its refusal.
 pub fn streams_without_a_call()
     ensures { (told : List Step) (put : List Order) (run : List RunStep) →
         HasPut (orders_by told ++ InputEnded ∷ []) put → Obeys true put run → TellOthers run →
@@ -73,22 +75,25 @@ pub fn some_news()
         → IsPrefix (news_in (taken_by run)) (news_told (events_of told)) }
 {}
 
-/// Where all was ordered and the writer took each order, they are all of them.
+/// The SETTINGS, PINGs and credit that the writer took are all of the peer's, in order, where each
+/// order was put and taken.
 pub fn all_news()
     ensures { (told : List Step) (put : List Order) (run : List RunStep) →
         put ≡ orders_by told ++ InputEnded ∷ Close ∷ [] → Obeys false put run
         → news_in (taken_by run) ≡ news_told (events_of told) }
 {}
 
-/// Behind the first SETTINGS come only acknowledgements, of each SETTINGS and of each PING with its bytes, once and in order, beside
-/// DATA, header blocks, RST_STREAM, GOAWAY, WINDOW_UPDATE and a PING of the server's own: sections 6.5.3 and 6.7.
+/// Behind the first SETTINGS come only acknowledgements, of each SETTINGS and of each PING with its
+/// bytes, once and in order, beside DATA, header blocks, RST_STREAM, GOAWAY, WINDOW_UPDATE and a
+/// PING of the server's own: sections 6.5.3 and 6.7.
 pub fn some_answers()
     ensures { (told : List Step) (put : List Order) (run : List RunStep) →
         HasPut (orders_by told ++ InputEnded ∷ []) put → Obeys true put run → IsLawful run
         → Begins (acknowledgements (duties_told run)) (answers_to (news_told (events_of told))) }
 {}
 
-/// Where the writer took each order and all was written, each is acknowledged, unless the last frame is a GOAWAY with an error.
+/// Where the writer took each order and all was written, each is acknowledged, unless the last
+/// frame is a GOAWAY with an error.
 pub fn all_answers()
     ensures { (told : List Step) (put : List Order) (run : List RunStep) →
         put ≡ orders_by told ++ InputEnded ∷ Close ∷ [] → Obeys false put run → IsAnswered run →
@@ -96,8 +101,9 @@ pub fn all_answers()
         → acknowledgements (duties_told run) ≡ answers_to (news_told (events_of told)) }
 {}
 
-/// Each RST_STREAM that was written has an error code with its cause, by the bytes that came, by the calls that were admitted, what
-/// they were fed and whether they have a status, and by the run; and nothing else: sections 5.4.2 and 7. However the connection ended.
+/// Each RST_STREAM that was written has an error code with its cause, by the bytes that came, by
+/// the calls that were admitted, what they were fed and whether they have a status, and by the run;
+/// and nothing else: sections 5.4.2 and 7. However the connection ended.
 pub fn reset_codes()
     ensures { (end : Ended) (came : List ℕ) (told : List Step) (put : List Order)
         (run : List RunStep) (given : List InEventOf) (entries : List Entry)
@@ -112,7 +118,8 @@ pub fn reset_codes()
         × MayHaveCode code frame.head.stream entries told put run accounts }
 {}
 
-/// So has each reset that is to be written, of those that the writer took.
+/// Each reset that the writer took and that is to be written has an error code with such a cause,
+/// as `reset_codes` says of each RST_STREAM that was written.
 pub fn order_codes()
     ensures { (end : Ended) (came : List ℕ) (told : List Step) (put : List Order)
         (run : List RunStep) (given : List InEventOf) (entries : List Entry)
@@ -126,16 +133,16 @@ pub fn order_codes()
         → MayHaveCode code id entries told put run accounts }
 {}
 
-/// A stream is refused only where at least 64 calls were admitted before it, all on lesser streams, or behind a drain: sections 5.1.2
-/// and 6.8.
+/// A stream is refused only where at least 64 calls were admitted before it, all on lesser streams,
+/// or behind a drain: sections 5.1.2 and 6.8.
 pub fn turned_away()
     ensures { (came : List ℕ) (all : List InEventOf) (told : List Step) (id : ℕ) →
         Events came all → IsPrefix (events_of told) all → AreJustified told
         → WasTurnedAway id told → IsOneTooMany id told ⊎ WasDrained id told }
 {}
 
-/// A stream is reset for DATA past its window only where the payloads of the DATA frames that came, padding too, have more than 65,535
-/// bytes: section 6.9.1.
+/// A stream is reset for DATA past its window only where the payloads of the DATA frames that came,
+/// padding too, have more than 65,535 bytes: section 6.9.1.
 pub fn over_window()
     ensures { (came : List ℕ) (given : List InEventOf) (entries : List Entry) (told : List Step)
         (id : ℕ) →

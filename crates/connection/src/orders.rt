@@ -48,11 +48,13 @@ pub(crate) struct Outbox<J: Naming, N: Route> {
 pub(crate) struct Orders<A: Ledger, B: Ledger, C: Ledger, J: Naming, N: Route> {
     pub(crate) outbox: Outbox<J, N>,
     pub(crate) shared: Arc<Shared<A, B, C>>,
-    /// Whether there are orders, or credit that no call rings for, for which the writer wasn't rung yet.
+    /// Whether there are orders, or credit that no call rings for, for which the writer wasn't rung
+    /// yet.
     pub(crate) are_unrung: bool,
     /// Whether orders were dropped, since the writer had stopped.
     pub(crate) has_dropped: bool,
-    /// Of those that were dropped the one that opens a call, with its sender. Behind it no call begins.
+    /// Of those that were dropped the one that opens a call, with its sender. Behind it no call
+    /// begins.
     pub(crate) unput: Option<Order<J>>,
 }
 
@@ -80,7 +82,8 @@ impl<A: Ledger, B: Ledger, C: Ledger, J: Naming, N: Route> Orders<A, B, C, J, N>
         }
     }
 
-    /// Puts an order, and waits where there is no room. Once the writer has stopped it is dropped, and so are all behind it.
+    /// Puts an order, and waits where there is no room. Once the writer has stopped it is dropped,
+    /// and so are all behind it.
     pub(crate) fn put<R: Wait>(&mut self, rt: &R, order: Order<J>)
         ensures puts { Puts order self.old self.new }
     {
@@ -129,7 +132,8 @@ impl<A: Ledger, B: Ledger, C: Ledger, J: Naming, N: Route> Orders<A, B, C, J, N>
         }
     }
 
-    /// Puts the last order, and waits where there is no room: also a writer that has stopped takes orders, and ends at this one.
+    /// Puts the last order, and waits where there is no room: also a writer that has stopped takes
+    /// orders, and ends at this one.
     pub(crate) fn close<R: Wait>(&mut self, rt: &R)
         ensures put { put_of self.new ≡ put_of self.old ++ orders.Close ∷ [] }
         ensures dropped { self.new.has_dropped ≡ self.old.has_dropped }

@@ -1,4 +1,5 @@
-//! The reading thread of a connection: it reads, asks the lock, and does what the reading side decides (the crate `readerloop`).
+//! The reading thread of a connection: it reads, asks the lock, and does what the reading side
+//! decides (the crate `readerloop`).
 
 ghost use mathlib.Core.List.{IsPrefix};
 ghost use Rattle.callhead.specs.declared.head.CallHead.{CallHead as Head};
@@ -51,14 +52,16 @@ use std::thread::Threads;
 use std::time::{Clock, Duration, Instant};
 use writerloop::Senders;
 
-/// How many bytes are read at a time: the DATA that a window lets through, with the heads of its frames.
+/// How many bytes are read at a time: the DATA that a window lets through, with the heads of its
+/// frames.
 const PIECE: usize = 65_664;
 
-/// How many bytes are read at a time until a read brought so many: a connection that is silent takes no more memory, on its reader's
-/// stack.
+/// How many bytes are read at a time until a read brought so many: a connection that is silent
+/// takes no more memory, on its reader's stack.
 const FIRST_PIECE: usize = 1_024;
 
-/// From how many bytes on the writer isn't rung for what came, where it is DATA that are fed to calls: these ring once they have taken that.
+/// From how many bytes on the writer isn't rung for what came, where it is DATA that are fed to
+/// calls: these ring once they have taken that.
 const LARGE_PIECE: usize = 8_192;
 
 /// The room for the next read: the first piece, until there is a whole one.
@@ -66,7 +69,8 @@ fn room<'x>(first: &'x mut [u8], whole: &'x mut [u8]) -> &'x mut [u8] {
     if whole.is_empty() { first } else { whole }
 }
 
-/// Behind a read of so many bytes that filled the first piece, makes the whole one. Without memory it goes on with the first.
+/// Behind a read of so many bytes that filled the first piece, makes the whole one. Without memory
+/// it goes on with the first.
 fn grow(whole: &mut Vec<u8>, count: usize) {
     if count == FIRST_PIECE && whole.is_empty() {
         let _ = whole.resize(PIECE, 0);
@@ -101,7 +105,8 @@ pub(crate) struct Reader<
     pub(crate) reading: Reading<J, M>,
     /// The threads of the workers.
     hands: Vec<Hand<J, M>>,
-    /// How the reader's bell stood when it was looked for what came back. None where a half was shut since.
+    /// How the reader's bell stood when it was looked for what came back. None where a half was
+    /// shut since.
     looked: Option<u64>,
     gate: Arc<G>,
     /// When the connection began.
@@ -242,7 +247,8 @@ where
         }
     }
 
-    /// Puts the last order, and waits where there is no room. Meanwhile it takes what comes home: the writer may wait for a place there.
+    /// Puts the last order, and waits where there is no room. Meanwhile it takes what comes home:
+    /// the writer may wait for a place there.
     fn close(&mut self)
         ensures collects { Collects M.known M.names self.old.reading self.new.reading }
         ensures put { put_of self.new.orders ≡ put_of self.old.orders ++ orders.Close ∷ [] }
@@ -264,7 +270,8 @@ where
         unreachable!()
     }
 
-    /// Where the writer has ended, and handed these senders back: settles all calls. The accounts of all, and what was ordered.
+    /// Where the writer has ended, and handed these senders back: settles all calls. The accounts
+    /// of all, and what was ordered.
     #[inline(never)]
     pub(crate) fn meet(self, rest: Senders<J>) -> (Accounts, Orders<A, B, C, J, N>)
         requires way { out_name self.reading.home ≡ in_name rest.sends.home }
@@ -344,8 +351,8 @@ where
         unreachable!()
     }
 
-    /// Where something may have come back of calls since it was looked, takes that, and settles the calls that are over. Workers and the
-    /// writer ring for it.
+    /// Where something may have come back of calls since it was looked, takes that, and settles the
+    /// calls that are over. Workers and the writer ring for it.
     fn collect(&mut self)
         ensures collects { Collects M.known M.names self.old.reading self.new.reading }
         ensures orders { self.new.orders ≡ self.old.orders }
@@ -395,7 +402,8 @@ where
         }
     }
 
-    /// Looks whether the server is to stop, and has the peer told where it is. Whether no call is live then: the connection ends.
+    /// Looks whether the server is to stop, and has the peer told where it is. Whether no call is
+    /// live then: the connection ends.
     fn heed_drain(&mut self) -> bool
         ensures cuts { CutsSome M.known M.names false self.old.reading self.old.orders
             self.new.reading self.new.orders }
@@ -476,8 +484,9 @@ where
         Ok(end)
     }
 
-    /// Rings for so many bytes that came. The writer wakes while the calls are answered. It is rung where an order waits, where few
-    /// bytes came, which may be returned at once, and where credit is due: what came may have made it so, and no worker rings for that.
+    /// Rings for so many bytes that came. The writer wakes while the calls are answered. It is rung
+    /// where an order waits, where few bytes came, which may be returned at once, and where credit
+    /// is due: what came may have made it so, and no worker rings for that.
     fn ring(&mut self, count: usize)
         ensures reading { self.new.reading
             ≡ record self.old.reading { seats = self.new.reading.seats } }
@@ -601,7 +610,8 @@ where
         None
     }
 
-    /// Does what was decided: what is ordered first, then the half that is to be shut. How the connection ends, if it does.
+    /// Does what was decided: what is ordered first, then the half that is to be shut. How the
+    /// connection ends, if it does.
     fn act(&mut self, decided: Decided<J>) -> Option<Ending>
         ensures acts { Acts M.known M.names decided self.old.reading self.old.orders
             self.new.reading self.new.orders }
@@ -679,7 +689,8 @@ where
         }
     }
 
-    /// A call isn't admitted. Where that is since the server is to stop, the peer is told of it before.
+    /// A call isn't admitted. Where that is since the server is to stop, the peer is told of it
+    /// before.
     fn turn_away(&mut self, id: StreamId, fault: AdmitFault) -> Option<Ending>
         ensures reads { (head : Head) (tally : Tally) → MayTurnAway tally.calls true fault
             → ReadsWith M.known M.names tally tally (events.Open id head ∷ []) result
@@ -712,8 +723,9 @@ where
         self.act(decided)
     }
 
-    /// Has a worker answer a call that was admitted: one that is free, or a new one. Where there are as many as calls may be live, one of
-    /// them is at a call that is no longer live, and soon is free. Once orders were dropped no call begins: the writer has stopped.
+    /// Has a worker answer a call that was admitted: one that is free, or a new one. Where there
+    /// are as many as calls may be live, one of them is at a call that is no longer live, and soon
+    /// is free. Once orders were dropped no call begins: the writer has stopped.
     fn start(&mut self, request: Request, methods: &Arc<Methods>) -> Option<Ending>
         requires known { IsKnown M.known (λ m. answers (m.vtable, m.value))
             (listed methods.now.value) }
@@ -775,7 +787,8 @@ where
             .wait_past(&self.rt, mark, Duration::from_millis(STEP));
     }
 
-    /// Has the worker of this number answer a call. Where there is no memory for its lanes the connection ends.
+    /// Has the worker of this number answer a call. Where there is no memory for its lanes the
+    /// connection ends.
     fn engage(&mut self, number: usize, request: Request) -> Option<Ending>
         requires named { M.names request.head.path request.index }
         requires next { IsNext request.id self.old.reading }
@@ -808,7 +821,8 @@ where
         Ok(())
     }
 
-    /// There is no memory, or no thread, for a call of this method, which was admitted: the connection ends.
+    /// There is no memory, or no thread, for a call of this method, which was admitted: the
+    /// connection ends.
     fn lose(&mut self, id: StreamId, method: usize) -> Option<Ending>
         requires next { IsNext id self.old.reading }
         ensures reads { (head : Head) (tally : Tally) → M.names head.path method

@@ -15,7 +15,8 @@ use std::sync::{Arc, Wait};
 use std::thread::Threads;
 use std::time::{Clock, Instant};
 
-/// A worker in a thread of its own, and that thread. That none can be made counts as want of memory.
+/// A worker in a thread of its own, and that thread. That none can be made counts as want of
+/// memory.
 pub(crate) fn open_seat<A, B, C, G, J, M, R>(
     rt: R,
     alloc: Global,

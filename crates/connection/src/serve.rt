@@ -42,11 +42,12 @@ use std::thread::Threads;
 use std::time::{Clock, Instant};
 use writerloop::Written;
 
-/// Serves one connection, and says what became of it. The caller's thread reads; one more writes, and up to 64 answer calls. It
-/// returns once the input has ended, or the connection was ended with an error or drained, and all that could be written was.
+/// Serves one connection, and says what became of it. The caller's thread reads; one more writes,
+/// and up to 64 answer calls. It returns once the input has ended, or the connection was ended with
+/// an error or drained, and all that could be written was.
 ///
-/// Calls are answered by these methods, and go on when this gate lets them. A peer that neither reads nor closes is waited for.
-/// The drainer of the seat ends the connection while calls go on.
+/// Calls are answered by these methods, and go on when this gate lets them. A peer that neither
+/// reads nor closes is waited for. The drainer of the seat ends the connection while calls go on.
 pub fn serve_connection<A, B, C, I, O, G, R>(
     rt: R,
     alloc: Global,
@@ -312,7 +313,8 @@ where
     end(rt, reader, intake, writing, read)
 }
 
-/// A connection that was begun: its reader, the reader's hold on the credit book, and the thread that writes.
+/// A connection that was begun: its reader, the reader's hold on the credit book, and the thread
+/// that writes.
 #[derive(Drop)]
 struct Begun<
     A: Ledger,
@@ -465,7 +467,8 @@ where
     meet_writer(reader, written, read)
 }
 
-/// What became of a connection, where its reader meets its writer, and takes the senders back that this had.
+/// What became of a connection, where its reader meets its writer, and takes the senders back that
+/// this had.
 fn meet_writer<A, B, C, J, M, N, O, G, R>(
     reader: Reader<A, B, C, J, M, N, R, G>,
     written: Written<J, O>,
@@ -540,7 +543,8 @@ where
     N: Route,
     O: ConnWrite + Send + Drop + 'static,
     requires route { N.ring ≡ Some (out_name rx) }
-    // The orders that the run obeyed begin those that were put; and where the ending doesn't tell why not, they are all of them.
+    // The orders that the run obeyed begin those that were put; and where the ending doesn't tell
+    // why not, they are all of them.
     ensures obeyed { AreFirst (taken rx) (put_in orders.outbox.ring)
         ((result.report.ending ≢ ending.OutOfMemory)
         × (result.report.ending ≢ ending.WriteFailed)) }
@@ -574,8 +578,8 @@ where
     }
 }
 
-/// How a connection ended, by what the reader and the writer see. What a writer, or a reader, doesn't end with
-/// counts as want of memory.
+/// How a connection ended, by what the reader and the writer see. What a writer, or a reader,
+/// doesn't end with counts as want of memory.
 fn of_both(read: Ending, written: Option<Ending>) -> Ending
     ensures memory { written ≡ Some ending.OutOfMemory → result ≡ ending.OutOfMemory }
     ensures failed { written ≡ Some ending.WriteFailed → result ≢ ending.OutOfMemory
@@ -596,8 +600,9 @@ fn of_both(read: Ending, written: Option<Ending>) -> Ending
     }
 }
 
-/// The same by whether the writer took all orders that were put, whether others were dropped, and whether it told no error. Where no
-/// ending tells why, it counts as want of memory; but that doesn't come.
+/// The same by whether the writer took all orders that were put, whether others were dropped, and
+/// whether it told no error. Where no ending tells why, it counts as want of memory; but that
+/// doesn't come.
 fn by_orders(seen: Ending, are_all: bool, has_dropped: bool, is_faultless: bool) -> Ending
     ensures memory { seen ≡ ending.OutOfMemory → result ≡ ending.OutOfMemory }
     ensures failed { seen ≡ ending.WriteFailed → result ≡ ending.WriteFailed }

@@ -1,4 +1,5 @@
-//! The writing thread of a connection: it turns a `Writing`, takes the lock for it, rings and waits.
+//! The writing thread of a connection: it turns a `Writing`, takes the lock for it, rings and
+//! waits.
 
 ghost use Rattle.std.specs.Prelude.{◌≡◌, ◌⊎◌, ℕ, List, [], ◌∷◌, Option, IfErr, IfOk, OnErr, OnOk, true};
 ghost use Rattle.lane.specs.Ring.{in_name, out_name, put_in, taken};
@@ -27,7 +28,8 @@ use writerloop::{Filled, Rest, Took, Waiting, Writing, Written};
 /// How long the writer waits at most before it looks again, in milliseconds.
 const STEP: u64 = 1000;
 
-/// How many turns that write something come at most before it looks for calls that were left, which looks at each call.
+/// How many turns that write something come at most before it looks for calls that were left, which
+/// looks at each call.
 const TURNS: u32 = 16;
 
 /// What the writing thread of a connection has.
@@ -96,7 +98,8 @@ where
         }
     }
 
-    /// Writes what can be written, and waits where that is nothing. Whether no more is to be written.
+    /// Writes what can be written, and waits where that is nothing. Whether no more is to be
+    /// written.
     fn turn(&mut self, rt: &impl Wait) -> bool
         ensures leads { LeadsTo W.contents W.failed self.old.outlet self.old.writing
             self.new.outlet self.new.writing }
@@ -143,8 +146,8 @@ where
         self.wait(rt, mark);
     }
 
-    /// Behind a turn that wrote something: once in some turns takes the orders that wait, and has the calls reset that were left without
-    /// trailers.
+    /// Behind a turn that wrote something: once in some turns takes the orders that wait, and has
+    /// the calls reset that were left without trailers.
     fn reset_between(&mut self, rt: &impl Wait)
         ensures outlet { self.new.outlet ≡ self.old.outlet }
         ensures leads { LeadsOn W.contents W.failed self.old.writing self.new.writing }
@@ -167,7 +170,8 @@ where
             .wait_past(rt, mark, Duration::from_millis(STEP));
     }
 
-    /// Takes what orders wait, and writes a buffer's worth of frames. Why there aren't more, and whether there was none.
+    /// Takes what orders wait, and writes a buffer's worth of frames. Why there aren't more, and
+    /// whether there was none.
     fn write_once(&mut self, rt: &impl Wait) -> (Filled, bool)
         ensures leads { LeadsTo W.contents W.failed self.old.outlet self.old.writing
             self.new.outlet self.new.writing }
@@ -207,7 +211,8 @@ where
         }
     }
 
-    /// Orders were taken: there is room for others. A call that was opened by one of them after the writer had stopped is woken.
+    /// Orders were taken: there is room for others. A call that was opened by one of them after the
+    /// writer had stopped is woken.
     fn tell_taken(&self) {
         self.outlet.shared().reader.ring();
         if self.outlet.shared().has_stopped() {
@@ -237,7 +242,8 @@ where
         true
     }
 
-    /// Looks at the next order, where one waits: what a GOAWAY of the writer's own tells, if one comes of it.
+    /// Looks at the next order, where one waits: what a GOAWAY of the writer's own tells, if one
+    /// comes of it.
     fn look(&mut self, rt: &impl Wait) -> Option<StreamId>
         ensures outlet { self.new.outlet ≡ self.old.outlet }
         ensures leads { LeadsOn W.contents W.failed self.old.writing self.new.writing }
@@ -263,7 +269,8 @@ where
         }
     }
 
-    /// The writer has ended a stream: its call is cut, and its worker woken only then, so that it sees that.
+    /// The writer has ended a stream: its call is cut, and its worker woken only then, so that it
+    /// sees that.
     fn cut(&self, rt: &impl Wait, id: StreamId) {
         self.outlet.shared().book.lock(rt).cut(id);
         self.writing.wake(id);
@@ -346,8 +353,8 @@ where
         }
     }
 
-    /// Nothing can be written now. Once the input has ended no window opens, so the calls that wait for one are cut. Where the writer has
-    /// ended the connection, all that it writes is written.
+    /// Nothing can be written now. Once the input has ended no window opens, so the calls that wait
+    /// for one are cut. Where the writer has ended the connection, all that it writes is written.
     fn idle(&self, rt: &impl Wait) {
         if self.outlet.shared().has_stopped() {
             self.gate.writing_ended();
@@ -365,7 +372,8 @@ where
         }
     }
 
-    /// Nothing more is written: no call is live, and the workers that wait for room are woken to see that.
+    /// Nothing more is written: no call is live, and the workers that wait for room are woken to
+    /// see that.
     fn stop(&self, rt: &impl Wait) {
         self.outlet.shared().book.lock(rt).stop();
         self.outlet.shared().stop();
@@ -373,15 +381,17 @@ where
     }
 }
 
-/// What a writing thread comes to: what it hands back, and the share of the one who announced credit.
+/// What a writing thread comes to: what it hands back, and the share of the one who announced
+/// credit.
 #[derive(Drop)]
 pub(crate) struct Parted<C: Ledger, J: Naming, W: ConnWrite + Drop> {
     pub(crate) written: Written<J, W>,
     pub(crate) told: Share<C>,
 }
 
-/// What a writer writes to, takes its orders from, and hands senders back by, as it was before. It promises that behind what was written stand
-/// the frames of a lawful run, which obeyed the orders that it took, and granted on the connection what its share counts; and that no sender is lost.
+/// What a writer writes to, takes its orders from, and hands senders back by, as it was before. It
+/// promises that behind what was written stand the frames of a lawful run, which obeyed the orders
+/// that it took, and granted on the connection what its share counts; and that no sender is lost.
 #[derive(Drop)]
 pub(crate) struct Begun<J: Naming, W: ConnWrite> {
     pub(crate) device: Snapshot<W>,
@@ -401,8 +411,9 @@ impl<C: Ledger, J: Naming, W: ConnWrite + Drop> Promise<Parted<C, J, W>> for Beg
 /// The thread that writes, and what it comes to.
 pub(crate) type WriterHand<C, J, W> = PromisedHandle<Parted<C, J, W>, Begun<J, W>>;
 
-/// Starts the thread that writes. Where it can't be made, it is ordered that the input has ended, and no more: this thread writes what is to
-/// be written then. So Close isn't the first order, for which there may be no memory.
+/// Starts the thread that writes. Where it can't be made, it is ordered that the input has ended,
+/// and no more: this thread writes what is to be written then. So Close isn't the first order, for
+/// which there may be no memory.
 // (kept out of its caller, whose frame is on the stack of each connection that lives)
 #[inline(never)]
 pub(crate) fn start<A, B, C, J, N, W, G, R>(

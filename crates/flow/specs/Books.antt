@@ -1,5 +1,5 @@
--- The credit book of a connection: flow control of what is received (RFC 9113, sections 5.2 and 6.9), on the connection
--- and on each call that is live.
+-- The credit book of a connection: flow control of what is received (RFC 9113, sections 5.2 and
+-- 6.9), on the connection and on each call that is live.
 use Rattle.std.specs.Prelude.{◌≡◌, ℕ, ◌+◌, ◌-◌, ◌%◌, ◌<◌, ◌≤◌, min, Bool, true, false, ◌&&◌, ◌||◌, IsTrue, if◌then◌else◌, List, [], ◌∷◌, ◌++◌, length, All, AllPairs, sum_by, Option, None, MatchOption, Result, Ok, Err, nat_eq, ◌⊎◌}
 use Rattle.std.specs.Option.{option_map_or}
 use Rattle.std.specs.Map.{lookup, set_value, remove_entry, keys_of, values_of}
@@ -20,10 +20,10 @@ code_of Overgiven = 5
 code_of Unknown = 6
 code_of OutOfMemory = 7
 
--- The counts of the connection, the live calls in the order of their admission, the greatest id that was admitted (0 for
--- none), and whether no more are admitted. Of the counts, `received` are the bytes of DATA that came, padding counted
--- (section 6.9.1), `returned` those that were taken since or never will be, and `announced` those that WINDOW_UPDATE told
--- the peer.
+-- The counts of the connection, the live calls in the order of their admission, the greatest id
+-- that was admitted (0 for none), and whether no more are admitted. Of the counts, `received` are
+-- the bytes of DATA that came, padding counted (section 6.9.1), `returned` those that were taken
+-- since or never will be, and `announced` those that WINDOW_UPDATE told the peer.
 pub record Books : Type 0 where
   pub connection : Counts
   pub calls : List (ℕ × Call)
@@ -87,8 +87,9 @@ after_admit b id = record b { calls = b.calls ++ (id, new_call) ∷ []; last = i
 
 -- ---- what ledgers beside the book stand on
 
--- what a call of the book moves: the bytes that came on the connection and those announced on it, the calls that are admitted
--- and those no longer live; and the greatest id and whether no more are admitted, as they are then
+-- what a call of the book moves: the bytes that came on the connection and those announced on it,
+-- the calls that are admitted and those no longer live; and the greatest id and whether no more are
+-- admitted, as they are then
 pub record Change : Type 0 where
   pub received : ℕ
   pub announced : ℕ
@@ -110,7 +111,8 @@ pub record Moves (change : Change) (old new : Books) : Type 0 where
 
 -- ---- each call of the book
 
--- n bytes of DATA came. Those of a call whose local end is marked are returned at once, since nobody will take them.
+-- n bytes of DATA came. Those of a call whose local end is marked are returned at once, since
+-- nobody will take them.
 abbrev pub after_receive_on : Books → ℕ → ℕ → Call → Books
 after_receive_on b id n call =
     record (with_call b id (record call { counts = with_received call.counts n call.marks.local })) { connection = with_received b.connection n call.marks.local }
@@ -163,7 +165,8 @@ after_end_remote_on b id call =
 abbrev pub after_end_remote : Books → ℕ → Books
 after_end_remote b id = option_map_or (after_end_remote_on b id) (call_at b id) b
 
--- our half of a call is over: all that it hasn't returned is returned; with both ends marked it is no longer live
+-- our half of a call is over: all that it hasn't returned is returned; with both ends marked it is
+-- no longer live
 abbrev pub local_closed : Books → ℕ → Call → Books
 local_closed b id call =
     record (with_call b id (record { counts = with_returned call.counts (unreturned call.counts); marks = record call.marks { local = true } })) { connection = with_returned b.connection (unreturned call.counts) }
@@ -174,8 +177,8 @@ after_end_local_on b id call = if call.marks.remote then after_cut_on b id call 
 abbrev pub after_end_local : Books → ℕ → Books
 after_end_local b id = option_map_or (after_end_local_on b id) (call_at b id) b
 
--- how many bytes the peer may still send (section 6.9.1): on the connection no more than can be counted, and nothing on a
--- call that isn't live
+-- how many bytes the peer may still send (section 6.9.1): on the connection no more than can be
+-- counted, and nothing on a call that isn't live
 abbrev pub window_of : Books → ℕ → ℕ
 window_of b id =
     if nat_eq id 0 then min (INITIAL_WINDOW + b.connection.announced) MAX_RECEIVED - b.connection.received
@@ -230,7 +233,8 @@ EndCause b id ConnectionWindow = ⊥
 EndCause b id Overgiven = ⊥
 EndCause b id OutOfMemory = ⊥
 
--- the order of the tests: what is asked of the id or the book, then the call's counts, then the connection's
+-- the order of the tests: what is asked of the id or the book, then the call's counts, then the
+-- connection's
 abbrev pub place : BookFault → ℕ
 place Draining = 0
 place TooMany = 1
@@ -258,15 +262,15 @@ MeetsOrMemory Cause (Ok _) = NoneStands Cause
 MeetsOrMemory Cause (Err OutOfMemory) = NoneStands Cause
 MeetsOrMemory Cause (Err fault) = IsFirst Cause fault
 
--- counts at any time: no more is announced than was returned, no more returned than came, and no more came than was
--- allowed, the initial window and what was announced (sections 6.9.1 and 6.9.2)
+-- counts at any time: no more is announced than was returned, no more returned than came, and no
+-- more came than was allowed, the initial window and what was announced (sections 6.9.1 and 6.9.2)
 pub record IsCounted (c : Counts) : Type 0 where
   pub announced_within : c.announced ≤ c.returned
   pub returned_within : c.returned ≤ c.received
   pub received_within : c.received ≤ INITIAL_WINDOW + c.announced
 
--- a live call of a connection that has received so much: its counts, that a call whose local end is marked has returned
--- all, and that not both ends are marked
+-- a live call of a connection that has received so much: its counts, that a call whose local end is
+-- marked has returned all, and that not both ends are marked
 pub record IsLive (most : ℕ) (call : Call) : Type 0 where
   pub counted : IsCounted call.counts
   pub within : call.counts.received ≤ most

@@ -1,5 +1,5 @@
--- The receiving halves of streams (RFC 9113, section 5.1): what a frame from the client is answered, given all the
--- frames before it and the streams that the server reset.
+-- The receiving halves of streams (RFC 9113, section 5.1): what a frame from the client is
+-- answered, given all the frames before it and the streams that the server reset.
 use Rattle.std.specs.Prelude.{ℕ, ◌%◌, ◌==◌, Bool, true, false, ◌&&◌, not, if◌then◌else◌, nat_eq, nat_lt, List, [], ◌∷◌, length, Option, Some, None, ◌≡◌, ◌<◌, ◌≤◌}
 use Rattle.std.specs.List.{list_all, list_any}
 use Rattle.std.specs.Map.{lookup}
@@ -14,7 +14,8 @@ use Rattle.flow.specs.declared.halves.Half.TheVariants.{Opened, Ended, Reset}
 use Rattle.flow.specs.declared.halves.HalfVerdict.{HalfVerdict}
 use Rattle.flow.specs.declared.halves.HalfVerdict.TheVariants.{Open, Accept, Discard, StreamError, ConnectionError}
 
--- a frame that the client sent, or the number of a stream that the server reset. A history has the latest event first.
+-- a frame that the client sent, or the number of a stream that the server reset. A history has the
+-- latest event first.
 pub data Event : Type 0 where
   Received : FrameHead → Event
   Cut : ℕ → Event
@@ -46,8 +47,8 @@ abbrev pub is_headers : FrameKind → Bool
 is_headers Headers = true
 is_headers _ = false
 
--- HEADERS begin a stream whose number is odd, and greater than those of all streams that were begun (section 5.1.1), while
--- these are fewer than 4,096
+-- HEADERS begin a stream whose number is odd, and greater than those of all streams that were begun
+-- (section 5.1.1), while these are fewer than 4,096
 abbrev pub begins : Event → List ℕ → Bool
 begins (Received head) ids = is_headers head.kind && (is_odd head.stream && (is_above ids head.stream && nat_lt (length ids) MAX_STREAMS))
 begins (Cut id) ids = false
@@ -115,8 +116,9 @@ state_of id history None = if is_odd id && not (is_above (begun history) id) the
 abbrev pub state : ℕ → List Event → State
 state id history = state_of id history (course id history)
 
--- On an idle stream HEADERS alone are lawful, with an odd number. Once 4,096 streams were begun, whatever comes on an odd one
--- is dropped: its number is above that of the last stream that the server serves (section 6.8).
+-- On an idle stream HEADERS alone are lawful, with an odd number. Once 4,096 streams were begun,
+-- whatever comes on an odd one is dropped: its number is above that of the last stream that the
+-- server serves (section 6.8).
 abbrev pub on_idle : Bool → Bool → Bool → HalfVerdict
 on_idle odd headers few = if odd then (if few then (if headers then Open else ConnectionError ProtocolError) else Discard) else ConnectionError ProtocolError
 
@@ -178,7 +180,8 @@ is_error (StreamError code) = true
 is_error (ConnectionError code) = true
 is_error _ = false
 
--- an answer that a frame on a stream which wasn't begun may have, where it doesn't begin it: the stream is unknown
+-- an answer that a frame on a stream which wasn't begun may have, where it doesn't begin it: the
+-- stream is unknown
 abbrev pub may_be_unbegun : HalfVerdict → Bool
 may_be_unbegun Discard = true
 may_be_unbegun (ConnectionError code) = true

@@ -1,4 +1,5 @@
--- Worked histories, computed: a window goes below zero by a smaller initial size, and credit brings it back.
+-- Worked histories, computed: a window goes below zero by a smaller initial size, and credit brings
+-- it back.
 use Rattle.std.specs.Prelude.{◌≡◌, refl, List, [], ◌∷◌, pos, negsuc, Some, None}
 use Rattle.flow.specs.WindowHistory.{Step, Opening, Credit, Spending, Resizing, Closing, connection_window, stream_window, room_after}
 

@@ -1,4 +1,5 @@
--- The windows of what is sent (RFC 9113, section 6.9): that of the connection, and one for each open stream.
+-- The windows of what is sent (RFC 9113, section 6.9): that of the connection, and one for each
+-- open stream.
 use Rattle.std.specs.Prelude.{◌≡◌, ℕ, ◌+◌, ◌<◌, ◌≤◌, ◌^◌, min, ℤ, pos, negsuc, ◌+ℤ◌, ◌≤ℤ◌, ◌<ℤ◌, List, [], ◌∷◌, ◌++◌, All, Option, Some, None, MatchOption, Result, Ok, Err, nat_eq, ◌⊎◌, is_some, false}
 use Rattle.std.specs.Option.{option_map}
 use Rattle.std.specs.Map.{lookup, set_value, remove_entry, values_of}

@@ -1,13 +1,14 @@
 //! The receiving halves of streams (RFC 9113, section 5.1).
 //!
-//! Streams are taken in order by the greatest number that was begun: HEADERS on an odd number that isn't greater begin
-//! nothing. There is no state for skipped streams: what isn't in the map is idle or skipped, and there no frame is
-//! lawful but HEADERS on an odd number above the greatest. Once 4,096 streams were begun, what comes on an odd number above
-//! the greatest is dropped, and nothing is kept of it: what is kept is bounded, whatever a client sends. `Half` is public
-//! since contracts see it.
+//! Streams are taken in order by the greatest number that was begun: HEADERS on an odd number that
+//! isn't greater begin nothing. There is no state for skipped streams: what isn't in the map is
+//! idle or skipped, and there no frame is lawful but HEADERS on an odd number above the greatest.
+//! Once 4,096 streams were begun, what comes on an odd number above the greatest is dropped, and
+//! nothing is kept of it: what is kept is bounded, whatever a client sends. `Half` is public since
+//! contracts see it.
 //!
-//! `cut`: it asks that the stream was begun: `on` says so of each answer that is neither Discard nor an error of the
-//! connection (clause `begun`).
+//! `cut`: it asks that the stream was begun: `on` says so of each answer that is neither Discard
+//! nor an error of the connection (clause `begun`).
 
 ghost use Rattle.std.specs.Prelude.{◌≡◌, ◌<◌, ◌≤◌, ◌⊎◌, true, false, ◌&&◌, length, nat_eq, nat_lt, List, [], ◌∷◌, None, Some, IfOk, OnErr, IsSome, IsTrue, MatchOption};
 ghost use Rattle.std.specs.Map.{lookup, set_value};
@@ -88,7 +89,8 @@ impl Halves {
         ensures begun { IfOk result
             (λ answer. may_be_unbegun answer ≡ false → IsSome (half_of self.new head.now.stream)) }
 
-        // Of a stream that wasn't begun nothing is kept but where it is opened, and no more than 4,096 are ever kept.
+        // Of a stream that wasn't begun nothing is kept but where it is opened, and no more than
+        // 4,096 are ever kept.
         ensures forgets { IfOk result
             (λ answer. half_of self.old head.now.stream ≡ None → (answer ≡ Open)
             ⊎ (self.new ≡ self.old)) }
@@ -183,7 +185,8 @@ fn is_last(head: &FrameHead) -> bool
     }
 }
 
-/// Whether HEADERS may begin this stream, where this is the greatest number of those that were begun.
+/// Whether HEADERS may begin this stream, where this is the greatest number of those that were
+/// begun.
 fn may_begin(id: StreamId, greatest: StreamId) -> bool
     ensures { result ≡ is_odd id && nat_lt greatest id }
 {

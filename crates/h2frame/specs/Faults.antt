@@ -30,7 +30,8 @@ may_be_on WindowUpdate stream = true
 may_be_on Continuation stream = nat_lt 0 stream
 may_be_on (Unknown code) stream = true
 
--- the bytes of a payload before its content: the length of the padding, and the priority (sections 6.1 and 6.2)
+-- the bytes of a payload before its content: the length of the padding, and the priority (sections
+-- 6.1 and 6.2)
 abbrev pub overhead : FrameHead → ℕ
 overhead head = (if is_padded head then 1 else 0) + (if has_priority head then 5 else 0)
 

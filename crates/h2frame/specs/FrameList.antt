@@ -8,7 +8,8 @@ use Rattle.h2frame.specs.Flags.{is_padded, has_priority}
 use Rattle.h2frame.specs.Faults.{overhead, head_fault, frame_fault}
 use Rattle.h2frame.specs.Spelling.{Skipped, IsHead, Fits, head_text, spelling}
 
--- a frame, or the stream of a WINDOW_UPDATE without an increment, which is an error of that stream alone
+-- a frame, or the stream of a WINDOW_UPDATE without an increment, which is an error of that stream
+-- alone
 pub data Entry : Type 0 where
   Whole : Frame → Entry
   NoIncrement : ℕ → Entry
@@ -85,7 +86,8 @@ answered None = []
 answered (Some (Ok frame)) = Whole frame ∷ []
 answered (Some (Err fault)) = refused fault
 
--- why a fault is answered: it stands in the bytes, or a frame does for whose content, which isn't empty, there is no memory
+-- why a fault is answered: it stands in the bytes, or a frame does for whose content, which isn't
+-- empty, there is no memory
 abbrev pub HasCause : FrameFault → List ℕ → Type 0
 HasCause OutOfMemory bytes = (frame : Frame) × StandsAt (Whole frame) bytes × (0 < length frame.content)
 HasCause (ZeroIncrement stream) bytes = StandsAt (NoIncrement stream) bytes ⊎ IsFaulty (ZeroIncrement stream) bytes

@@ -14,11 +14,13 @@ pub record Skipped : Type 0 where
   pub priority : List ℕ
   pub padding : List ℕ
 
--- nine bytes: the payload's length in three, type, flags, and the reserved bit before the stream in four
+-- nine bytes: the payload's length in three, type, flags, and the reserved bit before the stream in
+-- four
 abbrev pub head_text : ℕ → FrameHead → List ℕ
 head_text reserved head = bytes_high_first 3 head.length ++ code_of head.kind ∷ head.flags.bits ∷ bytes_high_first 4 (reserved * 2 ^ 31 + head.stream)
 
--- the content, behind the padding's length and the priority where the flags have them, and before the padding
+-- the content, behind the padding's length and the priority where the flags have them, and before
+-- the padding
 abbrev pub payload_text : FrameHead → Skipped → List ℕ → List ℕ
 payload_text head skipped content =
     (if is_padded head then length skipped.padding ∷ [] else []) ++ (skipped.priority ++ (content ++ skipped.padding))
@@ -44,8 +46,9 @@ pub record Fits (frame : Frame) (skipped : Skipped) : Type 0 where
 abbrev pub spelled : Frame → List ℕ
 spelled frame = head_text 0 frame.head ++ frame.content
 
--- a frame that can be spelled so: its type is that of its code (section 4.1), its stream has 31 bits (section 4.1), all
--- of its payload is content, and the flags say of no padding (section 6.1) and no priority (section 6.2)
+-- a frame that can be spelled so: its type is that of its code (section 4.1), its stream has 31
+-- bits (section 4.1), all of its payload is content, and the flags say of no padding (section 6.1)
+-- and no priority (section 6.2)
 pub record IsWritable (frame : Frame) : Type 0 where
   -- an unknown type has no code of a known one
   pub kind : kind_of (code_of frame.head.kind) ≡ frame.head.kind

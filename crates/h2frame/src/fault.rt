@@ -44,7 +44,8 @@ impl FrameFault {
         }
     }
 
-    /// The error that the peer is told of the connection, or of the stream where `ZeroIncrement` names one.
+    /// The error that the peer is told of the connection, or of the stream where `ZeroIncrement`
+    /// names one.
     pub fn error_code(self) -> ErrorCode
         ensures { result ≡ fault_error self }
     {

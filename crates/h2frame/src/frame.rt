@@ -7,10 +7,12 @@ ghost use Rattle.h2frame.specs.Faults.{may_be_on, may_have_length, overhead, hea
 use crate::{Flags, FrameFault, FrameKind};
 use bytes::Bytes;
 
-/// The longest payload that is read or written: SETTINGS_MAX_FRAME_SIZE as RFC 9113, section 6.5.2, has it at first.
+/// The longest payload that is read or written: SETTINGS_MAX_FRAME_SIZE as RFC 9113, section 6.5.2,
+/// has it at first.
 pub const MAX_PAYLOAD: u32 = 16_384;
 
-/// The number of a stream, below 2^31, or 0 for the connection as a whole (RFC 9113, section 5.1.1).
+/// The number of a stream, below 2^31, or 0 for the connection as a whole (RFC 9113, section
+/// 5.1.1).
 pub type StreamId = u32;
 
 /// The head of a frame (RFC 9113, section 4.1).
@@ -32,7 +34,8 @@ pub struct Frame {
 }
 
 impl FrameHead {
-    /// Whether the payload begins with the length of its padding, which DATA and HEADERS alone may have.
+    /// Whether the payload begins with the length of its padding, which DATA and HEADERS alone may
+    /// have.
     pub fn is_padded(&self) -> bool
         ensures { result ≡ is_padded self.now }
     {

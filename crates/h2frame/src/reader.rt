@@ -1,13 +1,15 @@
 //! Reading frames from bytes that come in pieces.
 //!
-//! The reader keeps no mark of a fault: the faulty bytes stay where they are, first, and are judged again at each
-//! call, in constant time. What is fed behind them isn't kept.
+//! The reader keeps no mark of a fault: the faulty bytes stay where they are, first, and are judged
+//! again at each call, in constant time. What is fed behind them isn't kept.
 //!
-//! A content shares the block that the reader's bytes stand in, and holds it as long as it is held itself. So one of
-//! few bytes is copied, into a small block that it shares with others of few bytes: what waits to be taken holds at most
-//! some hundred times its own bytes, and where all of them wait, little more than these.
+//! A content shares the block that the reader's bytes stand in, and holds it as long as it is held
+//! itself. So one of few bytes is copied, into a small block that it shares with others of few
+//! bytes: what waits to be taken holds at most some hundred times its own bytes, and where all of
+//! them wait, little more than these.
 //!
-//! A ZeroIncrement of a stream is the entry `NoIncrement`; `answered` says which answers are entries.
+//! A ZeroIncrement of a stream is the entry `NoIncrement`; `answered` says which answers are
+//! entries.
 
 ghost use Rattle.std.specs.Prelude.{◌≡◌, ◌≢◌, ◌+◌, ◌^◌, ◌<◌, ◌≤◌, ◌↔◌, List, ℕ, [], ◌∷◌, ◌++◌, length, take, drop, Some, Err, IsNone, IfNone, IfOk, IfErr, IfSome, OnOk, OnErr, ◌⊎◌};
 ghost use Rattle.h2frame.specs.FrameList.{Entry, Whole, Joined, IsUnfinished, IsFaulty, IsLawful, answered, HasCause};
@@ -24,8 +26,8 @@ use std::marker::Model;
 /// The least bytes of a piece for which a block of its own is made, where the buffer has no room.
 const LARGE_PIECE: usize = 4096;
 
-/// The frames of bytes that come in pieces, from the end of the connection's preface on. A clause sees it as the bytes
-/// that were fed and aren't used up.
+/// The frames of bytes that come in pieces, from the end of the connection's preface on. A clause
+/// sees it as the bytes that were fed and aren't used up.
 #[derive(Drop)]
 pub struct FrameReader {
     buffer: BytesMut,
@@ -51,8 +53,8 @@ impl FrameReader {
         }
     }
 
-    /// Takes the next piece of the bytes, which is copied once. Once a fault stands first, nothing is taken any more:
-    /// the fault is answered.
+    /// Takes the next piece of the bytes, which is copied once. Once a fault stands first, nothing
+    /// is taken any more: the fault is answered.
     pub fn feed(&mut self, piece: &[u8]) -> Result<(), FrameFault>
         ensures ok { OnOk result (self.new ≡ self.old ++ piece.now) }
 
@@ -74,9 +76,10 @@ impl FrameReader {
         Ok(())
     }
 
-    /// The next frame or fault of the bytes so far, or nothing while none is there. A frame's content shares the
-    /// reader's memory, or is a copy where it has under 256 bytes. After `OutOfMemory`, which only a content that isn't
-    /// empty can meet, it may be called again.
+    /// The next frame or fault of the bytes so far. It is `None` exactly where what is left is
+    /// unfinished: less than a head, or than the payload of a head without a fault. A frame's
+    /// content shares the reader's memory, or is a copy where it has under 256 bytes. After
+    /// `OutOfMemory`, which only a content that isn't empty can meet, it may be called again.
     pub fn next(&mut self) -> Option<Result<Frame, FrameFault>>
         // The answer goes on the list of the entries before it, however the bytes were cut.
         ensures list { (bytes : List ℕ) (entries : List Entry) →
@@ -109,8 +112,8 @@ fn extend(buffer: &mut BytesMut, piece: &[u8]) -> Result<(), AllocError>
     Ok(())
 }
 
-/// The bytes of the buffer and of the piece, in a new block with room for no more: a buffer that grows fills its new room with
-/// zeros first.
+/// The bytes of the buffer and of the piece, in a new block with room for no more: a buffer that
+/// grows fills its new room with zeros first.
 fn joined(buffer: &BytesMut, piece: &[u8]) -> Result<BytesMut, AllocError>
     ensures { IfOk result (λ all. all.items ≡ buffer.now.items ++ piece.now) }
 {
@@ -175,7 +178,8 @@ fn take_frame(
     })
 }
 
-/// Cuts the frame off the front, and keeps its content: a copy of few bytes, or a part of the buffer's block.
+/// Cuts the frame off the front, and keeps its content: a copy of few bytes, or a part of the
+/// buffer's block.
 fn cut(buffer: &mut BytesMut, small: &mut SmallContents, span: &Span) -> Result<Bytes, AllocError>
     requires within { span.now.start + span.now.len ≤ 9 + span.now.head.length }
     requires whole { 9 + span.now.head.length ≤ length buffer.old.items }

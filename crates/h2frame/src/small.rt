@@ -9,8 +9,9 @@ use std::marker::Model;
 /// The bytes of a block: what a content holds at most, where it is copied.
 pub(crate) const SMALL_BLOCK: usize = 256;
 
-/// Where contents of few bytes are copied to. They share blocks of 256 bytes, so that one of a single byte takes little more
-/// than that, and holds no more than a block. A block is used again once no content has a part of it.
+/// Where contents of few bytes are copied to. They share blocks of 256 bytes, so that one of a
+/// single byte takes little more than that, and holds no more than a block. A block is used again
+/// once no content has a part of it.
 #[derive(Drop)]
 pub struct SmallContents {
     block: BytesMut,

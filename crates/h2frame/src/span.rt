@@ -30,8 +30,9 @@ impl Span {
     }
 }
 
-/// The frame at the front: nothing while it isn't whole, or the first fault of RFC 9113, section 4.2 and 6. A fault
-/// of the head stands before the payload is there, one of the padding when it is.
+/// The frame at the front: nothing while it isn't whole, or the first fault of RFC 9113, section
+/// 4.2 and 6. A fault of the head stands before the payload is there, one of the padding when it
+/// is.
 #[tactic(auto, unfolding(crate::specs::Reading::span_at))]
 pub(crate) fn span_at(bytes: &[u8]) -> Option<Result<Span, FrameFault>>
     ensures span { result ≡ span_at bytes.now }

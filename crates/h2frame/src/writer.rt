@@ -1,7 +1,8 @@
 //! Writing frames.
 //!
-//! It asks that the head isn't padded and has no priority by its kind (`is_padded`, `has_priority`): a frame of an
-//! unknown type may have those bits set, since there they mean nothing.
+//! It asks that the head isn't padded and has no priority by its kind (`is_padded`,
+//! `has_priority`): a frame of an unknown type may have those bits set, since there they mean
+//! nothing.
 
 ghost use Rattle.std.specs.Prelude.{◌≡◌, ◌<◌, ◌≤◌, ◌+◌, ◌++◌, ◌⊎◌, Some, Err, IfErr, OnOk, OnErr, length, vec_capacity, vec_len};
 ghost use Rattle.h2frame.specs.Faults.{frame_fault};
@@ -19,7 +20,8 @@ pub fn head_text(head: &FrameHead) -> [u8; 9]
     [a, b, c, head.kind.code(), head.flags.bits, s, t, u, v]
 }
 
-/// Appends the frame, which isn't padded and has no priority (`IsWritable`). It refuses what a reader would.
+/// Appends the frame, which isn't padded and has no priority (`IsWritable`). Memory aside, it
+/// refuses exactly what a reader would refuse, for the same fault.
 pub fn write_frame(frame: &Frame, out: &mut Vec<u8>) -> Result<(), FrameFault>
     requires { IsWritable frame.now }
     ensures ok { OnOk result (out.new.items ≡ out.old.items ++ spelled frame.now) }

@@ -1,4 +1,5 @@
--- What each method answers to a list of messages, where the end was told and where it wasn't (gRPC's interop-test-descriptions.md, "Server").
+-- What each method answers to a list of messages, where the end was told and where it wasn't
+-- (gRPC's interop-test-descriptions.md, "Server").
 use Rattle.std.specs.Prelude.{◌≡◌, ◌≢◌, IsSome, ℕ, ◌+◌, ◌<◌, ◌≤◌, ◌⊎◌, pos, Bool, true, false, if◌then◌else◌, List, [], ◌∷◌, ◌++◌, sum, Result, Ok, Err}
 use Rattle.std.specs.List.{flat_map, AllByRecursion}
 use Rattle.handlers.specs.declared.status.Status.{Status}
@@ -19,7 +20,8 @@ flatten lists = flat_map (λ (replies : List Reply). replies) lists
 
 -- ---- one message
 
--- after a first message that asks for these replies: they come with the end, unless there are more messages
+-- after a first message that asks for these replies: they come with the end, unless there are more
+-- messages
 abbrev pub after_first : List Reply → List (List ℕ) → Bool → Step
 after_first replies (second ∷ others) ended = ending [] (status_of WrongNumber)
 after_first replies [] ended = if ended then done replies else nothing
@@ -53,7 +55,8 @@ EndedByOne judged messages answer =
     (before : List (List ℕ)) × (last : List ℕ) × (after : List (List ℕ)) × (messages ≡ before ++ last ∷ after)
     × (asked : List (List Reply)) × AreTaken judged before asked × (status : Status) × judged last (Err status) × (answer ≡ ending (flatten asked) status)
 
--- Each request is answered, up to the first that ends the call. What follows that one is not judged.
+-- Each request is answered, up to the first that ends the call. What follows that one is not
+-- judged.
 abbrev pub AnswersFull : (List ℕ → Result (List Reply) Status → Type 0) → List (List ℕ) → Bool → Step → Type 0
 AnswersFull judged messages ended answer = AllAnswered judged messages ended answer ⊎ EndedByOne judged messages answer
 
@@ -102,7 +105,8 @@ HasStatusAtEnd answers = (messages : List (List ℕ)) (answer : Step) → answer
 abbrev pub HasAnswer : (List (List ℕ) → Bool → Step → Type 0) → Type 0
 HasAnswer answers = (messages : List (List ℕ)) (ended : Bool) → (answer : Step) × answers messages ended answer
 
--- What was replied to some messages whose end wasn't told begins what is replied to them and more, whether or not the end is told.
+-- What was replied to some messages whose end wasn't told begins what is replied to them and more,
+-- whether or not the end is told.
 abbrev pub HasGrowingReplies : (List (List ℕ) → Bool → Step → Type 0) → Type 0
 HasGrowingReplies answers = (messages more : List (List ℕ)) (ended : Bool) (answer later : Step) → answers messages false answer → answers (messages ++ more) ended later
     → (rest : List Reply) × (later.replies ≡ answer.replies ++ rest)

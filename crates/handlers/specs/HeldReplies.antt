@@ -6,7 +6,8 @@ use Rattle.pbwire.specs.Spelling.{varint_spelling}
 use Rattle.handlers.specs.declared.reply.Reply.{Reply}
 use Rattle.handlers.specs.declared.reply.Reply.TheVariants.{Empty, Zeros, Sum}
 
--- Below 2 ^ 32 a number is that many zeros, then below 2 ^ 33 the 32 bits of a sum, and 2 ^ 33 is the message without a field.
+-- Below 2 ^ 32 a number is that many zeros, then below 2 ^ 33 the 32 bits of a sum, and 2 ^ 33 is
+-- the message without a field.
 unfoldable pub reply_of : ℕ → Reply
 reply_of n = if nat_lt n 4294967296 then Zeros n else if nat_lt n 8589934592 then Sum (cast_signed w32 (n - 4294967296)) else Empty
 

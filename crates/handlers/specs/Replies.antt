@@ -1,4 +1,5 @@
--- The bytes of a reply: the canonical spelling of the response message (messages.proto and empty.proto of grpc.testing).
+-- The bytes of a reply: the canonical spelling of the response message (messages.proto and
+-- empty.proto of grpc.testing).
 use Rattle.std.specs.Prelude.{◌≡◌, ◌≤◌, length, ℕ, zero, suc, ℤ, pos, List, [], ◌++◌, replicate, Some, refl}
 use Rattle.pbwire.specs.Spelling.{varint_spelling, spelling_of_all}
 use Rattle.testproto.specs.declared.messages.Payload.{Payload}

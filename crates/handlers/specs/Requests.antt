@@ -1,6 +1,7 @@
--- How one request is judged (gRPC's interop-test-descriptions.md; where it is silent, our own rules).
--- A verdict on bytes is one that follows from a message that they are, or from there being none. A second message of a
--- method that takes one, and what stands behind a request that ends the call, need no verdict.
+-- How one request is judged (gRPC's interop-test-descriptions.md; where it is silent, our own
+-- rules). A verdict on bytes is one that follows from a message that they are, or from there being
+-- none. A second message of a method that takes one, and what stands behind a request that ends the
+-- call, need no verdict.
 use Rattle.std.specs.Prelude.{◌≡◌, ℕ, ℤ, pos, negsuc, zero, suc, Bool, true, false, if◌then◌else◌, List, [], ◌∷◌, map, length, Option, Some, None, Result, Ok, Err, nat_le, unwrap_or}
 use Rattle.grpc_status.specs.declared.StatusCode.{StatusCode}
 use Rattle.grpc_status.specs.declared.StatusCode.TheVariants.{Unknown}
@@ -29,7 +30,8 @@ abbrev pub IsRead : {M : Type 0} → (Field → Type 0) → (List Field → M �
 IsRead accepts is_value bytes (Some message) = IsValueOf accepts is_value bytes message
 IsRead {M} accepts is_value bytes None = (message : M) → IsValueOf accepts is_value bytes message → ⊥
 
--- The verdict on a request: a status that ends the call, or what it asks for. A malformed one ends the call.
+-- The verdict on a request: a status that ends the call, or what it asks for. A malformed one ends
+-- the call.
 abbrev pub verdict : {M A : Type 0} → (M → Result A Status) → Option M → Result A Status
 verdict judge None = Err (status_of MalformedMessage)
 verdict judge (Some message) = judge message

@@ -1,4 +1,5 @@
-//! HalfDuplexCall: each request is judged as it is taken, and all are answered when their end was told.
+//! HalfDuplexCall: each request is judged as it is taken, and all are answered when their end was
+//! told.
 
 ghost use Rattle.std.specs.Prelude.{◌≡◌, ◌++◌, ◌∷◌, [], List, ℕ, false, IfOk, OnOk, codes};
 ghost use Rattle.handlers.specs.Requests.{OutputVerdict};
@@ -84,8 +85,8 @@ fn answer_one(alloc: Global, message: &[u8]) -> Result<Step, MethodFault>
     }
 }
 
-/// Holds what one more request is answered, unless one before it ends the call. Where memory runs out, what is held is of
-/// no more use.
+/// Holds what one more request is answered, unless one before it ends the call. Where memory runs
+/// out, what is held is of no more use.
 fn hold_more(alloc: Global, held: &mut Step, message: &[u8]) -> Result<(), MethodFault>
     ensures { OnOk result
         ((messages : List (List ℕ)) → AnswersFull OutputVerdict messages false held.old

@@ -1,8 +1,9 @@
 //! What every method has, and the law that it keeps.
 //!
-//! `answers` is a relation on the bytes of the messages, and no function, since the value of a message is one.
-//! `stands` relates a state to the messages and to what was answered to them so far, so a chain of steps needs no
-//! proof that an answer is the only one; that it is, `one_answer` says.
+//! `answers` is a relation on the bytes of the messages, and no function, since the value of a
+//! message is one. `stands` relates a state to the messages and to what was answered to them so
+//! far, so a chain of steps needs no proof that an answer is the only one; that it is, `one_answer`
+//! says.
 
 ghost use Rattle.std.specs.Prelude.{◌≡◌, ◌++◌, ◌∷◌, [], List, ℕ, Bool, true, false, IfOk, OnOk, IsSome};
 ghost use Rattle.handlers.specs.declared.state.MethodState.{MethodState as State};
@@ -18,9 +19,10 @@ use std::alloc::Global;
 
 /// A method of a service, as a state machine over the messages of one call.
 ///
-/// The law: `first` stands for no message, to which nothing was answered. After a step that answered Ok the state stands
-/// for the longer list, and what the steps gave, joined, is the method's answer to it. After a `MethodFault` the state
-/// stands for nothing; the messages have their answer all the same.
+/// The law: `first` stands for no message, to which nothing was answered. After a step that
+/// answered Ok the state stands for the longer list, and what the steps gave, joined, is the
+/// method's answer to it. After a `MethodFault` the state stands for nothing; the messages have
+/// their answer all the same.
 pub trait Method: Send + Sync + Drop {
     /// The path by which a call names the method.
     ghost name: { Self → List ℕ };
@@ -48,7 +50,8 @@ pub trait Method: Send + Sync + Drop {
         // A call whose end was told has a status.
         ensures status { HasStatusAtEnd (answers self.now) };
 
-    /// Takes the next message.
+    /// Takes the next message. The step has what the method answers to the messages with this one,
+    /// less what it gave before. After a fault the state stands for nothing.
     fn message(
         &self,
         alloc: Global,

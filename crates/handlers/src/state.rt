@@ -1,8 +1,9 @@
 //! What a method keeps of a call between its steps.
 //!
-//! No message is kept. `Sum` holds the one length that UnaryCall needs of its message; EmptyCall needs to know only that
-//! there was one; StreamingOutputCall and HalfDuplexCall hold what they are to answer at the end. A state that a method
-//! never makes stands for nothing, and a step from it answers something harmless.
+//! No message is kept. `Sum` holds the one length that UnaryCall needs of its message; EmptyCall
+//! needs to know only that there was one; StreamingOutputCall and HalfDuplexCall hold what they are
+//! to answer at the end. A state that a method never makes stands for nothing, and a step from it
+//! answers something harmless.
 
 ghost use Rattle.std.specs.Prelude.{◌≡◌};
 

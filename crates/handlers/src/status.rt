@@ -1,6 +1,7 @@
 //! The statuses that a method gives.
 //!
-//! A text of our own is a constant, and takes no memory; one that a request asks for is copied out of it.
+//! A text of our own is a constant, and takes no memory; one that a request asks for is copied out
+//! of it.
 
 ghost use Rattle.std.specs.Prelude.{◌≡◌, [], IfOk, IsUtf8};
 ghost use Rattle.handlers.specs.Statuses.{status_of, ok_status};

@@ -1,4 +1,5 @@
-//! StreamingInputCall: the lengths of the bodies are added up, and their sum is answered at the end.
+//! StreamingInputCall: the lengths of the bodies are added up, and their sum is answered at the
+//! end.
 
 ghost use Rattle.std.specs.Prelude.{◌≡◌, ◌+◌, ◌≤◌, ◌++◌, ◌∷◌, [], SomeIff, codes};
 ghost use Rattle.handlers.specs.Requests.{InputVerdict};

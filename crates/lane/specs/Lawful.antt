@@ -7,7 +7,8 @@ abbrev pub last_count : Bool → ℕ
 last_count true = 1
 last_count false = 0
 
--- What was got, oldest first, begins what was put; and of what was put all but `room` items, and the one that `last` placed, were got
+-- What was got, oldest first, begins what was put; and of what was put all but `room` items, and
+-- the one that `last` placed, were got
 pub record IsLawful {T : Type 0} (room : ℕ) (has_last : Bool) (put got : List T) : Type 0 where
   pub begins : IsPrefix got put
   pub within : length put ≤ length got + room + last_count has_last

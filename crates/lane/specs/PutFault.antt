@@ -15,7 +15,8 @@ module _ {T : Type 0} where
   item_of (OutOfMemory item) = item
   item_of (NotTaken item) = item
 
-  -- Full tells how many of the items that were put had not been seen taken, and there are at least as many as the queue has room for. Of the other faults a queue has those that are its own
+  -- Full tells how many of the items that were put had not been seen taken, and there are at least
+  -- as many as the queue has room for. Of the other faults a queue has those that are its own
   abbrev pub MayRefuse : (ℕ → Type 0) → Type 0 → ℕ → ℕ → ℕ → PutFault T → Type 0
   MayRefuse WantsMemory MayMiss room put seen_taken (Full item waiting) = (waiting + seen_taken ≡ put) × (room ≤ waiting)
   MayRefuse WantsMemory MayMiss room put seen_taken (OutOfMemory item) = WantsMemory room

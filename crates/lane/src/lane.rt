@@ -1,10 +1,11 @@
 //! What a queue from one writer to one reader is.
 //!
-//! Which `open` an end is of is an equation of names, `in_name tx ≡ out_name rx`: each call says that the name stays, and
-//! `settle` requires the equation. The room is a function of the name, so every end knows it.
+//! Which `open` an end is of is an equation of names, `in_name tx ≡ out_name rx`: each call says
+//! that the name stays, and `settle` requires the equation. The room is a function of the name, so
+//! every end knows it.
 //!
-//! `Settled`: `put` and `got` stop at 2^64 - 1, so equal counts there don't say that all was got; `left` is exact, and
-//! `left = 0` gives `got = put`.
+//! `Settled`: `put` and `got` stop at 2^64 - 1, so equal counts there don't say that all was got;
+//! `left` is exact, and `left = 0` gives `got = put`.
 ghost use Rattle.std.specs.Prelude.{◌≡◌, ℕ, ◌+◌, ◌≤◌, ◌<◌, List, [], ◌∷◌, ◌++◌, Bool, true, false, length, ⊤, Some, IfOk, OnOk, IfErr, OnErr, MatchOption, MatchBool};
 ghost use Rattle.std.specs.Borrow.{sem};
 ghost use denote.Follow.{follows_so};
@@ -33,8 +34,8 @@ pub struct Settled {
     pub put: u64,
     /// How many items were got, counted in the same way.
     pub got: u64,
-    /// How many of the items that were put were not got. It is exact, since they are at most as many
-    /// as the queue has room for, and a last one.
+    /// How many of the items that were put were not got. It is exact, since they are at most as
+    /// many as the queue has room for, and a last one.
     pub left: u64,
 }
 
@@ -99,8 +100,9 @@ pub trait Lane {
         ensures empty { IfOk result (λ r. (put_in r.0 ≡ []) × (got r.1 ≡ [])) }
         ensures seen { IfOk result (λ r. seen_taken r.0 ≡ 0) };
 
-    /// Whether there is room for an item beside the last one: if not, how many of the items that were
-    /// put this end had not seen taken, in this call. After `Ok` the next `put` isn't `Full`. It takes no memory.
+    /// Whether there is room for an item beside the last one: if not, how many of the items that
+    /// were put this end had not seen taken, in this call. After `Ok` the next `put` isn't `Full`.
+    /// It takes no memory.
     fn check_room(tx: &mut Self::In) -> Result<(), u64>
         ensures name { in_name tx.new ≡ in_name tx.old }
         ensures seen { seen_taken tx.old ≤ seen_taken tx.new }
@@ -111,7 +113,9 @@ pub trait Lane {
             (λ waiting. (waiting + seen_taken tx.new ≡ length (put_in tx.new))
             × (room_of (in_name tx.new) ≤ waiting)) };
 
-    /// Puts the item after all others, or hands it back and changes nothing.
+    /// Puts the item after all others, or hands it back and changes nothing. It answers `Full` only
+    /// where `room` items or more were put and not seen taken. A ring with room for 16 or fewer
+    /// never lacks memory.
     fn put(tx: &mut Self::In, item: Self::Item) -> Result<(), PutFault<Self::Item>>
         ensures name { in_name tx.new ≡ in_name tx.old }
         ensures seen { seen_taken tx.old ≤ seen_taken tx.new }
@@ -150,7 +154,8 @@ pub trait Lane {
             (λ n. (out_name n ≡ out_name rx.old) × (got n ≡ got rx.old) × (ahead n ≡ ahead rx.old)
             × MatchOption result (got rx.old ≡ []) (λ r. last_of (got rx.old) ≡ Some r.now))) };
 
-    /// Brings the two ends of one `open` together.
+    /// Brings the two ends of one `open` together. What was got is a prefix of what was put: all of
+    /// it but at most `room` items and the last one.
     fn settle(end: End<Self::In, Self::Shut>, rx: Self::Out) -> Settled
         requires { of_end in_name shut_name end ≡ out_name rx }
         ensures put { result.put ≡ count_of (of_end put_in put_shut end) }

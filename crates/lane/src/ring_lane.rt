@@ -1,11 +1,11 @@
-//! A lane over a ring, which the reader empties for the writer, and over a second, larger one once more items wait than
-//! the first has places for.
+//! A lane over a ring, which the reader empties for the writer, and over a second, larger one once
+//! more items wait than the first has places for.
 //!
-//! The writer keeps one place of the first ring free, for the last item or for the way on: the reading end of the second
-//! ring. So `last` always finds a place, and the reader needs no memory.
+//! The writer keeps one place of the first ring free, for the last item or for the way on: the
+//! reading end of the second ring. So `last` always finds a place, and the reader needs no memory.
 //!
-//! `polled`: an item has to be moved out before its place is free, and a reference to it is answered: so it lives in the
-//! reading end until the next poll that finds one.
+//! `polled`: an item has to be moved out before its place is free, and a reference to it is
+//! answered: so it lives in the reading end until the next poll that finds one.
 //!
 //! `meet`: not in the trait, since a `RowLane` can't answer it.
 ghost use Rattle.std.specs.Prelude.{◌≡◌, ◌+◌, ◌<◌, ◌≤◌, ◌^◌, ◌++◌, min, true, length};
@@ -90,11 +90,11 @@ pub struct RingLaneOut<T> {
     ghost kept: { polled ≡ last_of (pieces (received first) ++ of_second second_got second) } by { Coded-set (coded_option T.code) polled (last_of (pieces (received first) ++ of_second second_got second)) },
 }
 
-/// A lane over a ring of 17 places, or of `room + 1` where that is less, and over a ring of `room + 1` places once 16 items
-/// wait in the first and there is room for more.
+/// A lane over a ring of 17 places, or of `room + 1` where that is less, and over a ring of
+/// `room + 1` places once 16 items wait in the first and there is room for more.
 ///
-/// `put` takes memory for the second ring alone, once for a lane, and never where the room is 16 or less. It has room again
-/// as items are got.
+/// `put` takes memory for the second ring alone, once for a lane, and never where the room is 16 or
+/// less. It has room again as items are got.
 pub struct RingLane<T> {
     marker: PhantomData<T>,
 }
@@ -267,8 +267,8 @@ impl<T: Drop> RingLane<T> {
     ghost use mathlib.Core.List.{IsPrefix};
     ghost use Rattle.lane.specs.RingLane.{in_name, out_name, put_in, seen_taken, got, ahead};
 
-    /// What was got, and then as many items as it answers, which `poll` gives from now on, begin what was put. Where it answers
-    /// 0 all was got.
+    /// What was got, and then as many items as it answers, which `poll` gives from now on, begin
+    /// what was put. Where it answers 0 all was got.
     pub fn meet(tx: &mut RingLaneIn<T>, rx: &mut RingLaneOut<T>) -> u64
         requires { in_name tx.old ≡ out_name rx.old }
         ensures writer { (in_name tx.new ≡ in_name tx.old) × (put_in tx.new ≡ put_in tx.old) }

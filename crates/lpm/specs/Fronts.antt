@@ -7,7 +7,8 @@ use Rattle.lpm.specs.declared.splitter.Split.{Split}
 use Rattle.lpm.specs.declared.splitter.Split.TheVariants.{Message, More, Fault}
 use Rattle.lpm.specs.Messages.{max_message_len, frame, announced, IsMessage, IsUnfinished, IsFaulty}
 
--- how many bytes the message at the front has with its prefix, as far as these bytes say, or what is wrong with it
+-- how many bytes the message at the front has with its prefix, as far as these bytes say, or what
+-- is wrong with it
 unfoldable pub extent_of : List ℕ → Result ℕ LpmFault
 extent_of [] = Ok 5
 extent_of (flag ∷ bytes) =

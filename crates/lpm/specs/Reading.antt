@@ -1,5 +1,5 @@
--- The one list of messages that bytes spell, computed. What it has to be is said by `Spells` and `IsFaultyAfter`; that
--- one of them holds of it, and of no other list, is the law of `one_reading`.
+-- The one list of messages that bytes spell, computed. What it has to be is said by `Spells` and
+-- `IsFaultyAfter`; that one of them holds of it, and of no other list, is the law of `one_reading`.
 use Rattle.std.specs.Prelude.{ℕ, zero, suc, Bool, true, false, ◌==◌, nat_lt, if◌then◌else◌, List, [], ◌∷◌, length, take, drop, Option, Some, None}
 use Rattle.lpm.specs.declared.fault.LpmFault.{LpmFault}
 use Rattle.lpm.specs.declared.fault.LpmFault.TheVariants.{Compressed, BadFlag, TooLong}

@@ -1,4 +1,5 @@
--- What a splitter answers, of the bytes that it was given and whose messages it hasn't answered yet.
+-- What a splitter answers, of the bytes that it was given and whose messages it hasn't answered
+-- yet.
 use Rattle.std.specs.Prelude.{◌≡◌, ℕ, List, [], ◌∷◌, ◌++◌, All}
 use Rattle.lpm.specs.declared.fault.LpmFault.{LpmFault}
 use Rattle.lpm.specs.declared.fault.LpmFault.TheVariants.{Compressed, BadFlag, TooLong, CutAtEnd, OutOfMemory}

@@ -47,7 +47,8 @@ impl Joined {
         Ok(())
     }
 
-    /// Moves bytes from the front of the piece to the end of these, until there are `len` or the piece ends.
+    /// Moves bytes from the front of the piece to the end of these, until there are `len` or the
+    /// piece ends.
     ///
     /// It makes the room for `len` bytes first, once and with no fill.
     pub(crate) fn append(&mut self, piece: &mut Bytes, len: usize) -> Result<(), AllocError>

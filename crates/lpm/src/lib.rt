@@ -1,13 +1,13 @@
 //! Length-prefixed messages, as gRPC sends them in the DATA of a call.
 //!
-//! A message is one flag byte (0, as it isn't compressed), its length in four bytes, big-endian, and that many
-//! bytes (gRPC over HTTP/2, PROTOCOL-HTTP2.md, "Length-Prefixed-Message"). `specs/Messages.antt` says which messages
-//! a list of bytes spells, and how far; `laws` that there is one such reading of every list. `Splitter` answers
-//! that reading, in whatever pieces the bytes come, and `write_message` spells one message; `write_prefix` what stands
-//! before one.
+//! A message is one flag byte (0, as it isn't compressed), its length in four bytes, big-endian,
+//! and that many bytes (gRPC over HTTP/2, PROTOCOL-HTTP2.md, "Length-Prefixed-Message").
+//! `specs/Messages.antt` says which messages a list of bytes spells, and how far; `laws` that there
+//! is one such reading of every list. `Splitter` answers that reading, in whatever pieces the bytes
+//! come, and `write_message` spells one message; `write_prefix` what stands before one.
 //!
-//! Read `fault`, `laws`, `write`, `front` (the message at the front of some bytes), then `joined` (a message that is cut
-//! over pieces) and `splitter`, and `tail` (where bytes end) last.
+//! Read `fault`, `laws`, `write`, `front` (the message at the front of some bytes), then `joined`
+//! (a message that is cut over pieces) and `splitter`, and `tail` (where bytes end) last.
 #![tactic(auto)]
 
 pub mod fault;

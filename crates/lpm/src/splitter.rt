@@ -1,11 +1,11 @@
 //! Messages out of pieces.
 //!
-//! The bytes of an unfinished message are copied out of their pieces when `next` is asked: sharing them would save one
-//! copy, and let one byte hold on to a whole buffer. They are copied once, into room that is made for the whole message
-//! when its prefix is known.
+//! The bytes of an unfinished message are copied out of their pieces when `next` is asked: sharing
+//! them would save one copy, and let one byte hold on to a whole buffer. They are copied once, into
+//! room that is made for the whole message when its prefix is known.
 //!
-//! `Splitter::end`: it reads the waiting bytes again, in time linear in the pieces and messages that wait. It is asked
-//! once a call, when little waits.
+//! `Splitter::end`: it reads the waiting bytes again, in time linear in the pieces and messages
+//! that wait. It is asked once a call, when little waits.
 
 ghost use Rattle.std.specs.Prelude.{◌≡◌, ℕ, ◌<◌, ◌≤◌, List, [], ◌++◌, length, All, IfErr, IfSome, OnErr, OnOk, IfNone, IfOk, Ok};
 ghost use Rattle.lpm.specs.declared.fault.LpmFault.TheVariants.{CutAtEnd, OutOfMemory};
@@ -35,8 +35,9 @@ pub enum Split {
 
 /// Splits the DATA bytes of a call into messages, in whatever pieces they come.
 ///
-/// A contract sees it as a list: the bytes that it was given and that no message which it answered took.
-/// A message that lies in one shared piece is a slice of it; one that is cut over pieces is joined, once.
+/// A contract sees it as a list: the bytes that it was given and that no message which it answered
+/// took. A message that lies in one shared piece is a slice of it; one that is cut over pieces is
+/// joined, once.
 #[derive(Drop)]
 pub struct Splitter {
     /// The bytes of a message that is cut over pieces, as far as they were looked at.
@@ -94,9 +95,11 @@ impl Splitter {
         Ok(())
     }
 
-    /// The next message, or why there is none.
+    /// The next message, or why there is none. It answers `More` only where what is left is
+    /// unfinished.
     ///
-    /// After a fault of the bytes it answers that fault again. After `Fault(OutOfMemory)` it may be called again.
+    /// A fault of the bytes stays at their front, and each later call answers it again.
+    /// `Fault(OutOfMemory)` loses nothing: it may be called again.
     pub fn next(&mut self) -> Split
         ensures answer { Answers self.old result self.new }
         // Of all bytes that were given so far, however they were cut into pieces.
@@ -116,8 +119,8 @@ impl Splitter {
 
     /// Whether the bytes that were given so far end without cutting a message.
     ///
-    /// It is `Err(CutAtEnd)` exactly where an unfinished message is left, whether or not `next` has answered
-    /// the messages before it. Where the bytes are faulty nothing unfinished is left. It takes no memory.
+    /// It is `Err(CutAtEnd)` exactly where the bytes end inside a message, whether or not `next`
+    /// has answered the messages before it. Bytes with a fault aren't cut. It takes no memory.
     pub fn end(&self) -> Result<(), LpmFault>
         ensures ok { OnOk result (IsNotCut self.now) }
         ensures cut { OnErr result (IsCut self.now) }
@@ -197,7 +200,8 @@ fn start(joined: &mut Joined, piece: &mut Bytes) -> Option<Split>
     join(joined, piece, PREFIX_LEN)
 }
 
-/// Moves bytes of the piece to the end of the joined ones, up to the end of the prefix or of the message that it announces.
+/// Moves bytes of the piece to the end of the joined ones, up to the end of the prefix or of the
+/// message that it announces.
 fn join(joined: &mut Joined, piece: &mut Bytes, len: usize) -> Option<Split>
     requires extent { extent_of joined.old.bytes.items ≡ Ok len }
     requires unfinished { length joined.old.bytes.items < len }

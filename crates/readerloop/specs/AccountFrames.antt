@@ -18,8 +18,9 @@ WasReset id orders account = ((code : ℕ) × (account.shut ≡ Some (shut.Reset
 abbrev pub HasMissed : List ℕ → Account → Type 0
 HasMissed sent account = (account.shut ≡ None) × (length account.fed < length sent)
 
--- What the call was fed is a front of its stream's data, and all of them where its half ended: that it does only where END_STREAM ended the stream.
--- Where END_STREAM did, and all that came was heard, the half ended, or a reset of the stream was ordered, or the call missed data.
+-- What the call was fed is a front of its stream's data, and all of them where its half ended: that
+-- it does only where END_STREAM ended the stream. Where END_STREAM did, and all that came was
+-- heard, the half ended, or a reset of the stream was ordered, or the call missed data.
 pub record HasFrames (end : Ending) (entries : List Entry) (orders : List Order) (id : ℕ) (account : Account) : Type 0 where
   pub front : IsPrefix account.fed (data_of id entries)
   pub whole : account.shut ≡ Some shut.End → (account.fed ≡ data_of id entries) × (ending_of id entries ≡ Finished)

@@ -1,4 +1,5 @@
--- Which ends of the calls that aren't settled are still to come back, by the numbers of these calls.
+-- Which ends of the calls that aren't settled are still to come back, by the numbers of these
+-- calls.
 use Rattle.std.specs.Prelude.{◌≡◌, ◌-◌, ◌≤◌, ◌&&◌, ℕ, Bool, nat_eq, List, if◌then◌else◌, is_none, count_by}
 use Rattle.callparts.specs.declared.register.Naming.{Ghosts}
 use Rattle.readerloop.specs.declared.call.Call.{Call}
@@ -46,8 +47,8 @@ module _ {J : Type 0} {book : Ghosts J} where
 
 -- ---- what is owed
 
--- Of the calls of each number no more is awaited than was given out and didn't come back; and what came back is of numbers below this one, which is the
--- number of the next call.
+-- Of the calls of each number no more is awaited than was given out and didn't come back; and what
+-- came back is of numbers below this one, which is the number of the next call.
 pub record IsOwed (given back awaited : ℕ → ℕ) (next : ℕ) : Type 0 where
   pub most : (n : ℕ) → awaited n ≤ given n - back n
   pub below : (n : ℕ) → next ≤ n → back n ≡ 0

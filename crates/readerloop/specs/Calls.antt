@@ -1,4 +1,5 @@
--- A call of a connection, as the reading side has it, and as it is by what was heard. A list of steps has the latest first.
+-- A call of a connection, as the reading side has it, and as it is by what was heard. A list of
+-- steps has the latest first.
 use Rattle.std.specs.Prelude.{◌≡◌, ◌≢◌, ◌<◌, ◌≤◌, ◌&&◌, ℕ, Bool, true, nat_eq, List, [], length, Contains, Option, None, Some, IfSome, IsSomeAnd, MatchOption}
 use Rattle.std.specs.List.{list_any, AllWithin, HoldsAt}
 use Rattle.std.specs.Option.{is_some}
@@ -71,8 +72,9 @@ module _ {J : Type 0} {book : Ghosts J} where
   is_over call = is_some call.finished && (is_some call.returning && is_closed call.half)
 
   module _ (known : ℕ → List (List ℕ) → Bool → Answer → Type 0) (names : List ℕ → ℕ → Type 0) (carries : ℕ → List OutItem → Type 0) where
-    -- The call of this stream and method was admitted with the head with which it stands in the register, whose path names its method. Its half is what was
-    -- heard since makes of it. What came back of it is as its worker and the writing side may hand it back.
+    -- The call of this stream and method was admitted with the head with which it stands in the
+    -- register, whose path names its method. Its half is what was heard since makes of it. What
+    -- came back of it is as its worker and the writing side may hand it back.
     pub record IsCallOf (told : List Step) (id method : ℕ) (number : CallNumber J book) (half : Shown) (finished : Option (Finished J book)) (returning : Option (Returning J book)) : Type 0 where
       pub request : Request
       pub asked : request_at number.seen.log number.value ≡ Some request

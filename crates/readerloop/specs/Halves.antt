@@ -55,7 +55,8 @@ grown (byte ∷ bytes) (Some closing) items = items
 
 -- ---- by what was heard
 
--- The half of this call is what these steps make of it: the bytes that were fed, joined; how it was closed; and no piece is empty.
+-- The half of this call is what these steps make of it: the bytes that were fed, joined; how it was
+-- closed; and no piece is empty.
 pub record IsHalf (id : ℕ) (steps : List Step) (shown : Shown) : Type 0 where
   pub there : shown.there ≡ true
   pub fed : bytes_of shown.items ≡ fed_by id steps

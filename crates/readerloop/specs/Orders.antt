@@ -1,7 +1,8 @@
--- What the reading side of a connection orders its writing side to do, step by step: what the peer tells goes on to it, a call
--- that is admitted is opened, a stream is refused or reset, or the connection ended, for its cause, and the client is told where it ends
--- while calls go on (RFC 9113, sections 5.4, 6.8, 6.9.1, 8.1.1 and 8.7; gRPC over HTTP/2, "Responses").
--- A list of steps has the latest first, a list of orders the earliest.
+-- What the reading side of a connection orders its writing side to do, step by step: what the peer
+-- tells goes on to it, a call that is admitted is opened, a stream is refused or reset, or the
+-- connection ended, for its cause, and the client is told where it ends while calls go on (RFC
+-- 9113, sections 5.4, 6.8, 6.9.1, 8.1.1 and 8.7; gRPC over HTTP/2, "Responses"). A list of steps
+-- has the latest first, a list of orders the earliest.
 use Rattle.std.specs.Prelude.{◌≡◌, ◌≢◌, ◌⊎◌, ◌&&◌, ℕ, ◌==◌, Bool, true, false, List, [], ◌∷◌, ◌++◌, length, Option, Some, None, is_none, if◌then◌else◌, max}
 use Rattle.connbook.specs.declared.answers.AdmitFault.{AdmitFault}
 use Rattle.connbook.specs.declared.answers.AdmitFault.TheVariants as refused
@@ -40,8 +41,8 @@ abbrev pub greatest : List ℕ → ℕ
 greatest [] = 0
 greatest (id ∷ ids) = max id (greatest ids)
 
--- What a GOAWAY names (section 6.8): the greatest stream that was begun, or once the server drains the greatest whose call was admitted; 0 for
--- none. So it never rises behind that of a drain.
+-- What a GOAWAY names (section 6.8): the greatest stream that was begun, or once the server drains
+-- the greatest whose call was admitted; 0 for none. So it never rises behind that of a drain.
 abbrev pub named_with : ℕ → Bool → ℕ → ℕ
 named_with id true last = last
 named_with id false last = max id last
@@ -53,7 +54,8 @@ named (Told (events.BadHead id fault) fate ∷ before) = named_with id (is_drain
 named (Drains ∷ before) = greatest (reported before)
 named (step ∷ before) = named before
 
--- how many streams a client may begin; at the last of them it is told to open no more, unless the server drains: then it was
+-- how many streams a client may begin; at the last of them it is told to open no more, unless the
+-- server drains: then it was
 abbrev pub most_streams : ℕ
 most_streams = 4096
 
@@ -77,8 +79,8 @@ news_of (controls.Settings settings) = Settings settings
 news_of (controls.Ping bytes) = Ping bytes
 news_of (controls.Window id increment) = Window id increment
 
--- a call that isn't admitted is reset as not begun; for want of memory the connection ends, and so where an id doesn't rise,
--- which doesn't come
+-- a call that isn't admitted is reset as not begun; for want of memory the connection ends, and so
+-- where an id doesn't rise, which doesn't come
 abbrev pub turned_away : ℕ → ℕ → AdmitFault → Order
 turned_away last id refused.TooMany = Reset id RefusedStream true
 turned_away last id refused.Draining = Reset id RefusedStream true
@@ -104,7 +106,8 @@ abbrev pub refused_head : ℕ → ℕ → HeadFault → Fate → List Order
 refused_head last id fault Lacking = Goaway last reason.Memory ∷ []
 refused_head last id fault _ = without_head id (refusal_of fault) ∷ []
 
--- bytes that came on a stream: those that no call takes any more are counted, and returned, and nothing is ordered
+-- bytes that came on a stream: those that no call takes any more are counted, and returned, and
+-- nothing is ordered
 abbrev pub came : ℕ → ℕ → Fate → List Order
 came last id (Received CallWindow) = Reset id FlowControlError true ∷ []
 came last id (Received Overrun) = Goaway last reason.Overrun ∷ []
@@ -116,7 +119,8 @@ abbrev pub came_loose : ℕ → Fate → List Order
 came_loose last (Received Overrun) = Goaway last reason.Overrun ∷ []
 came_loose last _ = []
 
--- The orders that a step leads to, after those before it. Where the input has ended, a call to which more could be fed is cancelled.
+-- The orders that a step leads to, after those before it. Where the input has ended, a call to
+-- which more could be fed is cancelled.
 abbrev pub orders_at : List Step → Step → List Order
 orders_at before (Told (events.Open id head) fate) =
     last_stream id (is_draining before) (begun before) ++ opened (named_with id (is_draining before) (named before)) id fate
@@ -140,7 +144,8 @@ orders_by (step ∷ before) = orders_by before ++ orders_at before step
 
 -- ---- the end of a connection
 
--- how a step ends the connection, if it does: with an error that the peer is told, or for want of memory
+-- how a step ends the connection, if it does: with an error that the peer is told, or for want of
+-- memory
 abbrev pub ends_if_refused : AdmitFault → Option Ending
 ends_if_refused refused.TooMany = None
 ends_if_refused refused.Draining = None

@@ -38,7 +38,8 @@ abbrev pub order_in : {S : Type 0} → Option (Control S) → List Order
 order_in None = []
 order_in (Some order) = order_of order ∷ []
 
--- what became of a piece that was to be fed: it was, or its lane refused it, or there was no memory for it
+-- what became of a piece that was to be fed: it was, or its lane refused it, or there was no memory
+-- for it
 abbrev pub fate_of_feed : {S : Type 0} → Option (Control S) → Option Ending → Fate
 fate_of_feed None ends = Received Feed
 fate_of_feed (Some order) None = Missed
@@ -56,7 +57,8 @@ MayMiss id piece Missed told = IsDue id piece told
 MayMiss id piece Lacking told = IsDue id piece told
 MayMiss id piece _ told = Unit {0}
 
--- why a call that begins is not for the lock to admit: the server drains, or else its path names no method
+-- why a call that begins is not for the lock to admit: the server drains, or else its path names no
+-- method
 abbrev pub refused_by : Bool → Fate
 refused_by true = TurnedAway Draining
 refused_by false = Unknown
@@ -72,7 +74,8 @@ module _ {J : Type 0} {book : Ghosts J} where
   abbrev pub orders_in : Decided J book → List Order
   orders_in decided = goaway_in decided.goaway ++ order_in decided.order
 
-  -- The order opens the stream of this request: its sender's number is that with which the call stands in the register.
+  -- The order opens the stream of this request: its sender's number is that with which the call
+  -- stands in the register.
   abbrev pub Opens : Request → Control (Opening J book) → Type 0
   Opens request (Open id opening) = (id ≡ request.id) × (request_at opening.sending.value.number.seen.log opening.sending.value.number.value ≡ Some request)
   Opens request _ = ⊥
@@ -83,7 +86,8 @@ module _ {J M : Type 0} {book : Ghosts J} where
     pub last_is : reading.last ≡ last
     pub count : reading.begun ≡ min most_streams (length ids)
 
-  -- a call of this stream may be admitted: it is above those before it, there is room for its account, and calls are admitted
+  -- a call of this stream may be admitted: it is above those before it, there is room for its
+  -- account, and calls are admitted
   abbrev pub IsNext : ℕ → Reading J M book → Type 0
   IsNext id reading = (reading.calls.last < id) × (has_room reading.calls.accounts.count reading.calls.accounts.last ≡ true) × (reading.is_draining ≡ false)
 
@@ -99,7 +103,8 @@ module _ {J M : Type 0} {book : Ghosts J} where
     pub home : new.home ≡ old.home
 
   module _ (known : ℕ → List (List ℕ) → Bool → Answer → Type 0) (names : List ℕ → ℕ → Type 0) (carries : ℕ → List OutItem → Type 0) where
-    -- These steps led to the reading side. It counts the peer as one that opens no more streams only where that was told.
+    -- These steps led to the reading side. It counts the peer as one that opens no more streams
+    -- only where that was told.
     pub record Reads (told : List Step) (reading : Reading J M book) : Type 0 where
       pub calls : Kept known names carries told reading.calls
       pub drains : reading.is_draining ≡ is_draining told
@@ -129,7 +134,8 @@ module _ {J M : Type 0} {book : Ghosts J} where
     Stands told step None reading = Reads (step ∷ told) reading
     Stands told step (Some cut) reading = Awaits told step cut reading
 
-    -- It is decided what a step leads to after these: the orders, and how the connection ends, if it does.
+    -- It is decided what a step leads to after these: the orders, and how the connection ends, if
+    -- it does.
     pub record Decides (told : List Step) (step : Step) (decided : Decided J book) (reading : Reading J M book) : Type 0 where
       pub orders : orders_in decided ≡ orders_at told step
       pub ends : decided.ends ≡ ends_at step
@@ -147,8 +153,9 @@ module _ {J M : Type 0} {book : Ghosts J} where
     abbrev pub Stays : Reading J M book → Reading J M book → Type 0
     Stays old new = (sent : List Sent) (told : List Step) → Reads known names (carried_in sent) told old → Reads known names (carried_in sent) told new
 
-    -- More came back: of the calls of workers, and of senders that are carried so. All but the calls, the workers and the way home is as it was, and as
-    -- many calls may be admitted as before.
+    -- More came back: of the calls of workers, and of senders that are carried so. All but the
+    -- calls, the workers and the way home is as it was, and as many calls may be admitted as
+    -- before.
     pub record HasCollected (old new : Reading J M book) : Type 0 where
       pub more : List (Returning J book)
       pub took : taken new.home ≡ taken old.home ++ more

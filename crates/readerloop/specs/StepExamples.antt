@@ -49,7 +49,8 @@ first_is_fed head = refl
 pub missed_is_reset : (head : CallHead) → shut_by 1 (since 1 (one_is_missed head)) ≡ Some (shut.Reset 11)
 missed_is_reset head = refl
 
--- a piece that no call takes is missed, unless it is padding alone; what comes later isn't fed, and no end shuts the half
+-- a piece that no call takes is missed, unless it is padding alone; what comes later isn't fed, and
+-- no end shuts the half
 abbrev pub one_is_discarded : CallHead → List Step
 one_is_discarded head =
     Told (events.End 1) Plain
@@ -134,8 +135,8 @@ lacking_ends head = refl
 pub discard_orders_none : (head : CallHead) → orders_at (two_calls head) (Told (events.Data 5 (10 ∷ []) 1) (Received Discard)) ≡ []
 discard_orders_none head = refl
 
--- The server drains behind the two calls: GOAWAY names the later of them, though stream 7 was begun. What begins behind that is refused, and an
--- error's GOAWAY names no greater stream.
+-- The server drains behind the two calls: GOAWAY names the later of them, though stream 7 was
+-- begun. What begins behind that is refused, and an error's GOAWAY names no greater stream.
 pub drain_names_last : (head : CallHead) → orders_at (two_calls head) Drains ≡ Goaway 5 (reason.Code NoError) ∷ []
 drain_names_last head = refl
 
@@ -148,7 +149,8 @@ drained_fails head = refl
 pub drain_of_none : orders_at [] Drains ≡ Goaway 0 (reason.Code NoError) ∷ []
 drain_of_none = refl
 
--- where memory runs out behind a drain, GOAWAY names no greater stream either, and the connection ends
+-- where memory runs out behind a drain, GOAWAY names no greater stream either, and the connection
+-- ends
 pub drained_lacks : (head : CallHead) → orders_at (Told (events.Open 9 head) (TurnedAway refused.Draining) ∷ Drains ∷ two_calls head) Lacks ≡ Goaway 5 reason.Memory ∷ []
 drained_lacks head = refl
 
@@ -178,7 +180,8 @@ pub in_turn : (head : CallHead) → orders_by (Told (events.Open 5 head) Admitte
     ≡ Open 1 tt ∷ Refuse 3 unknown_method ∷ Open 5 tt ∷ []
 in_turn head = refl
 
--- a piece that is lost lets the half go, padding alone doesn't, and a reset of the client's is none of it
+-- a piece that is lost lets the half go, padding alone doesn't, and a reset of the client's is none
+-- of it
 pub missed_lets_go : lets_go 1 (Told (events.Data 1 (11 ∷ []) 1) Missed) ≡ true
 missed_lets_go = refl
 

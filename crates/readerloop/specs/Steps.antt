@@ -1,6 +1,5 @@
--- What the reader of a connection hears, and what it makes of the client's half of each call (RFC 9113, sections 5.1, 5.4.2,
--- 6.4, 6.8 and 6.9.1).
--- A list of steps has the latest first.
+-- What the reader of a connection hears, and what it makes of the client's half of each call (RFC
+-- 9113, sections 5.1, 5.4.2, 6.4, 6.8 and 6.9.1). A list of steps has the latest first.
 use Rattle.std.specs.Prelude.{◌≡◌, ◌<◌, ◌&&◌, ◌||◌, ℕ, Bool, true, false, nat_eq, if◌then◌else◌, List, [], ◌∷◌, ◌++◌, Option, Some, None, MatchOption, unwrap_or}
 use Rattle.std.specs.List.{list_any}
 use Rattle.std.specs.Option.{is_some}
@@ -17,13 +16,15 @@ use Rattle.session.specs.declared.event.InEvent.{InEvent}
 use Rattle.session.specs.declared.event.InEvent.TheVariants as events
 use Rattle.session.specs.StreamData.{Finished, ending_told, piece_of}
 
--- Why no worker serves a call that the lock admitted: there was no memory for one, or no thread; or the writing side had stopped.
+-- Why no worker serves a call that the lock admitted: there was no memory for one, or no thread; or
+-- the writing side had stopped.
 pub data Lack : Type 0 where
   NoWorker : Lack
   Stopped : Lack
 
--- What became of an event: nothing was to be answered; of a call that begins, the lock admitted it, and a worker serves it or none
--- does, its path names no method, or the lock turned it away; of bytes that came, what the lock said of them, or that they were to be fed and the call's lane
+-- What became of an event: nothing was to be answered; of a call that begins, the lock admitted it,
+-- and a worker serves it or none does, its path names no method, or the lock turned it away; of
+-- bytes that came, what the lock said of them, or that they were to be fed and the call's lane
 -- refused them; or there was no memory for what it leads to.
 pub data Fate : Type 0 where
   Plain : Fate
@@ -35,8 +36,9 @@ pub data Fate : Type 0 where
   Missed : Fate
   Lacking : Fate
 
--- An event was told; the input has ended, and the call of a stream hears no more; the server drains: it is to stop while its calls go on, and
--- admits no more (section 6.8); or there was no memory for what came, and the connection ends with an error (section 5.4.1).
+-- An event was told; the input has ended, and the call of a stream hears no more; the server
+-- drains: it is to stop while its calls go on, and admits no more (section 6.8); or there was no
+-- memory for what came, and the connection ends with an error (section 5.4.1).
 pub data Step : Type 0 where
   Told : InEvent → Fate → Step
   CutOff : ℕ → Step
@@ -128,7 +130,8 @@ data_at id (CutOff other) = []
 data_at id Drains = []
 data_at id Lacks = []
 
--- How a half closes: it is shut; or a piece comes that no call takes any more, which the call misses. How a half is shut that missed a piece isn't told.
+-- How a half closes: it is shut; or a piece comes that no call takes any more, which the call
+-- misses. How a half is shut that missed a piece isn't told.
 pub data Closing : Type 0 where
   ShutAs : Shut → Closing
   Misses : Closing
@@ -202,13 +205,15 @@ WasTold event told = (before : List InEvent) × (after : List InEvent) × (event
 
 -- ---- what lets a call's half go
 
--- whether a step lets the half go, whatever its client does to the stream: a piece is lost, or no more of it is heard
+-- whether a step lets the half go, whatever its client does to the stream: a piece is lost, or no
+-- more of it is heard
 abbrev pub lets_go : ℕ → Step → Bool
 lets_go id (Told (events.Data other piece counted) fate) = nat_eq id other && is_some (lost piece fate)
 lets_go id (CutOff other) = nat_eq id other
 lets_go id _ = false
 
--- This step let the half of a call go that was open, and so closed it; only later END_STREAM was told.
+-- This step let the half of a call go that was open, and so closed it; only later END_STREAM was
+-- told.
 pub record WasLetGo (id : ℕ) (closing : Closing) (told : List Step) : Type 0 where
   pub later : List Step
   pub step : Step

@@ -78,7 +78,8 @@ impl<J: Naming> Call<J> {
         self.finished.is_some() && (self.returning.is_some() && self.half.is_closed())
     }
 
-    /// The worker that is to be woken where something comes for the call. None where it was handed back.
+    /// The worker that is to be woken where something comes for the call. None where it was handed
+    /// back.
     pub(crate) fn worker(&self) -> Option<usize> {
         match &self.finished {
             Some(_) => None,

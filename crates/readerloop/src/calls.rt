@@ -26,7 +26,8 @@ use std::alloc::{AllocError, Global};
 #[derive(Drop)]
 pub struct Calls<J: Naming> {
     pub(crate) calls: Vec<Call<J>>,
-    /// An account for each call that was admitted, by rising stream; until a call is settled, that of one that wasn't served.
+    /// An account for each call that was admitted, by rising stream; until a call is settled, that
+    /// of one that wasn't served.
     pub(crate) accounts: Accounts,
     /// The stream of the call that was admitted last, 0 for none.
     pub(crate) last: StreamId,
@@ -73,7 +74,8 @@ impl<J: Naming> Calls<J> {
         self.accounts.len()
     }
 
-    /// A call was admitted, for which there is room, and for its account. Until the call is settled, that is of one that isn't served.
+    /// A call was admitted, for which there is room, and for its account. Until the call is
+    /// settled, that is of one that isn't served.
     pub(crate) fn add<M: Answering>(&mut self, call: Call<J>)
         requires room { vec_len self.old.calls < vec_capacity self.old.calls }
         requires account_room { has_room self.old.accounts.count self.old.accounts.last ≡ true }
@@ -124,7 +126,8 @@ impl<J: Naming> Calls<J> {
         self.calls.iter().position(|call| call.id == id)
     }
 
-    /// Feeds a piece to the call of this stream, if more may be fed to it. The worker that is to see it.
+    /// Feeds a piece to the call of this stream, if more may be fed to it. The worker that is to
+    /// see it.
     pub(crate) fn feed<M: Answering>(
         &mut self,
         id: StreamId,
@@ -149,8 +152,8 @@ impl<J: Naming> Calls<J> {
         Ok(call.worker())
     }
 
-    /// Shuts the half of the call of this stream in this way. Where it was closed before nothing changes. The worker that is to look
-    /// whether the call is live still.
+    /// Shuts the half of the call of this stream in this way. Where it was closed before nothing
+    /// changes. The worker that is to look whether the call is live still.
     pub(crate) fn shut<M: Answering>(&mut self, id: StreamId, kind: Shut) -> Option<usize>
         ensures heard { (sent : List Sent) (step : Step)
             → Concerns id step → closing_at id step ≡ Some (ShutAs kind)

@@ -10,7 +10,8 @@ use callparts::{Ending, Naming, Order};
 use h2frame::{ErrorCode, StreamId};
 use outwriter::Control;
 
-/// A half that is to be shut: of the call of this stream, in this way. In the credit book the call is cut.
+/// A half that is to be shut: of the call of this stream, in this way. In the credit book the call
+/// is cut.
 #[derive(Clone, Copy, Debug, PartialEq, Eq)]
 pub struct Cut {
     pub id: StreamId,
@@ -55,7 +56,8 @@ impl<J: Naming> Decided<J> {
         }
     }
 
-    /// A stream is reset, of which the peer is told, unless it did so; and so is the half of its call, with this code.
+    /// A stream is reset, of which the peer is told, unless it did so; and so is the half of its
+    /// call, with this code.
     pub(crate) fn reset(id: StreamId, code: ErrorCode, written: bool) -> Decided<J>
         ensures order { (result.goaway ≡ None)
             × (result.order ≡ Some (orders.Reset id code written)) }

@@ -1,11 +1,13 @@
 //! What the reading side of a connection decides.
 //!
-//! It hears the events of the connection one after another, each with what the lock answered to it, and decides what is ordered
-//! of the writing side, what each call is fed, and how each half is shut. `specs/Orders.antt` says which orders a step leads to,
-//! `specs/Steps.antt` what a half is fed and how it is closed; each function here does what they say of one step, and no more.
+//! It hears the events of the connection one after another, each with what the lock answered to it,
+//! and decides what is ordered of the writing side, what each call is fed, and how each half is
+//! shut. `specs/Orders.antt` says which orders a step leads to, `specs/Steps.antt` what a half is
+//! fed and how it is closed; each function here does what they say of one step, and no more.
 //!
-//! An order that resets a stream is to be put before its call sees the reset. So the half that a decision shuts is named in it
-//! (`Decided::cut`), and shut by `Reading::shut` once the order was put.
+//! An order that resets a stream is to be put before its call sees the reset. So the half that a
+//! decision shuts is named in it (`Decided::cut`), and shut by `Reading::shut` once the order was
+//! put.
 
 ghost use Rattle.std.specs.Prelude.{◌≡◌, ◌⊎◌, ◌<◌, ℕ, List, [], ◌∷◌, ◌++◌, true, false, length, Option, None, Some, IfErr, IfNone, IfOk, IfSome, IsSomeAnd, OnErr, OnOk, option_map, slice_get, vec_capacity, vec_len};
 ghost use Rattle.callhead.specs.declared.head.CallHead.{CallHead as Head};
@@ -53,7 +55,8 @@ use session::Control as PeerControl;
 use std::alloc::{AllocError, Global};
 use std::sync::Arc;
 
-/// How many streams a client may begin (`flow::Halves`); at the last of them it is told to open no more.
+/// How many streams a client may begin (`flow::Halves`); at the last of them it is told to open no
+/// more.
 const STREAMS: u32 = 4096;
 
 /// Room for the pieces of a call's DATA: as many as the bytes that a window lets through.
@@ -62,7 +65,8 @@ const IN_ROOM: usize = 65_536;
 /// Room for what a call is answered with: so many messages wait at most to be written.
 const OUT_ROOM: usize = 16;
 
-/// The ends of the lanes of a call that begins: that which feeds it, those that its worker is handed, and its sender.
+/// The ends of the lanes of a call that begins: that which feeds it, those that its worker is
+/// handed, and its sender.
 #[derive(Drop)]
 struct Ends<J: Naming> {
     feeder: Feeder<InLane>,
@@ -83,8 +87,8 @@ pub struct Reading<J: Naming, M: Answering> {
     pub(crate) home: RingOut<Returning<J>>,
     /// Whether no more calls are admitted.
     pub(crate) is_draining: bool,
-    /// What a GOAWAY names (RFC 9113, section 6.8): the greatest stream that was begun, or once the server drains the greatest
-    /// whose call was admitted; 0 for none.
+    /// What a GOAWAY names (RFC 9113, section 6.8): the greatest stream that was begun, or once the
+    /// server drains the greatest whose call was admitted; 0 for none.
     pub(crate) last: StreamId,
     /// How many were begun, up to `STREAMS`.
     pub(crate) begun: u32,
@@ -93,7 +97,8 @@ pub struct Reading<J: Naming, M: Answering> {
 }
 
 impl<J: Naming, M: Answering> Reading<J, M> {
-    /// That of a new connection, with an empty register, to which senders come back on this way. It takes no memory.
+    /// That of a new connection, with an empty register, to which senders come back on this way. It
+    /// takes no memory.
     pub fn new(
         alloc: Global,
         register: Register<J>,
@@ -121,9 +126,9 @@ impl<J: Naming, M: Answering> Reading<J, M> {
 
     // ---- a stream that begins
 
-    /// A stream begins with the head of a call. `index` is the method that its path names, if one has it, `opened` the moment. A call
-    /// of a method is to be admitted by the lock, and there is room for its account; any other is refused. Once the server drains each is
-    /// turned away.
+    /// A stream begins with the head of a call. `index` is the method that its path names, if one
+    /// has it, `opened` the moment. A call of a method is to be admitted by the lock, and there is
+    /// room for its account; any other is refused. Once the server drains each is turned away.
     pub fn open(
         &mut self,
         id: StreamId,
@@ -227,7 +232,8 @@ impl<J: Naming, M: Answering> Reading<J, M> {
         self.seats.add(seat)
     }
 
-    /// Hands a call that was admitted to the worker of this number, which is free. Without memory for its lanes it isn't served.
+    /// Hands a call that was admitted to the worker of this number, which is free. Without memory
+    /// for its lanes it isn't served.
     pub fn engage(&mut self, number: usize, request: Request) -> Result<Decided<J>, AllocError>
         requires named { M.names request.head.path request.index }
         requires next { IsNext request.id self.old }
@@ -245,7 +251,8 @@ impl<J: Naming, M: Answering> Reading<J, M> {
         Ok(self.begin(id, Control::Open(id, opening)))
     }
 
-    /// Opens the lanes of a call, and hands two of their ends to its worker. That for the writing side.
+    /// Opens the lanes of a call, and hands two of their ends to its worker. That for the writing
+    /// side.
     fn start(&mut self, number: usize, request: Request) -> Result<Opening<J>, AllocError>
         requires named { M.names request.head.path request.index }
         requires next { IsNext request.id self.old }
@@ -300,7 +307,8 @@ impl<J: Naming, M: Answering> Reading<J, M> {
         Arc::try_clone(line)
     }
 
-    /// Enters a call among those that aren't settled, for which there is room, and hands it to its worker, which is free.
+    /// Enters a call among those that aren't settled, for which there is room, and hands it to its
+    /// worker, which is free.
     fn enter(&mut self, seat: usize, feeder: Feeder<InLane>, job: Job<J>)
         requires named { M.names job.work.request.head.path job.work.request.index }
         requires next { IsNext job.work.request.id self.old }
@@ -334,7 +342,8 @@ impl<J: Naming, M: Answering> Reading<J, M> {
         self.seats.hand(seat, job);
     }
 
-    /// No worker could be started for a call of this method, which was admitted: its account says so, and the connection ends.
+    /// No worker could be started for a call of this method, which was admitted: its account says
+    /// so, and the connection ends.
     pub fn lose(&mut self, id: StreamId, method: usize) -> Decided<J>
         requires next { IsNext id self.old }
         ensures memory { result.ends ≡ Some ending.OutOfMemory }
@@ -423,7 +432,8 @@ impl<J: Naming, M: Answering> Reading<J, M> {
         }
     }
 
-    /// Counts a stream that begins. With the last that a client may begin, it is told to open no more, unless the server drains.
+    /// Counts a stream that begins. With the last that a client may begin, it is told to open no
+    /// more, unless the server drains.
     fn count(&mut self, id: StreamId) -> Option<StreamId>
         ensures counts { (last : ℕ) (ids : List ℕ) → Counts last ids self.old
             → Counts (named_with id self.old.is_draining last) (id ∷ ids) self.new
@@ -473,7 +483,8 @@ impl<J: Naming, M: Answering> Reading<J, M> {
         }
     }
 
-    /// Feeds a piece to its call. One that its lane refuses resets the stream; where there is no memory for it the connection ends.
+    /// Feeds a piece to its call. One that its lane refuses resets the stream; where there is no
+    /// memory for it the connection ends.
     fn feed(&mut self, id: StreamId, piece: Bytes) -> Decided<J>
         ensures decides { (counted : ℕ) → DecidesOn M.known M.names
             (Told (events.Data id piece counted) (fate_of Feed result.order result.ends))
@@ -492,7 +503,8 @@ impl<J: Naming, M: Answering> Reading<J, M> {
         }
     }
 
-    /// A piece wasn't fed. Where its lane refused it the stream is reset; where there was no memory for it the connection ends.
+    /// A piece wasn't fed. Where its lane refused it the stream is reset; where there was no memory
+    /// for it the connection ends.
     fn refuse_piece(&self, id: StreamId, fault: FeedFault) -> Decided<J>
         ensures decides { (piece : List ℕ) (counted : ℕ) → DecidesOn M.known M.names
             (Told (events.Data id piece counted) (fate_of Feed result.order result.ends))
@@ -618,7 +630,8 @@ impl<J: Naming, M: Answering> Reading<J, M> {
         }
     }
 
-    /// There was no memory for what came: the connection ends, with INTERNAL_ERROR (RFC 9113, section 5.4.1).
+    /// There was no memory for what came: the connection ends, with INTERNAL_ERROR (RFC 9113,
+    /// section 5.4.1).
     pub fn run_out(&self) -> Decided<J>
         ensures order { (result.goaway ≡ None)
             × (result.order ≡ Some (orders.Goaway self.now.last reason.Memory)) }
@@ -631,7 +644,8 @@ impl<J: Naming, M: Answering> Reading<J, M> {
         }
     }
 
-    /// The order that ends the connection for this reason, or by which the peer learns that the server drains.
+    /// The order that ends the connection for this reason, or by which the peer learns that the
+    /// server drains.
     fn goaway(&self, reason: Reason) -> Order<J>
         ensures order { result ≡ orders.Goaway self.now.last reason }
     {
@@ -643,8 +657,8 @@ impl<J: Naming, M: Answering> Reading<J, M> {
 
     // ---- the end while calls go on
 
-    /// The server is to stop while its calls go on: no more are admitted, and GOAWAY names the greatest stream of those that were
-    /// (RFC 9113, section 6.8).
+    /// The server is to stop while its calls go on: no more are admitted, and GOAWAY names the
+    /// greatest stream of those that were (RFC 9113, section 6.8).
     pub fn drain(&mut self) -> Decided<J>
         ensures decides { DecidesOn M.known M.names Drains result self.old self.new }
         ensures ends { result.ends ≡ None }
@@ -719,7 +733,8 @@ impl<J: Naming, M: Answering> Reading<J, M> {
         true
     }
 
-    /// Takes a sender that comes back on another way: its order wasn't put, or the writing side has ended.
+    /// Takes a sender that comes back on another way: its order wasn't put, or the writing side has
+    /// ended.
     pub fn take_back(&mut self, returning: Returning<J>)
         ensures stays { (sent : List Sent) (told : List Step)
             → HasReturned (carried_in sent) returning.sending.value
@@ -732,7 +747,8 @@ impl<J: Naming, M: Answering> Reading<J, M> {
         self.calls.take_back::<M>(returning);
     }
 
-    /// Settles a call that is over, if there is one: its account is final.
+    /// Settles a call that is over, if there is one. Its account is final: what was fed and how the
+    /// half was shut is what was heard of it, and what was sent is what its sender got.
     pub fn settle_next(&mut self) -> Option<CallAccount>
         ensures settled { IfSome result (λ account. (sent : List Sent)
             (told : List Step) → Reads M.known M.names (carried_in sent) told self.old
@@ -752,8 +768,8 @@ impl<J: Naming, M: Answering> Reading<J, M> {
         self.calls.len()
     }
 
-    /// After the end of the input: a call that its client neither ended nor reset is cancelled. `place` is its place among those that
-    /// aren't settled.
+    /// After the end of the input: a call that its client neither ended nor reset is cancelled.
+    /// `place` is its place among those that aren't settled.
     pub fn cut_off(&self, place: usize) -> Option<Decided<J>>
         ensures decides { IfSome result (λ decided. IsSomeAnd decided.cut (λ cut.
             DecidesOn M.known M.names (CutOff cut.id) decided self.now self.now)) }
@@ -768,7 +784,8 @@ impl<J: Naming, M: Answering> Reading<J, M> {
 
     // ---- the end
 
-    /// How the connection has ended where its input has, or where the server drains and no call is live.
+    /// How the connection has ended where its input has, or where the server drains and no call is
+    /// live.
     pub fn ending(&self) -> Ending
         ensures input { (result ≡ ending.InputEnded)
             ⊎ ((result ≡ ending.PeerGoaway) ⊎ (result ≡ ending.Drained)) }
@@ -810,7 +827,8 @@ impl<J: Naming, M: Answering> Reading<J, M> {
         self.seats.meet(number, tasks, done);
     }
 
-    /// The writing side has ended, and handed back its end of the way home: what was taken from it begins what was put.
+    /// The writing side has ended, and handed back its end of the way home: what was taken from it
+    /// begins what was put.
     pub fn meet_home(&mut self, home: RingIn<Returning<J>>)
         requires way { way_in home ≡ way_out self.old.home }
         ensures came { IsPrefix (taken self.old.home) (put_home home) }
@@ -820,7 +838,8 @@ impl<J: Naming, M: Answering> Reading<J, M> {
         Ring::meet(&mut home, &mut self.home);
     }
 
-    /// The accounts of all calls that were admitted.
+    /// The accounts of the calls: one for each that was admitted, and no other, in the order of
+    /// their admission. It is so only once no call is left to settle.
     pub fn into_accounts(self) -> Accounts
         ensures accounts { (sent : List Sent) (told : List Step)
             → Reads M.known M.names (carried_in sent) told self → unsettled self.calls ≡ []

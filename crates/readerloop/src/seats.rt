@@ -107,7 +107,8 @@ impl<J: Naming, M: Answering> Seat<J, M> {
         }
     }
 
-    /// Where it has ended, and handed back its ends of the rings: it took all that it was handed, and what it has handed back is there.
+    /// Where it has ended, and handed back its ends of the rings: it took all that it was handed,
+    /// and what it has handed back is there.
     pub(crate) fn meet(&mut self, tasks: TasksOut<J>, done: DoneIn<J, M>) {
         let _tasks = tasks;
         let _done = done;

@@ -46,8 +46,8 @@ impl Marks {
         Ok(())
     }
 
-    /// Marks the places `from..to`, which follow all that are marked. It takes no memory: where there is no room for one span more,
-    /// the last one is made longer, with the places between.
+    /// Marks the places `from..to`, which follow all that are marked. It takes no memory: where
+    /// there is no room for one span more, the last one is made longer, with the places between.
     pub(crate) fn mark(&mut self, from: usize, to: usize)
         requires order { from ≤ to }
         requires before { All (EndsBy from) (spans self.old) }

@@ -1,8 +1,8 @@
 //! A reader, a worker and a writer over one lock.
 //!
-//! It is there to state what the shares and the book say together, once the three have met again. The reader admits a call
-//! and counts the pieces of DATA that come on it, the worker returns them, and the writer announces so many times and then
-//! stops.
+//! It is there to state what the shares and the book say together, once the three have met again.
+//! The reader admits a call and counts the pieces of DATA that come on it, the worker returns them,
+//! and the writer announces so many times and then stops.
 
 ghost use Rattle.std.specs.Prelude.{◌≡◌, ℕ, ◌+◌, ◌*◌, ◌^◌, ◌<◌, ◌≤◌, sum, length};
 
@@ -144,8 +144,8 @@ fn work_and_write<
     written
 }
 
-/// Runs a reader of these pieces, a worker and a writer over one book, and answers how many bytes the writer announced on the
-/// connection: no more than came.
+/// Runs a reader of these pieces, a worker and a writer over one book, and answers how many bytes
+/// the writer announced on the connection: no more than came.
 pub fn run<R: Threads + Wait + Sync>(rt: &R, alloc: Global, pieces: &[u32], times: u32) -> u64
     ensures credit { result ≤ sum pieces.now }
 {

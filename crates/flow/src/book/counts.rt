@@ -1,6 +1,7 @@
 //! The bytes of DATA that a credit book counts.
 //!
-//! `Counts` and `Call` are public with public fields, since clauses name them; no call hands one out.
+//! `Counts` and `Call` are public with public fields, since clauses name them; no call hands one
+//! out.
 
 ghost use Rattle.std.specs.Prelude.{◌≡◌, ◌+◌, ◌-◌, ◌<◌, ◌≤◌, ◌^◌, min};
 
@@ -36,7 +37,8 @@ impl Counts {
         u64::from(INITIAL_WINDOW) + self.announced - self.received
     }
 
-    /// How many more bytes may come on the connection: no more than the peer may send, nor than can be counted.
+    /// How many more bytes may come on the connection: no more than the peer may send, nor than can
+    /// be counted.
     pub(super) fn room(self) -> u64
         requires counted { IsCounted self }
         requires bounded { self.received ≤ MAX_RECEIVED }

@@ -10,8 +10,8 @@ use std::alloc::Global;
 
 /// What the method answers to a call of these messages, and of its end where that is told.
 ///
-/// All steps are taken, those behind a status too; they give nothing. Where memory runs out, in a step or for the list
-/// of replies, nothing is answered.
+/// All steps are taken, those behind a status too; they give nothing. Where memory runs out, in a
+/// step or for the list of replies, nothing is answered.
 pub fn run(
     alloc: Global,
     method: &dyn Method,

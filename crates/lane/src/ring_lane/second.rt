@@ -1,4 +1,5 @@
-//! The second ring of a `RingLane`, which has room for all that its queue has room for, and for the last item.
+//! The second ring of a `RingLane`, which has room for all that its queue has room for, and for the
+//! last item.
 ghost use Rattle.std.specs.Prelude.{◌≡◌, ◌+◌, ◌<◌, ◌≤◌, true, false, length};
 ghost use Rattle.rtrb.specs.Ring.{sent, known_free, producer_capacity, received};
 ghost use mathlib.Core.List.{IsPrefix};
@@ -64,7 +65,8 @@ impl Second {
         ))
     }
 
-    /// What was got, and then as many items as it answers, which `poll` gives from now on, are what was put.
+    /// What was got, and then as many items as it answers, which `poll` gives from now on, are what
+    /// was put.
     pub(crate) fn meet<T>(tx: &mut SecondIn<T>, rx: &mut SecondOut<T>) -> u64
         requires { in_name tx.old ≡ out_name rx.old }
         ensures writer { (in_name tx.new ≡ in_name tx.old) × (put_in tx.new ≡ put_in tx.old) }

@@ -17,7 +17,8 @@ use crate::lane::{End, Settled};
 use rtrb::{Consumer, Producer};
 
 impl Settled {
-    /// The counts of both rings, where these are those of the second, and `left` counts what is left of both.
+    /// The counts of both rings, where these are those of the second, and `left` counts what is
+    /// left of both.
     pub(super) fn beside(self, put: u64, got: u64) -> Settled
         ensures put { result.put ≡ min (put + self.put) 18446744073709551615 }
         ensures got { result.got ≡ min (got + self.got) 18446744073709551615 }
@@ -76,7 +77,8 @@ pub(super) fn meet_first<S>(first: &mut Producer<S>, reading: &mut Consumer<S>) 
     reading.slots_beside(first)
 }
 
-/// Brings all ends together. It counts what was put into the second ring, what was got of it, and what is left of both rings.
+/// Brings all ends together. It counts what was put into the second ring, what was got of it, and
+/// what is left of both rings.
 pub(super) fn settle_rings<T: Drop>(
     mut first: Producer<Step<T>>,
     second: Option<End<SecondIn<T>, SecondShut<T>>>,

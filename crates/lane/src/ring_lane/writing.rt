@@ -66,7 +66,8 @@ impl<T: Drop> RingLaneIn<T> {
         self.check_waiting()
     }
 
-    /// How many items wait, where the queue is full, the first ring has no room and there is no second one.
+    /// How many items wait, where the queue is full, the first ring has no room and there is no
+    /// second one.
     fn check_waiting(&self) -> Result<(), u64>
         requires first { self.now.second ≡ None }
         requires full { known_free self.now.first ≤ 1 }
