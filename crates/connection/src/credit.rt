@@ -1,5 +1,5 @@
-//! What follows of the credit that is told on a connection, by the fields of its record
-//! (`IsServed`). It does nothing.
+//! A law of the credit that the server announces on a connection, by the fields of its record
+//! (`IsServed`). The function does nothing.
 
 ghost use Rattle.std.specs.Prelude.{◌≤◌, ℕ, List};
 ghost use Rattle.callparts.specs.declared.report.Ending.{Ending as Ended};

@@ -1,4 +1,4 @@
-//! What the reader has the writer do.
+//! The reader's orders to the writer.
 
 ghost use Rattle.std.specs.Prelude.{◌≡◌, [], Some, IsSomeAnd};
 ghost use Rattle.std.specs.Option.{IsSomeAnd-prop};
@@ -20,7 +20,7 @@ pub(crate) const ORDERS: usize = 1024;
 /// How long the reader waits for room before it looks again, in milliseconds.
 pub(crate) const STEP: u64 = 1;
 
-/// Which ring the orders of a connection go through, as a word for clauses.
+/// Names the ring through which a connection's orders go. Only clauses use it.
 pub(crate) trait Route {
     ghost use Rattle.std.specs.Prelude.{Option};
     ghost use Rattle.lane.specs.RingEnds.{RingName};
@@ -28,7 +28,7 @@ pub(crate) trait Route {
     ghost ring: { Option RingName };
 }
 
-/// Who calls at `Brand` says which.
+/// The caller who brings a `Brand` chooses the name.
 impl Route for Brand {
     ghost use Rattle.std.specs.Prelude.{None};
 
@@ -53,8 +53,7 @@ pub(crate) struct Orders<A: Ledger, B: Ledger, C: Ledger, J: Naming, N: Route> {
     pub(crate) are_unrung: bool,
     /// Whether orders were dropped, since the writer had stopped.
     pub(crate) has_dropped: bool,
-    /// Of those that were dropped the one that opens a call, with its sender. Behind it no call
-    /// begins.
+    /// The dropped order that opens a call, with its sender. After it no call begins.
     pub(crate) unput: Option<Order<J>>,
 }
 
@@ -82,8 +81,8 @@ impl<A: Ledger, B: Ledger, C: Ledger, J: Naming, N: Route> Orders<A, B, C, J, N>
         }
     }
 
-    /// Puts an order, and waits where there is no room. Once the writer has stopped it is dropped,
-    /// and so are all behind it.
+    /// Puts an order, and waits where there is no room. Once the writer has stopped, this order and
+    /// all after it are dropped.
     pub(crate) fn put<R: Wait>(&mut self, rt: &R, order: Order<J>)
         ensures puts { Puts order self.old self.new }
     {
@@ -111,7 +110,7 @@ impl<A: Ledger, B: Ledger, C: Ledger, J: Naming, N: Route> Orders<A, B, C, J, N>
         unreachable!()
     }
 
-    /// The same, where there is one.
+    /// Puts the order, if there is one.
     pub(crate) fn put_some<R: Wait>(&mut self, rt: &R, order: Option<Order<J>>)
         ensures puts { PutsAll order self.old self.new }
     {
@@ -120,7 +119,7 @@ impl<A: Ledger, B: Ledger, C: Ledger, J: Naming, N: Route> Orders<A, B, C, J, N>
         }
     }
 
-    /// An order is dropped. One that opens a call is laid aside, with its sender.
+    /// Drops an order. One that opens a call is laid aside, with its sender.
     fn lay_aside(&mut self, order: Order<J>)
         ensures put { put_of self.new ≡ put_of self.old }
         ensures dropped { self.new.has_dropped ≡ true }
@@ -132,7 +131,7 @@ impl<A: Ledger, B: Ledger, C: Ledger, J: Naming, N: Route> Orders<A, B, C, J, N>
         }
     }
 
-    /// Puts the last order, and waits where there is no room: also a writer that has stopped takes
+    /// Puts the last order, and waits where there is no room. A writer that has stopped still takes
     /// orders, and ends at this one.
     pub(crate) fn close<R: Wait>(&mut self, rt: &R)
         ensures put { put_of self.new ≡ put_of self.old ++ orders.Close ∷ [] }
@@ -151,7 +150,8 @@ impl<A: Ledger, B: Ledger, C: Ledger, J: Naming, N: Route> Orders<A, B, C, J, N>
         unreachable!()
     }
 
-    /// Puts the last order, where there is room, and rings the writer. Whether there was.
+    /// Puts the last order where there is room, and rings the writer. Answers whether there was
+    /// room.
     pub(crate) fn try_close(&mut self) -> bool
         ensures put { result ≡ true → put_of self.new ≡ put_of self.old ++ orders.Close ∷ [] }
         ensures full { result ≡ false → put_of self.new ≡ put_of self.old }

@@ -1,5 +1,5 @@
-//! What follows of what was sent of a call, by the accounts of the record of a connection
-//! (`IsServed`). None of it does anything.
+//! Laws of what was sent of a call, by the accounts in the record of a connection (`IsServed`). The
+//! functions do nothing.
 
 ghost use Rattle.std.specs.Prelude.{◌≡◌, ◌∷◌, ◌++◌, ℕ, List, [], true};
 ghost use Rattle.callparts.specs.declared.call_account.CallAccount.{CallAccount};

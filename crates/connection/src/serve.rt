@@ -42,12 +42,13 @@ use std::thread::Threads;
 use std::time::{Clock, Instant};
 use writerloop::Written;
 
-/// Serves one connection, and says what became of it. The caller's thread reads; one more writes,
-/// and up to 64 answer calls. It returns once the input has ended, or the connection was ended with
-/// an error or drained, and all that could be written was.
+/// Serves one connection, and answers what became of it. The caller's thread reads, one more thread
+/// writes, and up to 64 answer calls. It returns once the input has ended, or the connection ended
+/// with an error or was drained, and all that could be written was.
 ///
-/// Calls are answered by these methods, and go on when this gate lets them. A peer that neither
-/// reads nor closes is waited for. The drainer of the seat ends the connection while calls go on.
+/// These methods answer the calls, which go on when this gate lets them. The function waits for a
+/// peer that neither reads nor closes. The drainer of the seat ends the connection while calls go
+/// on.
 pub fn serve_connection<A, B, C, I, O, G, R>(
     rt: R,
     alloc: Global,
@@ -83,7 +84,7 @@ where
     )
 }
 
-/// The same of a connection that nobody drains.
+/// Serves a connection that nobody drains.
 pub fn serve_undrained<I, O, G, R>(
     rt: R,
     alloc: Global,
@@ -109,7 +110,7 @@ where
     serve_seated::<Brand, Brand, Brand, I, O, G, R>(rt, alloc, blanks, input, output, methods, gate)
 }
 
-/// The same, over these ledgers.
+/// Serves a connection over the ledgers of its seat.
 fn serve_seated<A, B, C, I, O, G, R>(
     rt: R,
     alloc: Global,
@@ -162,7 +163,7 @@ fn unserved<O: Drop>(alloc: Global, output: O) -> Served<O>
 /// The rings between a connection's reader and its writer.
 #[derive(Drop)]
 struct Rings<J: Naming> {
-    /// What the reader has the writer do.
+    /// The reader's orders to the writer.
     orders: (RingIn<Order<J>>, RingOut<Order<J>>),
     /// The senders that go back.
     senders: (RingIn<Returning<J>>, RingOut<Returning<J>>),
@@ -185,7 +186,7 @@ impl<J: Naming> Rings<J> {
     }
 }
 
-/// What the parts of a connection are begun with, and when it began.
+/// What each part of a connection begins with, and when the connection began.
 #[derive(Drop)]
 struct Common<A: Ledger, B: Ledger, C: Ledger, G: Drop> {
     for_reader: Arc<Shared<A, B, C>>,
@@ -196,7 +197,7 @@ struct Common<A: Ledger, B: Ledger, C: Ledger, G: Drop> {
 }
 
 impl<A: Ledger, B: Ledger, C: Ledger, G: Drop> Common<A, B, C, G> {
-    /// Over what the threads share. A clock that can't be read counts as want of memory.
+    /// Made of what the threads share. It answers want of memory for a clock that can't be read.
     fn new(
         rt: &impl Clock,
         shared: Arc<Shared<A, B, C>>,
@@ -212,7 +213,7 @@ impl<A: Ledger, B: Ledger, C: Ledger, G: Drop> Common<A, B, C, G> {
     }
 }
 
-/// The same, with an empty register.
+/// Serves a connection with an empty register of calls.
 fn serve_named<A, B, C, J, M, I, O, G, R>(
     rt: R,
     alloc: Global,
@@ -256,7 +257,7 @@ where
     )
 }
 
-/// The same, with the rings between its threads.
+/// Serves a connection over the rings between its threads.
 fn serve_over<A, B, C, J, M, N, I, O, G, R>(
     rt: R,
     alloc: Global,
@@ -332,7 +333,7 @@ struct Begun<
     writing: WriterHand<C, J, O>,
 }
 
-/// Begins a connection, or serves it to its end where there is no memory for that.
+/// Begins a connection. Without memory for that, it serves the connection to its end.
 // (kept out of its caller, whose frame is on the stack of each connection that lives)
 #[inline(never)]
 fn begin<A, B, C, J, M, N, O, G, R>(
@@ -428,7 +429,7 @@ where
     }
 }
 
-/// Ends a connection that was read so.
+/// Ends a connection after its reader has read to the end.
 #[inline(never)]
 fn end<A, B, C, J, M, N, O, G, R>(
     rt: R,
@@ -450,7 +451,7 @@ where
     requires route { N.ring ≡ Some (out_name writing.promise.orders.value) }
     requires way { out_name reader.reading.home ≡ in_name writing.promise.home.value }
     requires heard { Hears M.known M.names reader.reading reader.orders }
-    // For what was sent, as far as it came home by then, whatever was heard: so it is served.
+    // The connection is served, whatever was heard, for the senders that came back by then.
     ensures served { (sent : List Sent) × AreCarried sent (taken reader.reading.home)
         × ((came : List ℕ) (told : List Step) (read_failed : Bool)
         → HasRead M.known M.names sent read came told reader.reading reader.orders
@@ -467,8 +468,8 @@ where
     meet_writer(reader, written, read)
 }
 
-/// What became of a connection, where its reader meets its writer, and takes the senders back that
-/// this had.
+/// What became of a connection: its reader meets its writer, and takes back the senders that the
+/// writer had.
 fn meet_writer<A, B, C, J, M, N, O, G, R>(
     reader: Reader<A, B, C, J, M, N, R, G>,
     written: Written<J, O>,
@@ -525,7 +526,7 @@ where
     meet(read, ending, calls, orders, rx, is_faultless, device)
 }
 
-/// The same by what either saw.
+/// What became of a connection, by what its reader and its writer each saw.
 fn meet<A, B, C, J, N, O>(
     read: Ending,
     written: Option<Ending>,
@@ -543,8 +544,8 @@ where
     N: Route,
     O: ConnWrite + Send + Drop + 'static,
     requires route { N.ring ≡ Some (out_name rx) }
-    // The orders that the run obeyed begin those that were put; and where the ending doesn't tell
-    // why not, they are all of them.
+    // The orders that the run obeyed begin those that were put, and are all of them unless the
+    // ending says why not.
     ensures obeyed { AreFirst (taken rx) (put_in orders.outbox.ring)
         ((result.report.ending ≢ ending.OutOfMemory)
         × (result.report.ending ≢ ending.WriteFailed)) }
@@ -557,12 +558,12 @@ where
         → result.report.ending ≡ ending.WriteFailed }
     ensures marked { result.report.ending ≡ ending.WriteFailed
         → written ≡ Some ending.WriteFailed }
-    // None was dropped, unless the ending tells why.
+    // No order was dropped, unless the ending says why.
     ensures dropped { result.report.ending ≢ ending.OutOfMemory
         → result.report.ending ≢ ending.WriteFailed
         → ((code : Code) → result.report.ending ≢ ending.ProtocolError code)
         → orders.has_dropped ≡ false }
-    // None with an error was told, where the connection drained.
+    // Where the connection drained, no GOAWAY with an error was written.
     ensures faultless { result.report.ending ≡ ending.Drained → is_faultless ≡ true }
     ensures input { is_heard_out result.report.ending ≡ true → result.report.ending ≡ read }
     ensures blamed { (code : Code) → result.report.ending ≡ ending.ProtocolError code
@@ -578,8 +579,8 @@ where
     }
 }
 
-/// How a connection ended, by what the reader and the writer see. What a writer, or a reader,
-/// doesn't end with counts as want of memory.
+/// How a connection ended, by what the reader and the writer see. An ending that neither can see
+/// counts as want of memory.
 fn of_both(read: Ending, written: Option<Ending>) -> Ending
     ensures memory { written ≡ Some ending.OutOfMemory → result ≡ ending.OutOfMemory }
     ensures failed { written ≡ Some ending.WriteFailed → result ≢ ending.OutOfMemory
@@ -600,9 +601,9 @@ fn of_both(read: Ending, written: Option<Ending>) -> Ending
     }
 }
 
-/// The same by whether the writer took all orders that were put, whether others were dropped, and
-/// whether it told no error. Where no ending tells why, it counts as want of memory; but that
-/// doesn't come.
+/// How a connection ended, by whether the writer took all orders that were put, whether others were
+/// dropped, and whether it sent no error. If the ending seen doesn't explain these, it counts as
+/// want of memory; that doesn't occur.
 fn by_orders(seen: Ending, are_all: bool, has_dropped: bool, is_faultless: bool) -> Ending
     ensures memory { seen ≡ ending.OutOfMemory → result ≡ ending.OutOfMemory }
     ensures failed { seen ≡ ending.WriteFailed → result ≡ ending.WriteFailed }
