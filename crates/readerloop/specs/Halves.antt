@@ -1,4 +1,5 @@
--- The client's half of a call, as the reading side has it, and as it is by what was heard.
+-- The client's half of a call, as the reading side has it, and what the steps that were heard make
+-- of it.
 use Rattle.std.specs.Prelude.{◌≡◌, ◌≢◌, ℕ, Bool, true, false, List, [], ◌∷◌, ◌++◌, Option, Some, None, All}
 use Rattle.callbox.specs.declared.piece.InPiece.{InPiece}
 use Rattle.callbox.specs.declared.piece.InPiece.TheVariants as in_piece
@@ -47,7 +48,7 @@ is_closed Moving = false
 abbrev pub unfed : Shown
 unfed = record { there = true; items = []; closing = None }
 
--- the items with a piece behind them, unless it is empty or the half was closed
+-- the items with a piece after them, unless it is empty or the half was closed
 abbrev pub grown : List ℕ → Option Closing → List InPiece → List InPiece
 grown [] closing items = items
 grown (byte ∷ bytes) None items = items ++ in_piece.Bytes (byte ∷ bytes) ∷ []

@@ -1,4 +1,4 @@
--- The calls of a connection, as they are by what its reading side heard.
+-- What the steps that the reading side heard make of the calls of a connection.
 use Rattle.std.specs.Prelude.{◌≡◌, ◌⊎◌, ◌≤◌, ℕ, Bool, false, nat_eq, List, ◌∷◌, map, All, Contains, Option, None, Some, if◌then◌else◌, slice_get}
 use Rattle.std.specs.List.{IsDistinct}
 use Rattle.account.specs.declared.call.OutItem.{OutItem}
@@ -45,7 +45,7 @@ module _ {J : Type 0} {book : Ghosts J} where
   abbrev pub AreCut : List (Call J book) → Type 0
   AreCut calls = All (λ call. is_open call.half ≡ false) calls
 
-  -- A call that begins: it stands in the register with this head, whose path names its method, and
+  -- A call that begins: it is in the register with this head, whose path names its method, and
   -- nothing of it was fed or came back.
   pub record IsFresh (names : List ℕ → ℕ → Type 0) (head : CallHead) (call : Call J book) : Type 0 where
     pub request : Request
@@ -81,8 +81,8 @@ module _ {J : Type 0} {book : Ghosts J} where
     abbrev pub Kept : List Step → Calls J book → Type 0
     Kept told calls = AreKept told (unsettled calls) (accounts_of calls) calls.last
 
-    -- Whatever steps led to the calls before, they lead to those after: the same steps; with this
-    -- one.
+    -- Whatever steps led to the calls before lead to those after: the steps alone; or with this
+    -- step.
     abbrev pub Keeps : Calls J book → Calls J book → Type 0
     Keeps old new = (told : List Step) → Kept told old → Kept told new
 
