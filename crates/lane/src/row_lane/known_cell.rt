@@ -1,10 +1,10 @@
-//! A cell with what is known of it.
+//! What is known of a cell.
 ghost use Rattle.std.specs.Prelude.{◌≡◌, true};
 ghost use Rattle.lane.specs.Notes.{holds_item};
 
 use once_cell::race::Note;
 
-/// A cell of which it is known that it holds an item, and which. It takes no bytes.
+/// The knowledge that a cell holds an item, and which. It takes no bytes.
 #[derive(Drop)]
 pub(crate) struct Known<T> {
     pub(crate) note: Note<Option<T>>,
