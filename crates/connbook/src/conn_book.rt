@@ -22,7 +22,7 @@ use std::sync::ledger::{Ledger, Share};
 /// bytes that were announced on the connection. The connection's reader holds the shares of the
 /// first two, its writer that of the third.
 ///
-/// What is always true of it is `IsKept`: so it holds whenever the lock is free.
+/// `IsKept` holds whenever the lock is free.
 #[derive(Drop)]
 pub struct ConnBook<A: Ledger, B: Ledger, C: Ledger> {
     book: Book,
@@ -79,7 +79,7 @@ impl<A: Ledger, B: Ledger, C: Ledger> ConnBook<A, B, C> {
     }
 
     /// The greatest id that was admitted, 0 for none: what a GOAWAY names (RFC 9113, section 6.8).
-    /// Its contract says what is true of each book.
+    /// Its contract also says what holds of each book.
     pub fn last(&self) -> StreamId
         ensures last { result ≡ self.now.book.last }
         ensures kept { IsKept self.now.book self.now.stopped self.now.received.total
@@ -107,7 +107,7 @@ impl<A: Ledger, B: Ledger, C: Ledger> ConnBook<A, B, C> {
     /// has stopped, it cuts the call at once. It answers `TooMany` only after 64 calls were
     /// admitted.
     ///
-    /// The id is tested first, then whether calls are admitted, then how many are live.
+    /// It tests the id first, then whether calls are admitted, then how many are live.
     pub fn admit(&mut self, id: StreamId, mine: &mut Share<B>) -> Result<(), AdmitFault>
         requires whole { mine.old.parts ≡ B.parts }
         requires some { 0 < mine.old.parts }
@@ -189,9 +189,9 @@ impl<A: Ledger, B: Ledger, C: Ledger> ConnBook<A, B, C> {
         self.book.window(0) <= self.book.due(0)
     }
 
-    /// Announces all that was returned on an id, 0 for the connection, and answers how much of it
-    /// wasn't yet: the increment of a WINDOW_UPDATE (RFC 9113, section 6.9), or 0. It is due only
-    /// where it is at least what the peer may still send.
+    /// Announces all that was returned on an id, 0 for the connection, if credit is due: the new
+    /// part is at least what the peer may still send. Answers that part, the increment of a
+    /// WINDOW_UPDATE (RFC 9113, section 6.9), or 0.
     pub fn announce(&mut self, id: StreamId, mine: &mut Share<C>) -> u32
         requires { 0 < mine.old.parts }
         ensures increment { result ≡ credit_of self.old.book id }
@@ -215,7 +215,7 @@ impl<A: Ledger, B: Ledger, C: Ledger> ConnBook<A, B, C> {
     }
 
     /// Marks the remote end of a call: no more DATA comes. With both ends marked it is no longer
-    /// live. Nothing changes where it isn't.
+    /// live. Nothing changes if it wasn't live.
     pub fn end_remote(&mut self, id: StreamId)
         ensures book { self.new.book ≡ after_end_remote self.old.book id }
         ensures stopped { self.new.stopped ≡ self.old.stopped }
@@ -223,8 +223,8 @@ impl<A: Ledger, B: Ledger, C: Ledger> ConnBook<A, B, C> {
         steps::end_remote(&mut self.book, id);
     }
 
-    /// Marks the local end of a call: nobody takes its DATA any more. With both ends marked it is
-    /// no longer live. Nothing changes where it isn't.
+    /// Marks the local end of a call: its DATA isn't taken any more. With both ends marked it is no
+    /// longer live. Nothing changes if it wasn't live.
     pub fn end_local(&mut self, id: StreamId)
         ensures book { self.new.book ≡ after_end_local self.old.book id }
         ensures stopped { self.new.stopped ≡ self.old.stopped }
@@ -241,8 +241,8 @@ impl<A: Ledger, B: Ledger, C: Ledger> ConnBook<A, B, C> {
         steps::cut(&mut self.book, id);
     }
 
-    /// The writer stops: no call is live any more, nor is any that is admitted later. It takes a
-    /// step for each live call, at most 64.
+    /// Stops the book, as the writer stops: no call is live any more, nor is any that is admitted
+    /// later. It takes a step for each live call, at most 64.
     pub fn stop(&mut self)
         ensures book { self.new.book ≡ after_stop self.old.book }
         ensures stopped { self.new.stopped ≡ true }
@@ -258,8 +258,8 @@ impl<A: Ledger, B: Ledger, C: Ledger> ConnBook<A, B, C> {
         *stopped = true;
     }
 
-    /// Changes nothing, and tells how the shares of those who count stand to the book, where reader
-    /// and writer meet again: no more was announced on the connection than came on it.
+    /// Changes nothing. Where reader and writer meet again, it shows that the shares are what the
+    /// book has, and that no more was announced on the connection than came on it.
     pub fn audit(&mut self, came: &mut Share<A>, calls: &mut Share<B>, told: &mut Share<C>)
         requires came { came.old.parts ≡ A.parts }
         requires calls { calls.old.parts ≡ B.parts }
