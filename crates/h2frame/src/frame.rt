@@ -1,4 +1,4 @@
-//! A frame, and what its head tells by itself.
+//! A frame, and what its head says by itself.
 
 ghost use Rattle.std.specs.Prelude.{◌≡◌, ◌<◌, ◌≤◌, ◌^◌, length, IfNone};
 ghost use Rattle.h2frame.specs.Flags.{is_padded, has_priority};
@@ -45,7 +45,7 @@ impl FrameHead {
         }
     }
 
-    /// Whether five bytes of priority stand before the content, which HEADERS alone may have.
+    /// Whether five bytes of priority come before the content, which HEADERS alone may have.
     pub fn has_priority(&self) -> bool
         ensures { result ≡ has_priority self.now }
     {
@@ -165,7 +165,7 @@ pub fn increment(content: &[u8]) -> u32
     u32::from_be_bytes([content[0], content[1], content[2], content[3]]) & 0x7fff_ffff
 }
 
-/// The eight bytes of a PING's content, which are sent back (RFC 9113, section 6.7).
+/// The eight bytes of a PING's content, which the answer repeats (RFC 9113, section 6.7).
 pub fn ping_bytes(content: &[u8]) -> [u8; 8]
     requires { length content.now ≡ 8 }
     ensures { result ≡ content.now }
