@@ -1,9 +1,8 @@
 //! The windows of what is sent (RFC 9113, section 6.9).
 //!
-//! What all streams share is a `ConnectionWindow`, and the balance of each lies in a map. The
-//! windows are said twice: each call by an equation on the numbers that are kept, and by what
-//! follows from the whole list of openings, credits, spendings, sizes and closings (`Follows`);
-//! `room` is tied to that list alone.
+//! All streams share a `ConnectionWindow`, and a map has the balance of each. Contracts define the
+//! windows twice: by an equation on the numbers that are kept, and by the whole list of openings,
+//! credits, spendings, sizes and closings (`Follows`). `room` is defined by that list alone.
 
 ghost use Rattle.std.specs.Prelude.{◌≡◌, ◌+◌, ◌-◌, ◌+ℤ◌, ◌-ℤ◌, ◌<◌, min, pos, List, [], ◌∷◌, None, IfErr, OnErr, OnOk, is_some, MatchOption, nat_eq, int_le};
 ghost use Rattle.std.specs.List.{list_all};
@@ -23,7 +22,7 @@ use thiserror::Error;
 /// Why a window isn't changed.
 #[derive(Clone, Copy, Debug, PartialEq, Eq, Error)]
 pub enum WindowFault {
-    /// A window would be over 2^31 - 1 bytes.
+    /// A window would be larger than 2^31 - 1 bytes.
     #[error("a window would be over 2147483647 bytes")]
     Overflow,
     /// More is spent than the windows let through.
@@ -32,7 +31,7 @@ pub enum WindowFault {
     /// The stream isn't open.
     #[error("the stream isn't open")]
     Unknown,
-    /// No memory was to be had.
+    /// There is no memory.
     #[error("out of memory")]
     OutOfMemory,
 }
@@ -62,7 +61,7 @@ impl<T: Drop> From<AllocFailed<T>> for WindowFault {
 /// The windows of what is sent: how many bytes of DATA the peer takes on the connection, and on
 /// each open stream.
 ///
-/// A stream's window is the initial size that holds now, and its balance: what was credited to it
+/// A stream's window is the present initial size and the stream's balance: what was credited to it
 /// less what was spent on it since it was opened. So a smaller initial size can take it below zero
 /// (RFC 9113, section 6.9.2).
 #[derive(Drop)]
@@ -200,8 +199,8 @@ impl SendWindows {
         Ok(())
     }
 
-    /// The same for as many bytes as may be sent now, and at most so many. It answers how many
-    /// these are: 0 where `room` is 0.
+    /// Takes as many bytes as may be sent now, and at most `most`, out of a stream's window and the
+    /// connection's. Answers how many these are: 0 where `room` is 0.
     pub fn spend_up_to(&mut self, id: StreamId, most: u32) -> u32
         ensures value { result ≡ min (room self.old id) most }
         ensures room { 0 < id → (history : List Step) → Follows history self.old → result
@@ -242,7 +241,7 @@ impl SendWindows {
         self.balances.contains_key(&id)
     }
 
-    /// Closes a stream. One that isn't open is none to close, and nothing changes.
+    /// Closes a stream. If it isn't open nothing changes.
     pub fn close(&mut self, id: StreamId)
         ensures value { self.new ≡ closed self.old id }
         ensures follows { (history : List Step) → Follows history self.old
@@ -260,7 +259,7 @@ fn all_fit(balances: &IndexMap<StreamId, Balance>, size: u32) -> bool
         (values_of balances.now.entries) }
     ensures unique { IsUnique nat_eq balances.now }
 {
-    // That no key stands twice is said by `len`.
+    // `len` says that no key comes twice.
     let _count = balances.len();
     balances.values().all(|balance| balance.fits(size))
 }

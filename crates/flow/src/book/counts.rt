@@ -1,7 +1,7 @@
 //! The bytes of DATA that a credit book counts.
 //!
-//! `Counts` and `Call` are public with public fields, since clauses name them; no call hands one
-//! out.
+//! `Counts` and `Call` are public with public fields, since clauses name them; no function hands
+//! one out.
 
 ghost use Rattle.std.specs.Prelude.{◌≡◌, ◌+◌, ◌-◌, ◌<◌, ◌≤◌, ◌^◌, min};
 
@@ -12,9 +12,9 @@ use crate::{INITIAL_WINDOW, MAX_RECEIVED};
 pub struct Counts {
     /// How many came, padding counted (RFC 9113, section 6.9.1).
     pub received: u64,
-    /// How many of those were taken since, or never will be.
+    /// How many of those were taken, or never will be.
     pub returned: u64,
-    /// How many of those were told to the peer by WINDOW_UPDATE.
+    /// How many of those WINDOW_UPDATE announced to the peer.
     pub announced: u64,
 }
 
