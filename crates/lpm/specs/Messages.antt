@@ -8,12 +8,12 @@ use Rattle.std.specs.Int.{w32, to_be_bytes, from_be_bytes}
 use Rattle.lpm.specs.declared.fault.LpmFault.{LpmFault}
 use Rattle.lpm.specs.declared.fault.LpmFault.TheVariants.{Compressed, BadFlag, TooLong, CutAtEnd, OutOfMemory}
 
--- what stands before a message of so many bytes: the flag 0, as it isn't compressed; the length,
+-- what comes before a message of n bytes: the flag 0, as it isn't compressed; the length,
 -- big-endian
 abbrev pub prefix_of : ℕ → List ℕ
 prefix_of len = 0 ∷ to_be_bytes w32 len
 
--- one message, behind its prefix
+-- one message, after its prefix
 unfoldable pub frame : List ℕ → List ℕ
 frame message = prefix_of (length message) ++ message
 
@@ -34,7 +34,7 @@ IsMessage message = length message ≤ max_message_len
 abbrev pub IsFrame : List ℕ → Type 0
 IsFrame bytes = (message : List ℕ) × IsMessage message × (bytes ≡ frame message)
 
--- the length that the four bytes behind a flag announce
+-- the length that the four bytes after a flag announce
 unfoldable pub announced : List ℕ → ℕ
 announced bytes = from_be_bytes w32 (take 4 bytes)
 
@@ -45,8 +45,8 @@ IsUnfinished [] = Unit {0}
 IsUnfinished (flag ∷ bytes) =
     (flag ≡ 0) × (4 ≤ length bytes → (announced bytes ≤ max_message_len) × (length bytes < 4 + announced bytes))
 
--- What can't go on as a message: another flag, or the flag 0 and a length over the limit. No other
--- fault is in bytes.
+-- What can't go on as a message: another flag, or the flag 0 and a length over the limit. Bytes
+-- have no other fault.
 abbrev pub IsFaulty : List ℕ → LpmFault → Type 0
 IsFaulty [] fault = ⊥
 IsFaulty (flag ∷ bytes) Compressed = flag ≡ 1

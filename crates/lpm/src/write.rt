@@ -26,11 +26,11 @@ pub fn write_message(message: &[u8], out: &mut Vec<u8>) -> Result<(), LpmFault>
     Ok(())
 }
 
-/// Appends the prefix of a message of `len` bytes, for whoever writes the message itself right
-/// behind it, so that message and prefix lie in one buffer.
+/// Appends the prefix of a message of `len` bytes, for a caller who writes the message itself right
+/// after it, so that prefix and message are in one buffer.
 ///
-/// Refuses a message of more than `MAX_MESSAGE_LEN` bytes. The memory for the message is the
-/// caller's to reserve.
+/// It refuses a message of more than `MAX_MESSAGE_LEN` bytes. The caller reserves the memory for
+/// the message.
 pub fn write_prefix(len: usize, out: &mut Vec<u8>) -> Result<(), LpmFault>
     ensures ok { OnOk result (out.new.items ≡ out.old.items ++ prefix_of len) }
     ensures within { OnOk result (len ≤ max_message_len) }
