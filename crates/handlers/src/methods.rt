@@ -1,7 +1,7 @@
 //! The methods of a server.
 //!
-//! In a contract they are their list. Who found an index calls the method at it, by `first`,
-//! `message` and `end`.
+//! In a contract they are their list. A caller who found an index calls the method at it by
+//! `first`, `message` and `end`.
 
 ghost use Rattle.std.specs.Prelude.{◌≡◌, ◌≢◌, ◌<◌, ◌++◌, ◌∷◌, [], List, ℕ, true, false, length, IfSome, IfNone, IfOk, OnOk, IsSome, slice_get, option_copied};
 ghost use Rattle.std.specs.List.{HoldsAt, AllWithin};
@@ -24,7 +24,7 @@ pub struct Methods {
 }
 
 impl Methods {
-    /// Takes no memory.
+    /// It takes no memory.
     pub fn new(methods: Vec<Box<dyn Method>>) -> Methods
         ensures { listed result ≡ methods.items }
     {
