@@ -73,7 +73,7 @@ impl ZeroBuffer {
         &self.bytes.as_slice()[..self.end]
     }
 
-    /// Makes room for that many bytes more.
+    /// Makes room for `more` bytes more.
     pub fn reserve(&mut self, more: usize) -> Result<(), AllocError>
         ensures items { self.new.items ≡ self.old.items }
         ensures room { OnOk result (more ≤ self.new.spare) }
@@ -123,7 +123,7 @@ impl ZeroBuffer {
     }
 }
 
-/// Writes bytes from place `at` on, over those that are there and then after the last one. There is
+/// Writes bytes from place `at` on, over those that are there and then after the last. There is
 /// room for them.
 fn overwrite(out: &mut Vec<u8>, at: usize, bytes: &[u8])
     requires at { at ≤ length out.old.items }

@@ -71,7 +71,7 @@ impl ZeroTail {
     }
 }
 
-/// The same bytes. The copy shares the first ones.
+/// A copy has the same bytes, and shares the first ones.
 impl Clone for ZeroTail {
     ghost is_clone = { λ tail copy. copy ≡ tail };
 
