@@ -17,11 +17,11 @@ pub trait Tap {
     /// What was seen, where that is known.
     ghost seen: { Self → Option (List Piece) };
 
-    /// Shows the tap bytes that were read.
+    /// Sees bytes that were read.
     fn saw_read(&mut self, bytes: &[u8])
         ensures { Sees (seen self.old) (seen self.new) read bytes.now };
 
-    /// Shows the tap bytes that were written.
+    /// Sees bytes that were written.
     fn saw_written(&mut self, bytes: &[u8])
         ensures { Sees (seen self.old) (seen self.new) written bytes.now };
 }
