@@ -11,7 +11,7 @@ alphabet = codes "ABCDEFGHIJKLMNOPQRSTUVWXYZabcdefghijklmnopqrstuvwxyz0123456789
 unfoldable pub unpadded : List ℕ → List ℕ
 unpadded bytes = encode_symbols alphabet bytes
 
--- and with all the padding that is due
+-- bytes in base64, with all the padding that is due
 unfoldable pub padded : List ℕ → List ℕ
 padded bytes = unpadded bytes ++ replicate (padding_len (length bytes)) 0x3D
 

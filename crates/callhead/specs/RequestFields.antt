@@ -50,9 +50,9 @@ opening_fields path =
 abbrev pub request_fields : List ℕ → Option (List ℕ) → List (List ℕ) → List (List ℕ) → List Field
 request_fields path timeout initial trailing = opening_fields path ++ (timeout_fields timeout ++ echo_fields initial trailing)
 
--- ---- the head that they are
+-- ---- the head that the fields are
 
--- a head asks for these: the path, the timeout that the text names, and the echoes
+-- a head asks for this path, the timeout that the text names, and these echoes
 pub record AsksFor (path : List ℕ) (timeout : Option (List ℕ)) (initial trailing : List (List ℕ)) (head : CallHead) : Type 0 where
   pub path_is : head.path ≡ path
   pub timeout_is : MatchOption timeout (head.timeout ≡ None) (λ text. (nanoseconds : ℕ) × IsTimeout text nanoseconds × (head.timeout ≡ Some nanoseconds))

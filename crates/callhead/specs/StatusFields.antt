@@ -39,8 +39,8 @@ unknown_method = trailers_only (status_number Unimplemented) (codes "unknown met
 abbrev pub status_alone : List ℕ → List Field
 status_alone status = field_of (codes ":status") status ∷ []
 
--- The block that answers fields which are no head; a malformed request has none, nor has out of
--- memory.
+-- The block that answers fields which aren't a head; there is none for a malformed request or for
+-- want of memory.
 abbrev pub refusal_of : HeadFault → Option (List Field)
 refusal_of Malformed = None
 refusal_of NotPost = Some (status_alone (codes "405"))

@@ -1,7 +1,7 @@
 //! The text of a status, in `grpc-message` (gRPC over HTTP/2, "Percent-Encoded").
 //!
-//! What is written is a `String`, whose bytes go into a field without memory (`String::into_bytes`,
-//! `Octets::from`).
+//! A text is written as a `String`, whose bytes go into a field without memory
+//! (`String::into_bytes`, `Octets::from`).
 
 ghost use Rattle.std.specs.Prelude.{◌≡◌, IfOk, string_bytes};
 ghost use Rattle.callhead.specs.StatusTexts.{percent_text, text_of};
@@ -9,7 +9,7 @@ ghost use Rattle.callhead.specs.StatusTexts.{percent_text, text_of};
 use percent_encoding::{AsciiSet, CONTROLS, ascii_set, percent_decode, utf8_percent_encode};
 use std::alloc::{AllocError, Global};
 
-/// What is escaped beside bytes outside ASCII.
+/// The ASCII bytes that are escaped.
 const ESCAPED: AsciiSet = ascii_set!(CONTROLS.add(b'%'));
 
 /// The value of `grpc-message` for a text: bytes 20 to 24 and 26 to 7E (hexadecimal) stand for

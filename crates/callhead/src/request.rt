@@ -1,4 +1,4 @@
-//! The fields that open a call, for whoever makes one (gRPC over HTTP/2, "Requests").
+//! The fields that open a call, for a client (gRPC over HTTP/2, "Requests").
 
 ghost use Rattle.std.specs.Prelude.{◌≡◌, codes, ◌++◌, ◌∷◌, [], map, option_copied, All, IfOk, IsTrue, OnOk};
 ghost use Rattle.callhead.specs.declared.head.CallHead.{CallHead};
