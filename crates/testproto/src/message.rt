@@ -51,8 +51,8 @@ pub trait Message<'a>: Drop {
         ensures fits { IfSome result (λ size. fits self.now) }
         ensures too_long { IfNone result (2 ^ 64 ≤ length (spelling_of_all (fields_of self.now))) };
 
-    /// Appends the fields of the message, by ascending number, defaults left out. Where that fails, some of their bytes
-    /// may stand at the end of the buffer.
+    /// Appends the fields of the message, by ascending number, defaults left out. Where that fails,
+    /// some of their bytes may stand at the end of the buffer.
     fn put_fields(&self, out: &mut Vec<u8>) -> Result<(), ProtoFault>
         ensures ok { OnOk result
             (out.new.items ≡ out.old.items ++ spelling_of_all (fields_of self.now)) }
