@@ -1,4 +1,5 @@
--- What the words of a command line mean: `clap`'s meaning of a simple command, at the command line of this program.
+-- What the words of a command line mean: `clap`'s meaning of a simple command, at the command line
+-- of this program.
 use Rattle.std.specs.Prelude.{◌≤◌, ⊤, ℕ, true, List, [], ◌∷◌, Option, Some, None, if◌then◌else◌, codes, option_map, option_and_then}
 use Rattle.std.specs.Str.{bytes_eq}
 use Rattle.clap.specs.Walk.{Row, Text}
@@ -42,7 +43,7 @@ command_line =
     wire_command.top)
     frames_command.top
 
--- what the program is told to do
+-- what the words ask the program to do
 pub data Meaning : Type 0 where
   print_body : ℕ → Meaning
   print_parts : Meaning

@@ -19,7 +19,7 @@ use crate::tracing::{Tracing, tracing_of, with_tracing};
 use clap::{Arg, ArgMatches, Command};
 use std::alloc::{AllocError, Global};
 
-/// What a soak is told, as gRPC's own clients are.
+/// The words of a soak, as gRPC's own clients have them.
 #[derive(Clone, Copy, Debug, PartialEq, Eq)]
 pub struct SoakWords {
     /// How many calls it makes.
@@ -56,7 +56,7 @@ pub struct CaseRun<'a> {
     pub reporting: Reporting<'a>,
 }
 
-/// What `case` is told.
+/// The words of `case`.
 #[derive(Drop)]
 pub enum CaseWords<'a> {
     /// Print the names that there are.
@@ -260,7 +260,7 @@ fn soak_of(options: &ArgMatches<'_>) -> Option<SoakWords>
     })
 }
 
-// How the cases are run that these words choose, and what is told of them.
+// How the cases that these words choose are run and reported.
 fn run_of<'a>(
     options: &ArgMatches<'a>,
     names: Vec<&'a str>,

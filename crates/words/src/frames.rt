@@ -16,14 +16,14 @@ pub enum Side {
     Server,
 }
 
-/// Of which bytes the frames are told, and how.
+/// Which bytes' frames are printed, and how.
 #[derive(Drop)]
 pub struct FramesWords<'a> {
-    /// The files that have them: two at most. Where there is none, standard input does.
+    /// The files that have the bytes: at most two. Without one, standard input has them.
     pub files: Vec<&'a str>,
     /// Which side sent those of the first, where that is said.
     pub side: Option<Side>,
-    /// Whether all bytes of values are told.
+    /// Whether all bytes of values are printed.
     pub is_full: bool,
 }
 

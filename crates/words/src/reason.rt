@@ -1,7 +1,8 @@
 //! Why words mean no command: which of them is wrong, and what would be right.
 //!
-//! That the words mean none was found by `clap`. Here the words are walked over once more, in `clap`'s order, for the first
-//! of them that the command does not take; where each is taken, something is missing, or two things exclude each other.
+//! That the words mean none was found by `clap`. Here the words are walked over once more, in
+//! `clap`'s order, for the first of them that the command does not take; where each is taken,
+//! something is missing, or two things exclude each other.
 
 use crate::frames::side_named;
 use crate::read::{COMMANDS, command_line};
@@ -155,7 +156,7 @@ pub(crate) fn reason_of<'a>(alloc: Global, words: &'a [String]) -> Result<Reason
     })
 }
 
-/// Why the words behind a command are not those that it takes.
+/// Why the words after a command are not those that it takes.
 fn reason_behind<'a>(name: &'a str, command: &Command<'a>, words: &'a [String]) -> Reason<'a> {
     let mut waiting: Option<Given<'_, 'a>> = None;
     let has_place = command
@@ -275,7 +276,8 @@ fn arg_of<'c, 'a>(name: &str, command: &'c Command<'a>, option: &str) -> Option<
         .find(|arg| arg.get_long().is_some_and(|known| known == long))
 }
 
-/// The option of a word, where its value is the next word, or why it is wrong behind the words before it.
+/// The option of a word, where its value is the next word, or why it is wrong after the words
+/// before it.
 fn given_by<'c, 'a>(
     name: &'a str,
     command: &'c Command<'a>,
@@ -309,8 +311,8 @@ fn given_by<'c, 'a>(
     }
 }
 
-/// Why the words behind a command are not enough, or too many, where it takes each of them. `is_placed` tells whether one
-/// of them stands for itself.
+/// Why the words after a command are not enough, or too many, if it takes each of them. `is_placed`
+/// says whether one of them stands for itself.
 fn reason_of_whole<'a>(command: &'a str, words: &[String], is_placed: bool) -> Reason<'a> {
     match excluding(command, words, is_placed) {
         Some(both) => Reason::Excluding { both },

@@ -1,5 +1,6 @@
-//! `serve --port P`, or `serve --any-port`, with `--host H`, `--conns N`, `--report`, `--log`, or `--log json`, `--time T`,
-//! `--drain-on-eof`, `--drain-timeout S`, `--record DIR`, the files of `files`, and what `tracing` has.
+//! `serve --port P`, or `serve --any-port`, with `--host H`, `--conns N`, `--report`, `--log`, or
+//! `--log json`, `--time T`, `--drain-on-eof`, `--drain-timeout S`, `--record DIR`, the files of
+//! `files`, and what `tracing` has.
 
 ghost use Rattle.std.specs.Prelude.{◌≡◌, ◌≤◌, false, IfOk, IfSome, option_map};
 ghost use Rattle.clap.specs.Words.{app_of, found_of, rows_of};
@@ -41,7 +42,7 @@ pub enum TimeForm {
     Utc,
 }
 
-/// What `serve` is told.
+/// The words of `serve`.
 #[derive(Clone, Copy, Debug, PartialEq, Eq)]
 pub struct ServeWords<'a> {
     /// The address that it listens on, or a name for it.
@@ -51,9 +52,9 @@ pub struct ServeWords<'a> {
     pub connections: Option<u16>,
     /// Whether it prints the report on each.
     pub has_report: bool,
-    /// How it tells what happens, as it does, if it does.
+    /// In which form it logs what happens, if it does.
     pub log: Option<LogForm>,
-    /// How the log says when, where that is told.
+    /// In which form the log says when, if it does.
     pub time: Option<TimeForm>,
     /// Whether it drains its connections, and ends, where standard input closes.
     pub drains_on_eof: bool,

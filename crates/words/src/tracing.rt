@@ -1,5 +1,5 @@
-//! The options that `serve`, `case`, `wire` and `misbehave` share: `--trace`, also `--trace short` and `--trace full`,
-//! `--trace-file FILE` and `--pcap FILE`.
+//! The options that `serve`, `case`, `wire` and `misbehave` share: `--trace`, also `--trace short`
+//! and `--trace full`, `--trace-file FILE` and `--pcap FILE`.
 
 ghost use Rattle.std.specs.Prelude.{◌≡◌, IfOk, option_map};
 ghost use Rattle.clap.specs.Simple.{App};
@@ -79,7 +79,8 @@ pub(crate) fn form_of(name: &str) -> Option<TraceForm>
     }
 }
 
-// The form of lines, if there are to be any: a file for them asks for them too. Nothing where a name is no form's.
+// The form of lines, if there are to be any: a file for them asks for them too. Nothing where a
+// name is no form's.
 fn trace_of(options: &ArgMatches<'_>) -> Option<Option<TraceForm>>
     ensures { result ≡ trace_of (rows_of (found_of options.now)) }
 {
