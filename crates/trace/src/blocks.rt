@@ -37,7 +37,7 @@ impl Blocks {
         }
     }
 
-    /// What HEADERS, PUSH_PROMISE or CONTINUATION come to.
+    /// What HEADERS, PUSH_PROMISE or CONTINUATION mean.
     pub fn take(&mut self, head: &FrameHead, payload: &[u8]) -> Result<Told, AllocError> {
         match head.kind {
             FrameKind::Continuation => self.next_frame(head, payload),
@@ -69,7 +69,8 @@ impl Blocks {
         self.told(head, begun)
     }
 
-    /// What the frame with this head comes to, which has a fragment of the block that another began.
+    /// What the frame with this head means, which has a fragment of the block that another frame
+    /// began.
     fn told(&mut self, head: &FrameHead, begun: FrameHead) -> Result<Told, AllocError> {
         if !head.flags.contains(Flags::END_HEADERS) {
             return Ok(Told::Fragment);
@@ -94,7 +95,8 @@ impl Blocks {
         self.bytes.extend_from_slice(fragment)
     }
 
-    /// The block that this frame began is whole: its fields, over the table of this side, or the first fault.
+    /// The block that this frame began is whole: its fields, over the table of this side, or the
+    /// first fault.
     fn end(&mut self, head: FrameHead) -> Result<Block, AllocError>
         ensures bytes { IfOk result (λ block. block.bytes.items ≡ self.old.bytes.items) }
         ensures fields { IfOk result (λ block. IfOk block.fields (λ fields.

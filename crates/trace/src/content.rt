@@ -15,7 +15,8 @@ const PROMISED_LEN: usize = 4;
 /// The bytes of a parameter of SETTINGS (section 6.5.1).
 pub const PARAMETER_LEN: usize = 6;
 
-/// The content of a frame, without padding, and without the priority of HEADERS; nothing where these are longer than the payload.
+/// The content of a frame, without padding, and without the priority of HEADERS; nothing where
+/// these are longer than the payload.
 pub fn content_of<'a>(head: &FrameHead, payload: &'a [u8]) -> Option<&'a [u8]>
     ensures { IfSome result (λ content. IsContent head.now payload.now content.now) }
 {

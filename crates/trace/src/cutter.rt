@@ -1,4 +1,5 @@
-//! Cutting the bytes of one side into its preface and frames, in whatever pieces they come (RFC 9113, sections 3.4 and 4.1).
+//! Cutting the bytes of one side into its preface and frames, in whatever pieces they come (RFC
+//! 9113, sections 3.4 and 4.1).
 
 ghost use Rattle.std.specs.Prelude.{◌≡◌, ◌<◌, ◌≤◌, ◌^◌, ◌++◌, ℕ, List, [], false, length, drop, IfOk, IfNone, IfSome, IsTrue, OnOk};
 ghost use Rattle.h2frame.specs.FrameList.{BeginsWith};
@@ -20,7 +21,8 @@ const PREFACE_LEN: usize = 24;
 
 const PREFACE: &[u8] = b"PRI * HTTP/2.0\r\n\r\nSM\r\n\r\n";
 
-/// Cuts the bytes of one side. A clause sees what comes next, and the bytes that came and are no whole item.
+/// Cuts the bytes of one side. A clause sees what comes next, and the bytes that came and are no
+/// whole item.
 #[derive(Drop)]
 pub struct Cutter {
     stage: Stage,

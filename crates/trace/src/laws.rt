@@ -1,4 +1,4 @@
-//! Laws of how bytes are cut, for callers. None of them does anything.
+//! Laws of how bytes are cut, for callers. The functions do nothing.
 
 ghost use Rattle.std.specs.Prelude.{◌≡◌, ℕ, List, ◌++◌, Option};
 ghost use Rattle.h2frame.specs.declared.fault.FrameFault.{FrameFault};

@@ -29,7 +29,7 @@ pub enum Form {
     Full,
 }
 
-/// A piece of what a side sent, and what it comes to.
+/// A piece of what a side sent, and what it means.
 #[derive(Debug, Drop, PartialEq, Eq)]
 pub struct Line {
     /// How many microseconds the connection has gone on.
@@ -152,7 +152,7 @@ impl Shown<'_> {
         }
     }
 
-    /// What the frame comes to.
+    /// Writes what the frame means.
     fn told<W: fmt::Write>(&self, f: &mut fmt::Formatter<W>, told: &Told) -> fmt::Result {
         match told {
             Told::Nothing => Ok(()),

@@ -1,4 +1,5 @@
-//! Where messages begin and end in the DATA of one side of a call (gRPC over HTTP/2, "Length-Prefixed-Message").
+//! Where messages begin and end in the DATA of one side of a call (gRPC over HTTP/2,
+//! "Length-Prefixed-Message").
 
 ghost use Rattle.std.specs.Prelude.{◌≤◌, length};
 
@@ -71,8 +72,8 @@ impl Messages {
         self.prefixed > 0 || self.current.is_some()
     }
 
-    /// What a byte and those after it have of the message in hand, or of the next one, and what is left of them. A byte of a prefix that
-    /// isn't whole has nothing.
+    /// What a byte and those after it have of the message in hand, or of the next one, and what is
+    /// left of them. A byte of a prefix that isn't whole has nothing.
     fn part<'b>(&mut self, first: u8, behind: &'b [u8]) -> (Option<Part>, &'b [u8])
         ensures { length result.1.now ≤ length behind.now }
     {
@@ -87,7 +88,8 @@ impl Messages {
         (Some(part), rest)
     }
 
-    /// What bytes have of the message with this prefix, of which so many are to come, beside those that were taken.
+    /// What bytes have of the message with this prefix, of which `left` are to come, beside those
+    /// that were taken.
     fn more<'b>(
         &mut self,
         prefix: Prefix,

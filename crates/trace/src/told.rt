@@ -1,4 +1,4 @@
-//! What a frame comes to, beside what its own bytes say.
+//! What a frame means, beside what its own bytes say.
 
 use crate::messages::Part;
 use crate::spelling::Spelling;
@@ -7,7 +7,7 @@ use h2frame::{FrameFault, FrameHead};
 use hpack_codec::HpackFault;
 use lists::Field;
 
-/// What a frame comes to by the frames before it.
+/// What a frame means after the frames before it.
 #[derive(Debug, Drop, PartialEq, Eq)]
 pub enum Told {
     /// No more than its bytes say.
@@ -20,7 +20,8 @@ pub enum Told {
     NoBlock,
     /// A header block is whole by it.
     Block(Block),
-    /// What DATA have of the messages of the call, the windows of the side that sent them, and whether the stream ends inside a message.
+    /// What DATA have of the messages of the call, the windows of the side that sent them, and
+    /// whether the stream ends inside a message.
     Data {
         parts: Vec<Part>,
         connection: Change,
