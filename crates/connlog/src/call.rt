@@ -103,7 +103,8 @@ pub struct Call {
     pub heard: u64,
     encoding: Option<String>,
     timeout: Option<String>,
-    /// How many seconds after its begin the call ends, if it does, rounded up; until a line says that they have passed.
+    /// How many seconds after its begin the call ends, if it does, rounded up; until a line says
+    /// that they have passed.
     pub deadline: Option<u64>,
     /// At which tick it began.
     begun: u64,
@@ -114,7 +115,8 @@ pub struct Call {
 }
 
 impl Call {
-    /// What the fields that open a stream begin, where they are a request. They are judged in the server's order.
+    /// What the fields that open a stream begin, where they are a request. They are judged in the
+    /// server's order.
     pub fn begin(alloc: Global, fields: &[Field], now: u64) -> Result<Call, AllocError> {
         let path = first_value(fields, b":path").unwrap_or(b"".as_slice());
         let method = MethodName::of(path);
@@ -199,7 +201,7 @@ impl Call {
         Ok(())
     }
 
-    /// Whether its deadline has passed by this tick, of which a line is due. It is told once.
+    /// Whether its deadline has passed by this tick, so that a line is due. It answers so once.
     pub fn has_passed(&mut self, now: u64) -> bool {
         let Some(deadline) = self.deadline else {
             return false;
@@ -211,7 +213,7 @@ impl Call {
         has_passed
     }
 
-    /// Why it ends, by its status's text. It is told once.
+    /// Why it ends, by its status's text. It answers this once.
     pub fn why(&mut self, text: &str) -> Option<Cause> {
         if let Some(refusal) = self.refusal.take() {
             return Some(Cause::Head(refusal));

@@ -1,6 +1,7 @@
 //! A header block that was read before, so that the same bytes needn't be read again.
 //!
-//! The bytes of a block that changes no table mean the same as long as no other block was read between.
+//! A block that changes no table means what it meant before, as long as no other block was read
+//! between.
 
 ghost use Rattle.std.specs.Prelude.{◌≡◌, true, false, Some, None, IfSome, OnOk};
 ghost use Rattle.connlog.specs.Blocks.{keeps_tables};

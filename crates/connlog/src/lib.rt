@@ -8,10 +8,10 @@
 //!
 //! Read `walk`, the frames of one direction, and `messages`, those of a call's DATA; `cause`, each
 //! rule with its figures and its text; `fields` and `place`, which field and which byte of a header
-//! block it is; `malformed`, what is wrong with a message; `text`, bytes that are told; `call`,
-//! what is known of one; `tables` and `known`, blocks that were read before; `json`, objects;
-//! `line`, what a line says; then `seen` with `client` and `server`, what the frames of both sides
-//! come to, and `observer`.
+//! block a cause is about; `malformed`, what is wrong with a message; `text`, bytes as a line shows
+//! them; `call`, what is known of a call; `tables` and `known`, blocks that were read before;
+//! `json`, objects; `line`, what a line says; then `seen` with `client` and `server`, what the
+//! frames of both sides mean, and `observer`.
 #![tactic(auto)]
 
 mod call;

@@ -12,7 +12,7 @@ pub struct Malformed {
     pub message: u64,
     /// The field of an embedded message in which it is; 0 is the message itself.
     pub inside: u32,
-    /// So many whole fields stand before it there.
+    /// How many whole fields come before it there.
     pub before: u32,
     pub fault: MessageFault,
 }
@@ -107,7 +107,8 @@ pub fn fault_of_request(
     Ok(None)
 }
 
-/// Looks at the fields of a message: what is wrong with them, behind how many. What they have in them is left to be looked at.
+/// Looks at the fields of a message: what is wrong with them, after how many. What they have in
+/// them is left to be looked at.
 fn look<'a>(
     tasks: &mut Vec<Task<'a>>,
     task: Task<'a>,

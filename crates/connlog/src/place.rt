@@ -1,11 +1,13 @@
 //! Where a fault stands in a header block (RFC 7541, sections 5 and 6).
 //!
-//! The decoder says which fault is the first. Here the block is walked over once more, field by field, for where that is.
+//! The decoder says which fault is the first. Here the block is walked over once more, field by
+//! field, for where that is.
 
 use hpack_codec::{Decoder, HpackFault};
 use std::alloc::Global;
 
-/// The greatest index of the static table, and the most entries that a dynamic one of 4,096 bytes has.
+/// The greatest index of the static table, and the most entries that a dynamic one of 4,096 bytes
+/// has.
 const STATIC: u64 = 61;
 
 const MOST_ENTRIES: u64 = 128;
@@ -16,7 +18,8 @@ const MOST_SIZE: u64 = 4_096;
 /// The most bytes of an integer, with that of its prefix.
 const MOST_BYTES: usize = 6;
 
-/// Where a fault stands: at this byte of the block, which begins a field or a size update with this number.
+/// Where a fault stands: at this byte of the block, which begins a field or a size update with this
+/// number.
 #[derive(Clone, Copy, Debug, PartialEq, Eq)]
 pub struct Place {
     pub at: usize,
@@ -119,13 +122,13 @@ fn item_at(bytes: &[u8]) -> Option<Item> {
     })
 }
 
-/// What is behind the text at the front.
+/// What follows the text at the front.
 fn behind_text(bytes: &[u8]) -> Option<&[u8]> {
     let (length, rest) = integer(7, bytes)?;
     rest.get(length as usize..)
 }
 
-/// The integer behind the first bits of these bytes, and what is behind it.
+/// The integer after the first bits of these bytes, and what follows it.
 fn integer(prefix: u32, bytes: &[u8]) -> Option<(u64, &[u8])> {
     let (first, mut rest) = bytes.split_first()?;
     let most = match prefix {
