@@ -1,9 +1,9 @@
 //! Writes traces, captures and recordings while connections go on.
 //!
 //! A `Recorder` has the places, which all connections share. An `Eye` looks at one connection, as
-//! the `Tap` of its devices; where two threads read and write it, each has an `Eye` of the same
-//! connection. What is known of a connection is behind a lock, so that what is written of it has
-//! one order; the connection's end is written where the last of its eyes is dropped.
+//! the `Tap` of its devices. If two threads read and write the connection, each has an `Eye` of it.
+//! What is known of a connection is under a lock, so that what is written of it has one order. The
+//! connection's end is written when the last of its eyes is dropped.
 //!
 //! A recorder that can't write says so on standard error, once, and writes no more: the connections
 //! go on. So they do where nobody reads the lines on standard error: these wait for a thread of
