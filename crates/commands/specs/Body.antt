@@ -1,4 +1,5 @@
--- What `interop body` prints for what it reads: the messages of one call (gRPC over HTTP/2, "Length-Prefixed-Message").
+-- What `interop body` prints for what it reads: the messages of one call (gRPC over HTTP/2,
+-- "Length-Prefixed-Message").
 use Rattle.std.specs.Prelude.{◌≡◌, ℕ, Bool, true, List, [], ◌∷◌, Option, Some, None}
 use Rattle.std.specs.Option.{option_or}
 use Rattle.std.specs.Io.KnownBytes.{Appends, Consumes, IsAtEnd, Keeps}
@@ -41,7 +42,8 @@ abbrev pub Reports : Option (List ℕ) → Option (List ℕ) → Option (List �
 Reports input rest before after =
     (text : List ℕ) × (printed : List ℕ) × ReadsText input rest text × Prints text printed × Appends before after printed
 
--- what a run that failed has read and written: what remained of the input before and after, and what the output held
+-- what a run that failed has read and written: what remained of the input before and after, and
+-- what the output held
 abbrev pub Leaves : RunFault → Option (List ℕ) → Option (List ℕ) → Option (List ℕ) → Option (List ℕ) → Type 0
 Leaves NotHex input rest before after = (text : List ℕ) × ReadsText input rest text × IsNotHex text × Keeps before after
 Leaves ReadFailed input rest before after = ConsumesSome input rest × Keeps before after

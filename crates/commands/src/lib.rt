@@ -7,7 +7,7 @@
 //! - `run_drain` drains a server of its own while a client has a call (`drain`).
 //! - `serve` serves connections to a port (`server`): `listening` is the port, `port` has the
 //!   threads, `stream` a connection, `stopping` how it stops, `room` how many are served at a time,
-//!   `log`, `waiting` and `times` the log, `reporting` and `served` the report, `witness` who sees
+//!   `log`, `waiting` and `times` the log, `reporting` and `served` the report, `witness` what sees
 //!   connections. Those that try a server are in the crate `trials`.
 //!
 //! Below them:

@@ -1,14 +1,17 @@
-//! How many connections are served at a time, where the system doesn't have threads or memory for all that come.
+//! How many connections are served at a time, where the system doesn't have threads or memory for
+//! all that come.
 //!
-//! Threads that wait for next connections are given up then. Each second in which nothing was wanting one more is tried.
+//! Threads that wait for next connections are given up then. Each second in which nothing was
+//! wanting one more is tried.
 
 ghost use Rattle.std.specs.Prelude.{◌≡◌, ◌≤◌, ◌<◌, ◌+◌, ◌-◌, ◌^◌, true, false, None, Some, IfSome};
 
 use std::sync::{Mutex, Wait};
 use std::time::{Clock, Duration, Instant};
 
-/// How many threads take further connections once theirs have ended: the first that were started. A client that makes a connection
-/// a call needs two. Each holds a heap, which keeps what its largest connection took.
+/// How many threads take further connections once theirs have ended: the first that were started. A
+/// client that makes a connection a call needs two. Each holds a heap, which keeps what its largest
+/// connection took.
 const STAYING: usize = 4;
 
 /// How many connections at a time are as good as any number, where more and more were tried.
@@ -148,7 +151,7 @@ impl Crowd {
         };
     }
 
-    /// So many threads stay as long as none is wanting.
+    /// Whether this thread stays: a number of threads does, as long as none is lacking.
     fn stay(&mut self) -> bool
         ensures one { result ≡ true → self.new.staying ≡ self.old.staying + 1 }
         ensures few { result ≡ true → self.new.staying ≤ 4 }

@@ -1,4 +1,4 @@
-//! Who sees the connections of a server: its log, and whoever writes down what passes.
+//! What sees the connections of a server: its log, and its recorder.
 
 ghost use Rattle.std.specs.Prelude.{IfOk, IsNone};
 
@@ -15,10 +15,10 @@ use std::rt::Files;
 use std::sync::{Arc, Wait};
 use std::time::Clock;
 
-/// Who sees connections. Who serves them takes it as a type parameter: that threads may share it is then shown once, and not again
-/// together with all else that they share.
+/// Who sees connections. Who serves them takes it as a type parameter: that threads may share it is
+/// then shown once, and not again together with all else that they share.
 pub trait Witness {
-    /// A connection begins. The log doesn't follow it where there is none, or no memory for that.
+    /// A connection begins. The log doesn't follow it if there is no log, or no memory for that.
     fn begin<R: Wait + Clock>(
         &self,
         rt: &R,
@@ -46,7 +46,7 @@ pub trait Witness {
 #[derive(Drop)]
 pub struct Witnesses {
     pub log: Option<Arc<Log>>,
-    /// The same log, or one of no other lines.
+    /// The log, or one that has only the reports.
     pub reports: Option<Arc<Log>>,
     pub recorder: Option<Arc<Recorder>>,
 }
