@@ -76,7 +76,7 @@ plain_command_of p =
     else if bytes_eq p.0 (codes "drain") then option_map drain (own_port_of p.1)
     else None
 
--- and of all
+-- the command of a name and of the values of its options
 abbrev pub command_of : Text × List Row → Option Meaning
 command_of p =
     if bytes_eq p.0 (codes "case") then option_map try_case (trial_of p.1)
