@@ -61,8 +61,8 @@ fn number_of(port: Port) -> u16 {
     }
 }
 
-/// As `TcpListener::bind`, but as many connections wait to be accepted as the system allows. After
-/// std's 128 a client's next try comes after a second.
+/// As `TcpListener::bind`, but as many connections wait to be accepted as the system allows. Once
+/// std's 128 wait, a client's next try comes after a second.
 fn bind(rt: &impl Net, host: &str, port: u16) -> io::Result<TcpListener> {
     let mut last = io::Error::new(ErrorKind::InvalidInput, "the name has no address");
     for address in (without_brackets(host), port).to_socket_addrs(rt)? {
