@@ -83,10 +83,10 @@ pub data FaultAt (input : List ℕ) : WireFault → Type 0 where
   -- the wire types of the start and the end of a group
   start_group : (tag : ℕ) (rest : List ℕ) → StartsWithVarint input tag rest → IsTag tag 3 → FaultAt input Group
   end_group : (tag : ℕ) (rest : List ℕ) → StartsWithVarint input tag rest → IsTag tag 4 → FaultAt input Group
-  -- after the tag no varint stands
+  -- no varint follows the tag
   no_varint : (fault : WireFault) (tag : ℕ) (rest : List ℕ) → StartsWithVarint input tag rest → IsTag tag 0 → VarintFault rest fault → FaultAt input fault
   cut_eight_bytes : (tag : ℕ) (rest : List ℕ) → StartsWithVarint input tag rest → IsTag tag 1 → length rest < 8 → FaultAt input Truncated
-  -- after the tag no length stands
+  -- no length follows the tag
   no_length : (fault : WireFault) (tag : ℕ) (rest : List ℕ) → StartsWithVarint input tag rest → IsTag tag 2 → VarintFault rest fault → FaultAt input fault
   -- fewer bytes follow the length than it says
   cut_bytes : (tag : ℕ) (rest : List ℕ) (len : ℕ) (left : List ℕ) → StartsWithVarint input tag rest → IsTag tag 2 → StartsWithVarint rest len left → length left < len → FaultAt input Truncated
