@@ -77,7 +77,7 @@ fn grow(whole: &mut Vec<u8>, count: usize) {
     }
 }
 
-/// The GOAWAY that tells the client to open no streams after this one, where there is one.
+/// The GOAWAY that asks the client to open no streams after this one, if there is one.
 fn goaway_of<J: Naming>(goaway: Option<StreamId>) -> Option<Order<J>>
     ensures order { order_in result ≡ goaway_in goaway }
     ensures own { IfSome result IsOwn }

@@ -301,7 +301,7 @@ where
         }
     }
 
-    /// Tells the peer that no more frames come, where there was no memory for one.
+    /// Writes the last word of a writer that had no memory for a frame.
     fn say_last(&mut self, rt: &impl Wait, filled: Filled)
         ensures outlet { self.new.outlet ≡ self.old.outlet }
         ensures stays { Stays W.contents W.failed self.old.writing self.new.writing }
@@ -345,7 +345,7 @@ where
         }
     }
 
-    /// Tells the gate of the streams whose last frame was in the buffer.
+    /// Reports to the gate the streams whose last frame was in the buffer.
     fn tell_gate(&self) {
         for id in self.writing.left() {
             self.gate.trailers_written(*id);
