@@ -29,7 +29,7 @@ module _ {J : Type 0} {book : Ghosts J} where
     pub finished : new.finished ≡ old.finished
     pub returning : new.returning ≡ old.returning
 
-  -- What is still to come back of the calls is the same before and after.
+  -- What is still to come back of the calls doesn't change.
   pub record AwaitsAll (old new : List (Call J book)) : Type 0 where
     pub workers : (n : ℕ) → undone n new ≡ undone n old
     pub senders : (n : ℕ) → unsent n new ≡ unsent n old

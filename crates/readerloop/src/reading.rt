@@ -203,7 +203,7 @@ impl<J: Naming, M: Answering> Reading<J, M> {
         self.seats.free()
     }
 
-    /// Whether there are as many workers as there may be.
+    /// Whether there are 64 workers, which is the most.
     pub fn is_full(&self) -> bool
         ensures room { result ≡ false → length self.now.seats.seats.items < 64 }
     {
@@ -927,7 +927,7 @@ fn box_sender<J: Naming>(
     Ok(sending)
 }
 
-/// What the peer tells the writing side, as an order.
+/// What the peer says to the writing side, as an order.
 fn order_of_news<J: Naming>(news: PeerControl) -> Order<J>
     ensures { order_of result ≡ news_of news }
 {

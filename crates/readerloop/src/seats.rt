@@ -83,14 +83,14 @@ impl<J: Naming, M: Answering> Seat<J, M> {
         Some(finished)
     }
 
-    /// Tells it that no more calls come, and rings its bell.
+    /// Sends it word that no more calls come, and rings its bell.
     fn end(&mut self) {
         self.tell_end();
         self.is_noted = true;
         self.ring_noted();
     }
 
-    /// Tells it that no more calls come, unless it knows.
+    /// Sends it word that no more calls come, unless it knows.
     fn tell_end(&mut self) {
         if self.is_ended {
             return;
@@ -115,7 +115,7 @@ impl<J: Naming, M: Answering> Seat<J, M> {
     }
 }
 
-/// All workers, at most as many as calls may be live.
+/// All workers: at most 64, as calls that may be live.
 #[derive(Drop)]
 pub struct Seats<J: Naming, M: Answering> {
     pub(crate) seats: Vec<Seat<J, M>>,
@@ -137,7 +137,7 @@ impl<J: Naming, M: Answering> Seats<J, M> {
         self.seats.len()
     }
 
-    /// Whether there are as many as there may be.
+    /// Whether there are 64.
     pub(crate) fn is_full(&self) -> bool
         ensures room { result ≡ false → length self.now.seats.items < 64 }
     {
