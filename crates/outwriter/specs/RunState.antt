@@ -152,7 +152,7 @@ abbrev pub WritesIf : Option Frame → Outbound → Outbound → Type 0
 WritesIf (Some frame) old new = Writes frame old new
 WritesIf None old new = new ≡ old
 
--- a frame, if there is one; else what is kept follows from the same runs
+-- a frame is written, if there is one; else what is kept still follows from its runs
 abbrev pub Stays : Outbound → Outbound → Type 0
 Stays old new = (run : List Step) → MirrorsOf run old → MirrorsOf run new
 

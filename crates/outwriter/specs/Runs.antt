@@ -73,7 +73,7 @@ goaways frames = filter (λ frame. is_goaway frame.head.kind) frames
 abbrev pub without_goaway : List Frame → List Frame
 without_goaway frames = filter (λ frame. not (is_goaway frame.head.kind)) frames
 
--- these are among those, in the same order
+-- these are among those, in order
 abbrev pub AreAmong : List Frame → List Frame → Type 0
 AreAmong frames [] = frames ≡ []
 AreAmong frames (first ∷ others) = AreAmong frames others ⊎ ((rest : List Frame) × (frames ≡ first ∷ rest) × AreAmong rest others)

@@ -120,7 +120,7 @@ IsShut states id = (can_write (state_on states id) ≡ false) ⊎ (open_at state
 
 -- ---- what changes of them
 
--- but for what is kept of the open streams, all is the same
+-- only what is kept of the open streams changes
 abbrev pub StandAs : States → States → Type 0
 StandAs old new = new ≡ record old { opened = new.opened }
 

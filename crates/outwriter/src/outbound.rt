@@ -367,7 +367,7 @@ fn reset_state(states: &mut StreamStates, id: StreamId) -> Result<(), AllocError
     states.reset(id)
 }
 
-/// Tells the encoder the limits that SETTINGS have for its table.
+/// Gives the encoder the limits that SETTINGS have for its table.
 fn limit_table(encoder: &mut Encoder, settings: &[PeerSetting])
     ensures { encoder.new ≡ limited_by encoder.old (table_sizes settings.now) }
 {
