@@ -98,7 +98,7 @@ impl Methods {
         message_of(method, alloc, state, message)
     }
 
-    /// Tells the method at this index that no message of a call follows.
+    /// Ends a call's messages for the method at this index: none follows.
     pub fn end(
         &self,
         alloc: Global,
