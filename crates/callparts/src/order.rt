@@ -11,7 +11,7 @@ use callbox::Sender;
 use outwriter::Control;
 use std::sync::Arc;
 
-/// How many senders may wait for the reading side to take them back: as many as calls may be live.
+/// How many senders may wait for the reading side to take them back: 64, as calls that may be live.
 /// Without a place a sender stays with the writing side until there is one.
 pub const HOME: usize = 64;
 
