@@ -229,8 +229,7 @@ impl Book {
     }
 
     /// Counts bytes of DATA that came, for a live call and the connection, or for the connection
-    /// alone where the id is 0. Those of a call whose local end is marked are returned in the same
-    /// step.
+    /// alone where the id is 0. Those of a call whose local end is marked are returned at once.
     pub fn receive(&mut self, id: StreamId, n: u32) -> Result<(), BookFault>
         ensures ok { OnOk result (self.new ≡ after_receive self.old id n) }
         ensures unchanged { OnErr result (self.new ≡ self.old) }
