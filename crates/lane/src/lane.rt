@@ -32,7 +32,7 @@ pub enum End<I, S> {
 pub struct Settled {
     /// How many items were put. A number over the greatest `u64` counts as that.
     pub put: u64,
-    /// How many items were got, counted in the same way.
+    /// How many items were got. A number over the greatest `u64` counts as that.
     pub got: u64,
     /// How many of the items that were put were not got. It is exact: they are at most `room` and a
     /// last one.

@@ -78,7 +78,7 @@ pub(crate) fn item_at<T: Drop>(cells: &Cells<T>, at: usize, known: Known<T>) -> 
     }
 }
 
-/// Two ends know the same items of the same cells.
+/// Two ends that know of equal cells know equal items.
 pub(crate) fn agree<T: Drop>(mut one: Vec<Known<T>>, mut other: Vec<Known<T>>)
     requires { cells_of other.items ≡ cells_of one.items }
     ensures { items_of other.items ≡ items_of one.items }

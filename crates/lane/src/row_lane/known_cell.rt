@@ -14,7 +14,7 @@ pub(crate) struct Known<T> {
 impl<T: Drop> Known<T> {
     ghost use Rattle.lane.specs.KnownCells.{cell_of, item_of};
 
-    /// The same knowledge once more.
+    /// A copy of the knowledge.
     pub(crate) fn again(&mut self) -> Known<T>
         ensures unchanged { (cell_of self.new ≡ cell_of self.old)
             × (item_of self.new ≡ item_of self.old) }
