@@ -92,7 +92,7 @@ grown messages taken.End = messages
 grown messages (taken.Reset code) = messages
 grown messages (taken.Fault fault) = messages
 
--- the answer that tells a thing
+-- the answer by which a thing is told
 abbrev pub telling : Told → Taken
 telling told.End = taken.End
 telling (told.Reset code) = taken.Reset code

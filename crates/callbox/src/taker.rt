@@ -195,7 +195,7 @@ impl Polled {
     }
 }
 
-/// The answer that tells a thing.
+/// The answer by which a thing is told.
 fn answer_of(told: Told) -> Taken
     ensures { result ≡ telling told }
 {
