@@ -14,11 +14,10 @@
 //!   status, or `left`;
 //! - `over`.
 //!
-//! After another gate than the open one, where what is written first depends on the schedule, a run
-//! prints its calls alone, and before them `held true` where the gate had no need to give up. One
-//! that drains prints `answered` and `turns`, each with `true` where it is so: each call was
-//! answered with status 0 at whichever turn its connection was drained, and there were three turns
-//! at least.
+//! With a gate other than the open one, where the schedule decides what is written first, a run
+//! prints only its calls, and before them `held true` if the gate had no need to give up. One that
+//! drains prints `answered` and `turns`, each with `true` where it is so: each call was answered
+//! with status 0 at whichever turn its connection was drained, and there were three turns at least.
 #![tactic(auto)]
 
 ghost use Rattle.std.specs.Prelude.{◌≡◌, ◌<◌};
@@ -84,7 +83,8 @@ where
     }
 }
 
-/// Serves the connection of a plan after a gate. Answers what was read from, and what became of it.
+/// Serves the connection of a plan through its gate. Answers what was read from, and what became of
+/// it.
 fn serve<R, G>(
     rt: R,
     alloc: Global,
