@@ -11,8 +11,8 @@ use callbox::Sender;
 use outwriter::Control;
 use std::sync::Arc;
 
-/// How many senders may wait for the reading side to take them back: 64, as calls that may be live.
-/// Without a place a sender stays with the writing side until there is one.
+/// How many senders may wait for the reading side to take them back: 64, the most calls that may be
+/// live. Without a place a sender stays with the writing side until there is one.
 pub const HOME: usize = 64;
 
 /// The sending end of a call, which goes to the writing side and back in one box.
