@@ -115,7 +115,7 @@ impl<J: Naming, M: Answering> Seat<J, M> {
     }
 }
 
-/// All workers: at most 64, as calls that may be live.
+/// All workers: at most 64, the most calls that may be live.
 #[derive(Drop)]
 pub struct Seats<J: Naming, M: Answering> {
     pub(crate) seats: Vec<Seat<J, M>>,
