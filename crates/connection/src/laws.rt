@@ -87,7 +87,7 @@ pub fn all_news()
 
 /// Among the frames that were written the acknowledgements of SETTINGS and of PINGs, each of these
 /// with its bytes, begin those that the peer's frames ask for, once and in order: sections 6.5.3
-/// and 6.7. No other SETTINGS follow the first, and the one other PING is the server's own.
+/// and 6.7. No other SETTINGS follow the first, and any other PING is the server's own.
 pub fn some_answers()
     ensures { (told : List Step) (put : List Order) (run : List RunStep) →
         HasPut (orders_by told ++ InputEnded ∷ []) put → Obeys true put run → IsLawful run
