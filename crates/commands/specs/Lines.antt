@@ -13,7 +13,7 @@ count_of (Report line) = 1
 abbrev pub lines_of : List Batch → ℕ
 lines_of batches = sum_by (λ batch. count_of batch.told) batches
 
--- this is printed for it: a line of the report as it is; of those of the log nothing is said
+-- the text of lines: a line of the report as it is; of lines of the log nothing is said
 abbrev pub IsTextOf : Told → List ℕ → Type 0
 IsTextOf (Lines lines) text = Unit {0}
 IsTextOf (Report line) text = text ≡ string_bytes line

@@ -11,7 +11,7 @@ pub record HasToldThose (messages : List (List ℕ)) (bytes : List ℕ) (telling
   pub text : telling.text.items ≡ message_lines 0 messages
   pub count : telling.count ≡ length messages
 
--- some were
+-- some messages were printed
 abbrev pub HasTold : List ℕ → Telling → Type 0
 HasTold bytes telling = (messages : List (List ℕ)) × HasToldThose messages bytes telling
 

@@ -21,7 +21,7 @@ pub enum RunFault {
     ReadFailed,
     /// A write failed.
     WriteFailed,
-    /// No memory was to be had.
+    /// There is no memory.
     OutOfMemory,
 }
 
@@ -84,10 +84,10 @@ impl From<AllocError> for RunFault {
 struct Telling {
     /// The bytes of the call, without those of the messages that were printed.
     splitter: Splitter,
-    /// The lines of those, and how many they are.
+    /// The lines of the messages, and how many there are.
     text: Vec<u8>,
     count: usize,
-    /// What is wrong with what came, if anything is.
+    /// The fault of what came, if there is one.
     fault: Option<LpmFault>,
 }
 
@@ -146,7 +146,7 @@ impl Telling {
         }
     }
 
-    /// What is wrong with the bytes of the call, where no more come.
+    /// The fault of the call's bytes, if no more come.
     fn fault_at_end(&self) -> Option<LpmFault>
         ensures { (bytes : List ℕ) → HasToldAll bytes self.now → result ≡ fault_at_end bytes }
     {

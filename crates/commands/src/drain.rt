@@ -50,8 +50,8 @@ pub struct Goaway {
     pub code: u32,
 }
 
-/// The client's connection. What is read of it is looked at: GOAWAYs are kept, and the first reply
-/// stops the server.
+/// The client's connection. It looks at what is read: it keeps GOAWAYs, and the first reply stops
+/// the server.
 #[derive(Drop)]
 struct Watched<R> {
     rt: R,
@@ -62,9 +62,9 @@ struct Watched<R> {
     has_stopped: bool,
 }
 
-/// Serves one connection to the port that is listened on, runs a case over it, and drains it after
-/// the first reply. It prints the GOAWAYs that the client read, the case's line, and one that sums
-/// up, and answers whether the case passed.
+/// Listens on a port, serves one connection to it, runs a case over that, and drains it after the
+/// first reply. It prints the GOAWAYs that the client read, the case's line, and one that sums up,
+/// and answers whether the case passed.
 pub fn run_drain<R, W>(
     rt: R,
     methods: Arc<Methods>,

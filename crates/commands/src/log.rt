@@ -38,7 +38,7 @@ pub struct Log {
     /// The connections that go on.
     watches: Mutex<Vec<Arc<Watch>>>,
     waiting: Mutex<Waiting>,
-    /// Rung where lines were left, and where no more will come.
+    /// Rung when lines were left, and when no more will come.
     bell: Bell,
     is_closed: AtomicBool,
 }
@@ -123,8 +123,8 @@ impl Log {
         }
     }
 
-    /// Prints lines as they come, until the log is closed. It fails where one can't be written;
-    /// that nobody reads them any more is no failure.
+    /// Prints lines as they come, until the log is closed. It fails if one can't be written. That
+    /// no one reads them any more isn't a failure.
     pub fn print_all<R: Print + Wait + Clock>(&self, rt: &R, alloc: Global) -> io::Result<()> {
         let mut ticked = Instant::now(rt).ok();
         for _ in rt.forever() {
@@ -232,8 +232,8 @@ impl Log {
         Ok(())
     }
 
-    /// Prints the line that says how many were dropped. It has its place where there is no memory
-    /// too: an object is without its time then.
+    /// Prints the line that says how many were dropped, even without memory: then an object is
+    /// without its time.
     fn print_dropped<R: Print + Clock>(
         &self,
         rt: &R,
@@ -331,7 +331,7 @@ impl Log {
     }
 }
 
-/// That nobody reads what is printed any more is no failure.
+/// The result, but that no one reads what is printed any more isn't a failure.
 fn unless_closed(printed: io::Result<()>) -> io::Result<()> {
     match printed {
         Err(error) if error.kind() == ErrorKind::BrokenPipe => Ok(()),
@@ -339,8 +339,7 @@ fn unless_closed(printed: io::Result<()>) -> io::Result<()> {
     }
 }
 
-/// Whether so long has gone by that calls which wait are to be looked for. Where no clock can be
-/// read, it never has.
+/// Whether it is time to look for calls that wait. If no clock can be read, it never is.
 fn has_ticked(rt: &impl Clock, before: Option<Instant>) -> bool {
     match before {
         Some(before) => match before.elapsed(rt) {

@@ -180,7 +180,7 @@ pub struct MemoryInput<R> {
 }
 
 impl<R: Wait + Clock> MemoryInput<R> {
-    /// Of a client to which this server answers.
+    /// The bytes of a client to which this server answers.
     pub fn new(rt: R, alloc: Global, bytes: Vec<u8>, memory: Arc<Memory>) -> MemoryInput<R> {
         // (what doesn't begin so has no frames)
         let free = if bytes.as_slice().starts_with(PREFACE) {

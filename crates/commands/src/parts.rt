@@ -19,8 +19,8 @@ use std::time::Clock;
 use trace::{InputFault, Sent, sent_of};
 
 /// Reads a connection's bytes as hexadecimal text, or as what `serve --record` writes, to the end
-/// of the input, and serves them. Then it writes what the connection was answered with, stream by
-/// stream, and how it ended. Its calls go on when the gate lets them.
+/// of the input, and serves them. Then it writes what the server wrote, stream by stream, and how
+/// the connection ended. Its calls go on when the gate lets them.
 pub fn run_parts<R, G, I, O>(
     rt: R,
     alloc: Global,

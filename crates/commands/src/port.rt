@@ -23,14 +23,14 @@ use std::thread::{Builder, JoinHandle, Threads};
 use std::time::{Clock, Duration};
 use std::{io, thread};
 
-/// How long no connection is taken after one could not be, in milliseconds.
+/// How long the server waits after a connection could not be taken, in milliseconds.
 const PAUSE: u64 = 10;
 
-/// What all connections to a port are served by.
+/// What serves all connections to a port.
 #[derive(Drop)]
 pub struct Service<W> {
     pub methods: Arc<Methods>,
-    /// Who sees them, and their calls.
+    /// What sees the connections and their calls.
     pub witness: Arc<W>,
     /// How it stops, if it does before the program is interrupted.
     pub stop: Option<Arc<Stop>>,
@@ -49,17 +49,16 @@ struct Port<W> {
 /// What a thread does once the connection that it was started for has ended.
 #[derive(Clone, Copy)]
 enum Afterwards {
-    /// It takes more connections, where it is among the first.
+    /// It takes more connections, if it is among the first.
     MayTakeMore,
     /// It ends.
     Ends,
-    /// It has the server stop, since that connection was the last, and ends.
+    /// It stops the server, since that connection was the last, and ends.
     StopsServer,
 }
 
-/// Serves connections that come, until the server has stopped, if it does. A thread of its own
-/// takes them where it does. It answers which connections are left, for which it had no more
-/// patience.
+/// Serves connections that come, until the server has stopped, if it does: then a thread of its own
+/// takes them. Answers which connections are left when its patience ended.
 pub fn serve_port<R, W>(
     rt: R,
     alloc: Global,
@@ -172,8 +171,8 @@ where
     }
 }
 
-/// Takes the next connection, and starts a thread that serves it. One that no thread can be made
-/// for is ended, as is one that comes while the server stops.
+/// Takes the next connection, and starts a thread that serves it. A connection for which no thread
+/// can be made is ended, and so is one that comes while the server stops.
 fn serve_next<R, W>(
     rt: R,
     alloc: Global,
@@ -248,7 +247,7 @@ where
     unreachable!()
 }
 
-/// Takes the next connection and serves it, unless the server stops. It fails where none could be
+/// Takes the next connection and serves it, unless the server stops. It fails if none could be
 /// taken.
 fn serve_taken<R, W>(rt: R, alloc: Global, port: &Port<W>) -> io::Result<()>
 where
@@ -299,9 +298,9 @@ impl<W> Service<W> {
     }
 }
 
-/// Serves a connection to its end, and has it and its calls reported on where that is wanted. One
-/// that was drained has had all by then, and is read on after that for a moment. Whether threads or
-/// memory were wanting.
+/// Serves a connection to its end, and reports on it and its calls if that is wanted. One that was
+/// drained has all its frames by then, and is read on for a moment. Answers whether threads or
+/// memory were lacking.
 fn serve_one<R, W>(
     rt: R,
     alloc: Global,

@@ -10,8 +10,8 @@ use std::alloc::{AllocError, Global};
 use std::sync::{Arc, Wait};
 use std::time::Clock;
 
-/// Who reports on a connection and its calls. Who serves it takes that as a type parameter, as a
-/// `Witness` is.
+/// Reports on a connection and its calls. The code that serves it has the type as a parameter, like
+/// a `Witness`.
 pub trait Report: Drop {
     /// A second handle of this connection.
     fn try_clone(&self) -> Result<Self, AllocError>;
@@ -29,7 +29,7 @@ pub struct Reporting {
 }
 
 impl Reporting {
-    /// Of this connection, whose calls are answered by these methods.
+    /// The reports of this connection, whose calls these methods answer.
     pub fn new(
         log: &Arc<Log>,
         methods: &Arc<Methods>,
@@ -42,7 +42,7 @@ impl Reporting {
         })
     }
 
-    /// The connection has ended, and its calls were reported on. Its bytes are in the file, where
+    /// The connection has ended, and its calls were reported on. Its bytes are in the file, if
     /// there is one.
     // (kept out of its caller, whose frame is on the stack of each connection that lives)
     #[inline(never)]

@@ -13,8 +13,8 @@ use handlers::Methods;
 use std::alloc::{AllocError, Global};
 use std::net::SocketAddr;
 
-/// The line of a connection of this peer that ended so, whose bytes are in the file, where there is
-/// one.
+/// The line of a connection of this peer that ended in this way. Its bytes are in the file, if
+/// there is one.
 pub fn connection_line(
     alloc: Global,
     peer: SocketAddr,
@@ -140,7 +140,7 @@ pub fn call_object(
     Ok(text)
 }
 
-/// The members that tell what the call was fed, and how its client's half was shut.
+/// The members for what the call was fed, and how its client's half was shut.
 fn write_half(alloc: Global, text: &mut String, call: &CallAccount) -> Result<(), AllocError> {
     json::number(text, "fed", call.input.fed)?;
     match call.input.shut {
@@ -153,7 +153,7 @@ fn write_half(alloc: Global, text: &mut String, call: &CallAccount) -> Result<()
     }
 }
 
-/// The members that tell what came in and went out.
+/// The members for what came in and went out.
 fn write_traffic(alloc: Global, text: &mut String, call: &CallAccount) -> Result<(), AllocError> {
     let (given, sent) = items_of(call);
     json::number(text, "in", call.input.taken)?;

@@ -99,7 +99,7 @@ fn where_wanted(is_wanted: bool, log: &Option<Arc<Log>>) -> io::Result<Option<Ar
     }
 }
 
-/// Where it is written what passes, if the words say so.
+/// The recorder of what passes, if the words ask for one.
 fn recorder_of<R>(rt: &R, alloc: Global, words: ServeWords<'_>) -> io::Result<Option<Arc<Recorder>>>
 where
     R: Files<File = File> + Eprint,
@@ -123,7 +123,7 @@ fn unwritten() -> io::Error {
     io::Error::new(ErrorKind::Other, "what passes can't be written")
 }
 
-/// The server has stopped. It fails where it couldn't be written what passed.
+/// The server has stopped. It fails if what passed couldn't be written.
 fn end(
     rt: &(impl Wait + Eprint),
     recorder: &Option<Arc<Recorder>>,
@@ -204,8 +204,8 @@ where
     Ok(Some(stop))
 }
 
-/// Reads standard input to its end. One that can't be read has ended. One that says something is
-/// read slowly, since nothing is made of it.
+/// Reads standard input to its end. One that can't be read has ended. One with content is read
+/// slowly, since the content isn't used.
 fn read_out<R: Input<Reader = StdinLock<'static>> + Clock>(rt: &R) {
     let mut input = Marked::new(rt.reader());
     let mut piece = [0u8; 65_536];
@@ -220,7 +220,7 @@ fn read_out<R: Input<Reader = StdinLock<'static>> + Clock>(rt: &R) {
 }
 
 /// Serves connections that come, while a thread of its own prints the lines of their log and their
-/// report. Where one can't be written, the server stops, and a line on standard error says which.
+/// report. If one can't be written, the server stops, and a line on standard error says which.
 fn serve_logged<R>(
     rt: R,
     alloc: Global,
@@ -259,7 +259,7 @@ where
     Ok(left)
 }
 
-/// Serves the port that is listened on in a thread of its own, runs the fourteen cases against it,
+/// Listens on a port and serves it in a thread of its own, runs the fourteen cases against it,
 /// prints a line of each and one that sums up, and answers whether none failed. The server's thread
 /// goes on until the program ends.
 pub fn run_self<R, W>(

@@ -1,8 +1,8 @@
 //! How a server stops while its connections live: each is drained (RFC 9113, section 6.8).
 //!
-//! A connection has a thread of its own that waits for that, since a `Drainer` has the type of its
-//! connection: so no list can hold them, and the threads' signals stand in one. Where a client
-//! falls silent once its calls have ended, that thread ends what is read.
+//! A connection has a thread of its own that waits for that. A `Drainer` has the type of its
+//! connection, so no list can hold drainers, but a list has the threads' signals. If a client falls
+//! silent once its calls have ended, that thread ends the connection's input.
 
 ghost use Rattle.std.specs.Prelude.{◌≡◌, ◌+◌, ◌≤◌, false, true, not, IfOk, OnOk, vec_len};
 
@@ -43,10 +43,10 @@ pub struct Connection {
 pub struct Stop {
     /// How many connections it takes before it stops by itself, if it does.
     pub connections: Option<u16>,
-    /// How long connections that are drained are waited for.
+    /// How long the server waits for connections that are drained.
     patience: Duration,
     state: Mutex<State>,
-    /// Rung where the server stops, where a connection was drained, and where one has ended.
+    /// Rung when the server stops, when a connection was drained, and when one has ended.
     changed: Bell,
 }
 
@@ -55,11 +55,11 @@ struct State {
     is_stopping: bool,
     /// The connections that live.
     live: Vec<Connection>,
-    /// Of those that weren't drained.
+    /// The signals of those that weren't drained.
     signals: Vec<Arc<Signal>>,
 }
 
-/// Has one thread go on that waits for it.
+/// Lets one thread go on that waits for it.
 #[derive(Drop)]
 struct Signal {
     is_given: AtomicBool,
@@ -91,8 +91,8 @@ impl Stop {
         }
     }
 
-    /// A connection has come. Whether it is served, and waited for: not where the server stops
-    /// already.
+    /// A connection has come. Answers whether it is served and waited for, which it isn't if the
+    /// server stops already.
     pub fn take(&self, rt: &impl Wait, connection: Connection) -> Result<bool, AllocError> {
         self.state.lock(rt).take(connection)
     }
@@ -117,8 +117,8 @@ impl Stop {
         }
     }
 
-    /// Waits until the server has stopped: no connection lives for which it waits, or it has no
-    /// more patience. Those that are left.
+    /// Waits until the server has stopped: no connection lives for which it waits, or its patience
+    /// has ended. Answers the connections that are left.
     pub fn wait(&self, rt: &(impl Wait + Clock), alloc: Global) -> Vec<Connection> {
         let mut began = None;
         for _ in rt.forever() {
@@ -139,7 +139,7 @@ impl Stop {
         unreachable!()
     }
 
-    /// How long it still waits, where it has stopped then.
+    /// How long it still waits, if it stopped at that moment.
     fn left(&self, rt: &impl Clock, began: Option<Instant>) -> Duration {
         let Some(began) = began else {
             return Duration::from_secs(LOOK);
@@ -150,7 +150,7 @@ impl Stop {
         }
     }
 
-    /// Adds a signal, and gives it where the server stops already. Whether it does.
+    /// Adds a signal, and gives it if the server stops already. Answers whether it does.
     fn add(&self, rt: &impl Wait, signal: Arc<Signal>) -> Result<bool, AllocError> {
         self.state.lock(rt).add(signal)
     }
@@ -162,8 +162,8 @@ impl Stop {
     }
 }
 
-/// Has a thread of its own drain a connection once the server stops; where it stops already, it is
-/// drained before this returns.
+/// Starts a thread that drains a connection once the server stops. If it stops already, the
+/// connection is drained before this returns.
 pub fn stand_by<A, B, C, R>(
     rt: R,
     alloc: Global,
@@ -200,9 +200,9 @@ where
     }
 }
 
-/// After a drain: has the connection end once no call is live, and nothing was written for a while,
-/// so that its client has had time to read it, and to acknowledge the warning. What comes of a
-/// client that says something ends it before.
+/// After a drain: ends the connection's input once no call is live and nothing was written for a
+/// while, so that the client had time to read all, and to acknowledge the warning. A client that
+/// says something may end the connection before.
 fn end_idle<A, B, C>(rt: &impl Wait, signal: &Signal, drainer: &Drainer<A, B, C>, link: &Link)
 where
     A: Ledger,

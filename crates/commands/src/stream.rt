@@ -56,7 +56,7 @@ impl Link {
         }
     }
 
-    /// How many writes there were, where none goes on.
+    /// How many writes there were, if none goes on.
     pub fn writes(&self) -> Option<u64> {
         if self.is_writing.load(Ordering::SeqCst) {
             None
@@ -65,7 +65,7 @@ impl Link {
         }
     }
 
-    /// Shuts it down. Where its peer has ended it, that is refused, and nothing is left to do.
+    /// Shuts it down. If its peer has ended it, that is refused, and nothing is left to do.
     fn shut(&self) {
         let _ = self.stream.shutdown(Shutdown::Both);
     }
@@ -84,8 +84,8 @@ impl Link {
         }
     }
 
-    /// A connection that was drained is read on for a moment: a client that still sends would else
-    /// have a TCP reset, which takes from it what it hasn't read.
+    /// Reads a connection that was drained on for a moment. Otherwise a client that still sends
+    /// would get a TCP reset, which drops what it hasn't read.
     // (kept out of its caller, whose frame is on the stack of each connection that lives)
     #[inline(never)]
     pub fn part(&self, rt: &impl Clock) {
@@ -130,7 +130,7 @@ fn is_silence(error: &io::Error) -> bool {
 }
 
 /// The gate of a connection to a port: each call goes on at once, and is reported on once it was
-/// settled, where that is wanted.
+/// settled, if that is wanted.
 #[derive(Drop)]
 struct Door<R, P> {
     rt: R,
@@ -140,7 +140,7 @@ struct Door<R, P> {
 }
 
 impl<R: Drop, P: Report> Door<R, P> {
-    /// Of this connection, whose calls are reported on there.
+    /// The gate of this connection, with the place for reports on its calls.
     fn open(
         rt: R,
         alloc: Global,
@@ -180,7 +180,7 @@ impl<R: Wait + Clock, P: Report> Gate for Door<R, P> {
     }
 }
 
-/// What is read of a connection, and shown to its log where it has one.
+/// Reads a connection, and shows what it read to the log, if there is one.
 #[derive(Drop)]
 struct LinkInput<R> {
     rt: R,
@@ -199,7 +199,7 @@ impl<R: Wait + Clock> Read for LinkInput<R> {
     }
 }
 
-/// What is written to a connection, and shown to its log where it has one.
+/// Writes a connection, and shows what it wrote to the log, if there is one.
 #[derive(Drop)]
 struct LinkOutput<R> {
     rt: R,

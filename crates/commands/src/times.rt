@@ -15,7 +15,7 @@ const DAY: u64 = 86_400;
 pub struct Times {
     pub form: LogForm,
     time: Option<TimeForm>,
-    /// Where no clock can be read, nothing has a time.
+    /// If no clock can be read, nothing has a time.
     start: Option<Instant>,
     /// When it began by the system's clock, in microseconds since 1970.
     began: Option<u64>,
@@ -45,7 +45,7 @@ impl Times {
         u64::try_from(elapsed.as_micros()).ok()
     }
 
-    /// The time as a value of JSON, or as it stands in front of a line of text, where it does.
+    /// The time as a JSON value, or as the front of a line of text, if that has one.
     pub fn text(&self, alloc: Global, moment: Moment) -> Result<Option<String>, AllocError> {
         let Some(form) = self.time else {
             return Ok(None);
