@@ -31,7 +31,7 @@ Cut stage bytes (item ∷ items) next rest =
 abbrev pub Takes : Stage → List ℕ → Item → List ℕ → Type 0
 Takes stage bytes item rest = (text : List ℕ) × (bytes ≡ text ++ rest) × Spells stage text item
 
--- They begin with no whole item.
+-- The bytes begin with no whole item.
 abbrev pub IsUnfinished : Stage → List ℕ → Type 0
 IsUnfinished stage bytes = (text more : List ℕ) (item : Item) → bytes ≡ text ++ more → Spells stage text item → ⊥
 
@@ -40,7 +40,7 @@ pub record Pending : Type 0 where
   pub stage : Stage
   pub bytes : List ℕ
 
--- what is shown of bytes that are no whole item, where there are any
+-- what is shown of bytes that aren't a whole item, if there are any
 abbrev pub leftover : List ℕ → List Item
 leftover [] = []
 leftover (byte ∷ bytes) = Rest (byte ∷ bytes) ∷ []

@@ -14,7 +14,7 @@ use lists::Field;
 use std::alloc::{AllocError, Global};
 use std::mem;
 
-/// Reads the header blocks of one side, in their order.
+/// Reads the header blocks of one side, in order.
 #[derive(Drop)]
 pub struct Blocks {
     alloc: Global,
@@ -120,7 +120,7 @@ impl Blocks {
     }
 }
 
-/// The fields of a block, or its first fault; that memory runs out is no fault of the block.
+/// The fields of a block, or its first fault. Want of memory isn't a fault of the block.
 fn fields_of(
     decoder: &mut Decoder,
     block: &[u8],
@@ -137,7 +137,7 @@ fn fields_of(
     }
 }
 
-/// The status of the call that the server ends by HEADERS with these fields, where they tell one.
+/// The status of the call that the server ends by HEADERS with these fields, if they have one.
 fn status_of(
     alloc: Global,
     side: Side,

@@ -11,11 +11,11 @@ use std::alloc::{AllocError, AllocFailed, Global};
 use std::str;
 use thiserror::Error;
 
-/// What a client's bytes begin with (RFC 9113, section 3.4).
+/// The beginning of a client's bytes (RFC 9113, section 3.4).
 const PREFACE: &[u8] = b"PRI * HTTP/2.0\r\n\r\nSM\r\n\r\n";
 
-/// What a file of packets begins with: one that `capture` reads, of the other order of bytes, in
-/// nanoseconds, and pcapng's.
+/// The beginnings of files of packets: one that `capture` reads, one with the other order of bytes,
+/// those in nanoseconds, and pcapng's.
 const PCAP: &[u8] = b"\xd4\xc3\xb2\xa1";
 
 const PCAP_SWAPPED: &[u8] = b"\xa1\xb2\xc3\xd4";

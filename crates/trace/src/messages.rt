@@ -13,7 +13,7 @@ const PREFIX: usize = 5;
 pub struct Part {
     /// Which message of this side of the call it is, from 1 on.
     pub number: u64,
-    /// What the prefix says, where all of it came.
+    /// What the prefix says, if all of it came.
     pub prefix: Option<Prefix>,
     /// How many bytes of the message there are, without those of the prefix.
     pub bytes: usize,
@@ -24,7 +24,7 @@ pub struct Part {
 /// What a prefix says.
 #[derive(Clone, Copy, Debug, PartialEq, Eq)]
 pub struct Prefix {
-    /// 0, or 1 where the message is compressed.
+    /// 0, or 1 if the message is compressed.
     pub flag: u8,
     pub length: u32,
 }
@@ -112,7 +112,7 @@ impl Messages {
         (part, behind)
     }
 
-    /// A message of whose prefix not all came.
+    /// A message whose prefix isn't whole.
     fn begun_part(&self) -> Part {
         Part {
             number: self.begun,
@@ -122,7 +122,7 @@ impl Messages {
         }
     }
 
-    /// The next byte of a prefix comes: what the prefix says, where it is whole by it.
+    /// The next byte of a prefix comes. Answers what the prefix says, if it is whole now.
     fn prefix_by(&mut self, byte: u8) -> Option<Prefix> {
         if self.prefixed == 0 {
             self.begun = self.begun.saturating_add(1);

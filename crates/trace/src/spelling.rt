@@ -14,13 +14,13 @@ pub enum Spelling {
     Indexed(u32),
     /// It becomes an entry, and has its name by index, or at 0 in full (section 6.2.1).
     Added(u32),
-    /// It becomes none (section 6.2.2).
+    /// It doesn't become an entry (section 6.2.2).
     Plain(u32),
-    /// It is never to become one (section 6.2.3).
+    /// It is never to become an entry (section 6.2.3).
     Never(u32),
 }
 
-/// How the fields of a block that was read are spelled, in their order.
+/// How the fields of a block that was read are spelled, in order.
 pub fn spellings(alloc: Global, block: &[u8]) -> Result<Vec<Spelling>, AllocError> {
     let mut spellings = Vec::new(alloc);
     let mut rest = block;

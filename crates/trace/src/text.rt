@@ -2,7 +2,7 @@
 
 use std::fmt;
 
-/// How many bytes of a text are shown at most, where not all are.
+/// How many bytes of a text are shown at most, if not all are.
 const SHOWN: usize = 128;
 
 /// Bytes between quotes: `\"`, `\\`, `\n`, `\r`, `\t`, and `\xNN` for each other byte that isn't a

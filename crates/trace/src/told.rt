@@ -12,13 +12,13 @@ use lists::Field;
 pub enum Told {
     /// No more than its bytes say.
     Nothing,
-    /// It breaks a rule, and nothing is made of it.
+    /// It breaks a rule, and isn't used.
     Fault(FrameFault),
     /// It is a fragment of a header block that goes on.
     Fragment,
     /// It goes on with no header block.
     NoBlock,
-    /// A header block is whole by it.
+    /// It makes a header block whole.
     Block(Block),
     /// What DATA have of the messages of the call, the windows of the side that sent them, and
     /// whether the stream ends inside a message.
@@ -30,7 +30,7 @@ pub enum Told {
     },
     /// A window of the other side grows.
     Credit(Change),
-    /// The windows of the other side's streams have another size at first.
+    /// The windows of the other side's streams get another initial size.
     Resized(Change),
 }
 
@@ -43,6 +43,6 @@ pub struct Block {
     /// How its fields are spelled.
     pub spellings: Vec<Spelling>,
     pub fields: Result<Vec<Field>, HpackFault>,
-    /// The status of the call, where the server ends it by this block, and the text with it.
+    /// The status of the call and its text, if the server ends it by this block.
     pub status: Option<(u32, String)>,
 }

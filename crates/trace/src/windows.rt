@@ -12,14 +12,14 @@ pub struct Change {
     pub after: i64,
 }
 
-/// What one side may send: on the connection, and at first on each stream.
+/// What one side may send: on the connection, and initially on each stream.
 #[derive(Clone, Copy, Debug, PartialEq, Eq)]
 pub struct Windows {
     connection: i64,
     initial: i64,
 }
 
-/// What one side may send on a stream, beyond what it might at first.
+/// What one side may send on a stream, beyond the initial size.
 #[derive(Clone, Copy, Debug, PartialEq, Eq)]
 pub struct Moved(i64);
 
@@ -58,8 +58,8 @@ impl Windows {
         }
     }
 
-    /// The windows of streams have another size at first. Those of open streams move with it
-    /// (section 6.9.2).
+    /// The windows of streams get another initial size. Those of open streams move with it (section
+    /// 6.9.2).
     pub fn resize(&mut self, size: u32) -> Change
         ensures before { result.before ≡ self.old.initial }
         ensures after { result.after ≡ pos size }
