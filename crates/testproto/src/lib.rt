@@ -3,9 +3,9 @@
 //! sections "Last One Wins", "Optional and Repeated Fields" and "Submessages".
 //!
 //! Promised: [`Message::decode`] answers the value of the bytes exactly where they have one, memory
-//! aside, and otherwise a fault that stands in them, the leftmost, in an embedded message where its
-//! occurrence stands; [`Message::encode`] gives the fields by ascending number with the defaults
-//! left out, and the value of what it gives is the message, so that it is read again.
+//! aside, and otherwise their leftmost fault; a fault in an embedded message counts at that
+//! message's place. [`Message::encode`] gives the fields by ascending number without the defaults,
+//! and what it gives is read back as the message.
 //!
 //! Read [`fault`], [`lists`] and [`messages`] first, the types; then [`message`], what every
 //! message has; [`take`] and [`put`] have one function a kind of field, for reading and for

@@ -104,7 +104,7 @@ pub(crate) fn add_message<'a, M: Message<'a>>(
     }
 }
 
-/// Appends a field. It fails for memory alone.
+/// Appends a field. It fails only for want of memory.
 fn put(number: u32, value: &FieldValue<'_>, out: &mut Vec<u8>) -> Result<(), ProtoFault>
     requires { IsFieldNumber number }
     ensures ok { OnOk result
