@@ -26,6 +26,6 @@ is_field Length = false
 is_field (Value left) = false
 is_field Other = false
 
--- it has such fields alone
+-- a block has only such fields
 abbrev pub keeps_tables : List ℕ → Bool
 keeps_tables block = is_field (fold behind Field block)

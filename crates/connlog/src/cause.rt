@@ -30,7 +30,7 @@ pub enum Cause {
 pub enum FrameCause {
     /// The bytes depart from the preface with this one.
     Preface { at: usize, byte: u8 },
-    /// Another frame than SETTINGS came first.
+    /// A frame other than SETTINGS came first.
     First(FrameHead),
     /// The frame can't be read. The number is its bytes of padding.
     Fault(FrameHead, FrameFault, u8),
@@ -276,7 +276,7 @@ fn write_place<W: fmt::Write>(
     }
 }
 
-/// Which rule of HPACK a block breaks, with the number that stands there.
+/// Which rule of HPACK a block breaks, with the number at that place.
 fn write_hpack<W: fmt::Write>(
     f: &mut fmt::Formatter<W>,
     fault: HpackFault,

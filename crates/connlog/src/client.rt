@@ -39,7 +39,7 @@ impl Seen {
         }
     }
 
-    /// Whether a frame may not stand where it does; then the connection ends.
+    /// Whether a frame may not come where it does; then the connection ends.
     fn is_misplaced(&mut self, head: &FrameHead) -> Result<bool, AllocError> {
         let cause = if !self.has_settings && head.kind != FrameKind::Settings {
             Cause::Frame(FrameCause::First(*head))

@@ -2,9 +2,9 @@
 //!
 //! An `Observer` is shown the bytes that a server reads of a connection and those that it writes,
 //! in any pieces. It changes nothing of them, and decides nothing: it follows the client's frames
-//! by the server's rules, notes each that breaks one with its figures, and names it once the server
-//! acts on it. So where it errs a line names no cause or another, and the server goes on as it
-//! would.
+//! by the server's rules, notes each frame that breaks one, with its figures, and names it once the
+//! server acts on it. So if it errs, a line names a wrong cause or none, and the server goes on as
+//! before.
 //!
 //! Read `walk`, the frames of one direction, and `messages`, those of a call's DATA; `cause`, each
 //! rule with its figures and its text; `fields` and `place`, which field and which byte of a header

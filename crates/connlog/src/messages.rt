@@ -4,7 +4,7 @@
 /// The bytes of a prefix.
 const PREFIX: usize = 5;
 
-/// The longest message that is taken.
+/// The most bytes of a message that the server takes.
 const MOST: u32 = 4_194_304;
 
 /// What is wrong with a prefix.

@@ -1,4 +1,4 @@
-//! What is known of a connection by the frames of both sides, and the lines that tell of it.
+//! What is known of a connection by the frames of both sides, and the lines about it.
 
 ghost use Rattle.std.specs.Prelude.{◌≡◌, ◌<◌, ◌≤◌, ◌%◌, OnOk};
 ghost use Rattle.std.specs.List.{IsAmong};
@@ -32,7 +32,7 @@ pub struct Block {
     pub bytes: Vec<u8>,
 }
 
-/// A cause, and what is to follow of it: the error of a stream, or at 0 of the connection.
+/// A cause, and what is to follow from it: the error of a stream, or at 0 of the connection.
 #[derive(Drop)]
 struct Blame {
     stream: StreamId,
@@ -346,7 +346,8 @@ pub fn traffic_of(call: &Call) -> Traffic {
     }
 }
 
-/// What the server resets a stream for where its client broke no rule, and where it stops or not.
+/// Why the server resets a stream whose client broke no rule. `is_draining` says whether the server
+/// stops.
 fn own_cause(error: ErrorCode, is_draining: bool) -> Option<Cause> {
     match error {
         ErrorCode::RefusedStream if is_draining => Some(Cause::Server(ServerCause::Drain)),

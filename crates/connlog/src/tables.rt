@@ -1,4 +1,4 @@
-//! Which header blocks change no table, so that they needn't be decoded again where their bytes are
+//! Which header blocks change no table, so that they needn't be decoded again if their bytes are
 //! known (RFC 7541, sections 6.1 and 6.2.2).
 
 ghost use Rattle.std.specs.Prelude.{◌≡◌};

@@ -98,8 +98,8 @@ impl Walk {
         Part::Data(head)
     }
 
-    /// Keeps bytes of a frame that isn't whole, and answers how many, and the frame where it is
-    /// whole by them.
+    /// Keeps bytes of a frame that isn't whole, and answers how many, and the frame if they make it
+    /// whole.
     fn keep<'a>(&'a mut self, piece: &[u8]) -> Result<(usize, Option<Part<'a>>), AllocError>
         ensures fits { IfOk result (λ taken. taken.0 ≤ length piece.now) }
     {
@@ -165,7 +165,7 @@ fn is_told_by_head(head: &FrameHead) -> bool {
     head.kind == FrameKind::Data || head.fault().is_some()
 }
 
-/// What a frame's first nine bytes say of it, where they are there.
+/// What a frame's first nine bytes say of it, if they are there.
 fn head_of(bytes: &[u8]) -> Option<FrameHead>
     ensures there { IfSome result (λ _. 9 ≤ length bytes.now) }
 {
@@ -180,8 +180,8 @@ fn head_of(bytes: &[u8]) -> Option<FrameHead>
     })
 }
 
-/// The content of HEADERS, without padding and priority; how much padding there is where it is too
-/// much.
+/// The content of HEADERS, without padding and priority; or how much padding there is, if that is
+/// too much.
 pub fn fragment_of<'a>(head: &FrameHead, payload: &'a [u8]) -> Result<&'a [u8], u8> {
     let mut rest = payload;
     let mut padding = 0;
