@@ -154,7 +154,7 @@ names_by (Some name) (first ∷ names) = None
 abbrev pub names_of : List Row → Option (List Text)
 names_of rows = names_by (text_of (codes "test_case") rows) (texts_of (codes "NAME") rows)
 
--- the program speaks cleartext alone
+-- the program speaks only cleartext
 abbrev pub is_cleartext : List Row → Bool
 is_cleartext rows = option_map_or (λ text. bytes_eq text (codes "false")) (text_of (codes "use_tls") rows) false
 

@@ -78,7 +78,7 @@ run_of names told rows =
     (number_of (codes "port") 65535 rows))
     (text_of (codes "host") rows)
 
--- names with a port, or neither of them with `--list`; `--verbose` stands with `--list` alone
+-- names with a port, or neither of them with `--list`; only `--list` may have `--verbose`
 abbrev pub misbehaving_of : List Row → Option Misbehaving
 misbehaving_of rows =
     if has_flag (codes "list") rows

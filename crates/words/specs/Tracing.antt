@@ -24,7 +24,7 @@ with_tracing app =
     (text_option (codes "trace-file")))
     (text_option (codes "pcap"))
 
--- where it is written what passes on connections
+-- the places to which what passes on connections is written
 pub record Told : Type 0 where
   pub form : Option TraceForm
   pub lines : Option Text

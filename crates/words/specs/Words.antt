@@ -117,7 +117,7 @@ abbrev pub IsBad : WordsFault → Type 0
 IsBad (BadWords reason) = ⊤
 IsBad OutOfMemory = ⊥
 
--- the numbers by which the faults are known outside
+-- the numbers by which programs print the faults
 abbrev pub code_of : WordsFault → ℕ
 code_of (BadWords reason) = 1
 code_of OutOfMemory = 2

@@ -22,7 +22,7 @@ use std::alloc::{AllocError, Global};
 pub struct MisbehaveRun<'a> {
     /// The words that choose the ways: one at least.
     pub names: Vec<&'a str>,
-    /// The address that is listened on, or a name for it.
+    /// The address on which the server listens, or a name for it.
     pub host: &'a str,
     /// The port of the first.
     pub port: u16,
@@ -105,7 +105,7 @@ fn run_of<'a>(
     })
 }
 
-// Names with a port, or neither of them with `--list`. `--verbose` stands with `--list` alone.
+// Names with a port, or neither of them with `--list`. Only `--list` may have `--verbose`.
 pub(crate) fn misbehaving_of<'a>(
     alloc: Global,
     options: &ArgMatches<'a>,

@@ -11,7 +11,7 @@ use clap::builder::ValueParser;
 use clap::{Arg, ArgAction, ArgMatches, value_parser};
 use std::alloc::{AllocError, Global};
 
-/// The host of servers of which none is named.
+/// The host of a server if none is named.
 pub const LOOPBACK: &str = "127.0.0.1";
 
 /// The greatest number that an option takes, but for `--cut` and amounts.

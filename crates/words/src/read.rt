@@ -35,7 +35,7 @@ pub enum Words<'a> {
     /// Print the messages of one call, whose bytes are taken in pieces of this size, 1 to
     /// `MAX_CUT`.
     Body(usize),
-    /// Serve the connection in standard input, and print what it was answered with.
+    /// Serve the connection in standard input, and print what the server wrote.
     Parts,
     /// Serve connections.
     Serve(ServeWords<'a>),
@@ -49,7 +49,7 @@ pub enum Words<'a> {
     Misbehave(MisbehaveWords<'a>),
     /// Run wire cases against a server, or list them.
     Wire(WireWords<'a>),
-    /// Tell the frames in the bytes of connections.
+    /// Print the frames in the bytes of connections.
     Frames(FramesWords<'a>),
 }
 
@@ -58,7 +58,7 @@ pub enum Words<'a> {
 pub enum WordsFault<'a> {
     /// They mean no command.
     BadWords(Reason<'a>),
-    /// No memory was to be had.
+    /// There is no memory.
     OutOfMemory,
 }
 

@@ -28,7 +28,7 @@ pub struct Reporting<'a> {
     pub has_tap: bool,
     /// The folder for the bytes of cases that failed.
     pub save: Option<&'a str>,
-    /// The file with the known failures, and the file that they are written to.
+    /// The file with the known failures, and the file to which they are written.
     pub known: Option<&'a str>,
     pub write_known: Option<&'a str>,
     /// What chooses the cases that are left out.
@@ -130,7 +130,7 @@ fn skipped_of<'a>(alloc: Global, options: &ArgMatches<'a>) -> Result<Vec<&'a str
     all_parts_of(alloc, texts.as_slice())
 }
 
-// The level, if one is named; nothing where its name is no level's.
+// The level, if one is named; nothing if the name isn't a level's.
 fn level_of(options: &ArgMatches<'_>) -> Option<Option<Level>>
     ensures { result ≡ level_of (rows_of (found_of options.now)) }
 {

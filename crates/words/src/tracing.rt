@@ -20,7 +20,7 @@ pub enum TraceForm {
     Full,
 }
 
-/// Where it is written what passes on connections.
+/// The places to which what passes on connections is written.
 #[derive(Clone, Copy, Debug, PartialEq, Eq)]
 pub struct Tracing<'a> {
     /// How much the line of each frame says, if there are lines.
@@ -91,7 +91,7 @@ fn trace_of(options: &ArgMatches<'_>) -> Option<Option<TraceForm>>
     }
 }
 
-// Where it is written what passes.
+// The places to which what passes is written.
 pub(crate) fn tracing_of<'a>(options: &ArgMatches<'a>) -> Option<Tracing<'a>>
     ensures { option_map tracing result ≡ tracing_of (rows_of (found_of options.now)) }
 {
