@@ -21,7 +21,7 @@ const LOOK: u64 = 60;
 #[derive(Drop)]
 pub struct Backlog {
     waiting: Mutex<Waiting>,
-    /// Rung where lines were left, where no more will come, and where the thread is over.
+    /// Rung when lines were left, when no more will come, and when the thread is over.
     bell: Bell,
     is_closed: AtomicBool,
     is_over: AtomicBool,
@@ -63,8 +63,8 @@ impl Backlog {
         Ok(backlog)
     }
 
-    /// Leaves whole lines to be printed. Where too many wait they are counted, and so they are
-    /// where there is no memory for them.
+    /// Leaves whole lines to be printed. If too many wait, or there is no memory for them, they are
+    /// counted.
     pub fn leave(&self, rt: &impl Wait, lines: &str) {
         if self.has_failed() {
             return;

@@ -196,7 +196,7 @@ impl<R: Wait + Clock + Eprint + Drop> Drop for Eye<R> {
     }
 }
 
-/// Who looks at a connection that begins, where there is a recorder, and memory for it.
+/// The eye of a connection that begins, if there is a recorder, and memory for it.
 pub fn look<R>(rt: R, recorder: &Option<Arc<Recorder>>, sight: Sight<'_>) -> Option<Eye<R>>
 where
     R: Wait + Clock + Eprint + Copy + Drop,
@@ -245,7 +245,7 @@ where
     }
 }
 
-/// A connection to a server that was just made, at which is looked where there is a recorder.
+/// A connection to a server that was just made, with an eye if there is a recorder.
 pub fn look_at_server<R, S>(
     rt: R,
     recorder: &Option<Arc<Recorder>>,

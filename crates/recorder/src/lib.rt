@@ -6,7 +6,7 @@
 //! connection's end is written when the last of its eyes is dropped.
 //!
 //! A recorder that can't write says so on standard error, once, and writes no more: the connections
-//! go on. So they do where nobody reads the lines on standard error: these wait for a thread of
+//! go on. They also go on if no one reads the lines on standard error: these wait for a thread of
 //! their own, and too many are left out.
 //!
 //! Read `notes` for what is made of what passes, without threads or files; `outputs`, `backlog`,

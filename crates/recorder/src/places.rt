@@ -43,8 +43,8 @@ impl Recorder {
     ///
     /// # Errors
     ///
-    /// `NotMade` of a file, the folder or the thread, and where two files have one name; standard
-    /// error says why.
+    /// `NotMade` if a file, the folder or the thread can't be made, or if two files have one name;
+    /// standard error says why.
     pub fn open<R>(
         rt: &R,
         alloc: Global,
@@ -119,7 +119,7 @@ impl Recorder {
         }
     }
 
-    /// The number of the next connection, where it has no other.
+    /// The number of the next connection, if it has no other.
     pub(crate) fn next(&self) -> u64 {
         self.begun.fetch_add(1, Ordering::SeqCst).wrapping_add(1)
     }
