@@ -13,8 +13,8 @@
 //! - `size:N`: a change of the table's size to N (RFC 7541, section 6.3).
 //!
 //! A word that begins with `!` is a fault: where the case is first tried without its fault
-//! (`control`, in `step`) it is left out. A word that begins with `~` stands there alone, in place
-//! of a fault. So `call:EmptyCall !X=a`, and `!te=gzip ~te=trailers`.
+//! (`control`, in `step`) it is left out. A word that begins with `~` is only there, in place of a
+//! fault. So `call:EmptyCall !X=a`, and `!te=gzip ~te=trailers`.
 
 ghost use Rattle.std.specs.Prelude.{◌<◌, IfSome};
 
@@ -40,7 +40,8 @@ pub const SAMPLE: Announced = Announced {
 };
 
 impl Reading {
-    /// A line, or a word, as it stands here, without its mark; `None` where it doesn't stand here.
+    /// A line, or a word, as it is in this try, without its mark; `None` if this try doesn't have
+    /// it.
     pub fn unmarked<'a>(&self, text: &'a str) -> Option<&'a str> {
         if let Some(fault) = text.strip_prefix('!') {
             return (!self.is_control).then_some(fault);

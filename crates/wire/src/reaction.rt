@@ -1,8 +1,8 @@
 //! What a server under test may do, as the rows have it.
 //!
-//! A row's lawful reactions are lines of `want`, any of which suffices; in a line several that all
-//! hold stand with `and` between them. Each is a word, the stream where there is one, and numbers
-//! or a text:
+//! A row's lawful reactions are lines of `want`, any of which suffices; a line may have several,
+//! which all have to hold, with `and` between them. Each is a word, the stream where there is one,
+//! and numbers or a text:
 //!
 //! - `connection 1 6`: GOAWAY with one of these errors, or the end of the connection without one
 //!   that says an error.

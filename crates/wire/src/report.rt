@@ -21,8 +21,8 @@ pub fn push_entry(text: &mut String, case: &Case) -> Result<(), AllocError> {
     writeln!(text, "{group}/{number} {title} ({level}; {section})")
 }
 
-/// The lines that are printed of a case that was run, and one more where the server answers no
-/// more. Where `is_verbose`, they tell its section, what was written and what was read too.
+/// The lines that are printed of a case that was run, and one more if the server answers no more.
+/// If `is_verbose`, they also have its section, what was written and what was read.
 pub fn text_of(alloc: Global, ended: &Ended, is_verbose: bool) -> Result<String, AllocError> {
     let mut text = String::new(alloc);
     push_line(&mut text, &ended.outcome)?;

@@ -1,5 +1,5 @@
-//! A case: first without its fault, where its lines say so, and then as it stands. Where that fails
-//! it is tried twice again.
+//! A case: first without its fault, if its lines say so, and then as it is. If that fails it is
+//! tried twice more.
 
 use crate::case::Case;
 use crate::engine::{Judgment, Try, Unfit, try_case};

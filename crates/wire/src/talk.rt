@@ -50,7 +50,7 @@ pub enum Heard {
     Closed,
 }
 
-/// What stands next in what was read.
+/// What comes next in what was read.
 #[derive(Drop)]
 enum Next {
     Frame(Frame),
@@ -61,9 +61,9 @@ enum Next {
 /// What is known of how far the server has read.
 #[derive(Clone, Copy, Debug, PartialEq, Eq)]
 enum Fence {
-    /// Something was said that no PING stands after.
+    /// Something was said after which no PING was sent.
     Open,
-    /// A PING stands after all that was said.
+    /// A PING was sent after all that was said.
     Asked,
     /// It was answered, at this time: the server has read all that was said.
     Passed(u64),
@@ -279,7 +279,7 @@ impl<'a, V: Server> Talk<'a, V> {
         }
     }
 
-    /// The next frame. Bytes that are none end the connection.
+    /// The next frame. Bytes that aren't a frame end the connection.
     fn next(&mut self, until: u64) -> Result<Next, WireFault> {
         if self.seen.closed {
             return Ok(Next::Closed);
