@@ -19,7 +19,7 @@ pub run-late : run late ≡ record { fed = 0 ∷ 0 ∷ 0 ∷ 0 ∷ 1 ∷ 65 ∷ 
 unfolding after announced front_of_message front_of_length front_of reading_within reading_of
 run-late = refl
 
--- a message before a head isn't given, nor is anything behind trailers
+-- a message before a head isn't given, nor is anything after trailers
 abbrev pub out_of_place : List CallEvent
 out_of_place =
     event.Give (Message (0 ∷ 0 ∷ 0 ∷ 0 ∷ 0 ∷ [])) ∷ event.Give (Trailers []) ∷ event.Give (Head []) ∷ event.Send ∷ event.Send ∷ []
@@ -28,7 +28,7 @@ pub run-out_of_place : run out_of_place ≡ record { fed = []; shut = None; take
 unfolding after announced front_of_message front_of_length front_of
 run-out_of_place = refl
 
--- behind the word that the call was left nothing is given
+-- nothing is given once the call was left
 abbrev pub left : List CallEvent
 left = event.Give (Head []) ∷ event.Give Left ∷ event.Give (Trailers []) ∷ event.Send ∷ []
 

@@ -18,7 +18,7 @@ pub record IsConsistent (r : SerialCall) : Type 0 where
   pub sent : Begins r.sent.items r.given.items
   pub given : IsResponse r.given.items
 
--- if it is a message, it is one with its prefix
+-- if the item is a message, it is one with its prefix
 abbrev pub IsFramed : OutItem → Type 0
 IsFramed (Head fields) = Unit {0}
 IsFramed (Message bytes) = IsFrame bytes

@@ -18,7 +18,8 @@ const ROOM: usize = 64;
 
 const STREAM: u32 = 1;
 
-/// The bytes before those of a message: its flag and its length (gRPC over HTTP/2, "Length-Prefixed-Message").
+/// The bytes before those of a message: its flag and its length (gRPC over HTTP/2,
+/// "Length-Prefixed-Message").
 const PREFIX_LEN: usize = 5;
 
 /// Gives an item, where it is in place.
@@ -61,7 +62,7 @@ fn give_head<L: Lane<Item = OutItem>>(
     Ok(())
 }
 
-/// Gives a message behind a head, where the bytes are one.
+/// Gives a message after a head, where the bytes are one.
 fn give_message<L: Lane<Item = OutItem>>(
     alloc: Global,
     giver: &mut Giver<L>,

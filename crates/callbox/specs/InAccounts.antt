@@ -1,4 +1,4 @@
--- What the two ends of the in side say of a call when they are brought together.
+-- What the two ends of a call's in side give when they are brought together.
 use Rattle.std.specs.Prelude.{◌≡◌, ℕ, List, Option}
 use Rattle.std.specs.List.{concat}
 use Rattle.lane.specs.Lawful.{count_of}

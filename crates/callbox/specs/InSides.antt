@@ -36,7 +36,7 @@ shut_of [] = None
 shut_of (piece.Bytes bytes ∷ items) = shut_of items
 shut_of (piece.Shut closed ∷ items) = Some closed
 
--- nothing stands behind a shut
+-- no item follows a shut
 abbrev pub ends_at_shut : List InPiece → Bool
 ends_at_shut [] = true
 ends_at_shut (piece.Bytes bytes ∷ items) = ends_at_shut items
@@ -47,7 +47,7 @@ abbrev pub is_piece : InPiece → Bool
 is_piece (piece.Bytes bytes) = true
 is_piece (piece.Shut closed) = false
 
--- what is made of a polled item; of a piece that can't be shared its length
+-- what a polled item becomes; a piece that can't be shared becomes its length
 abbrev pub IsPolled : InPiece → Polled → Type 0
 IsPolled item (polled.Bytes bytes) = item ≡ piece.Bytes bytes
 IsPolled item (polled.Shut closed) = item ≡ piece.Shut closed
@@ -63,8 +63,8 @@ abbrev pub IsMissing : Bool → List InPiece → List ℕ → Type 0
 IsMissing true items missing = last_of items ≡ Some (piece.Bytes missing)
 IsMissing false items missing = missing ≡ []
 
--- Of the items that were polled these messages were taken, and this is what is kept behind them. Where the last piece
--- is unread, for want of memory, its bytes are missing from what is kept.
+-- These messages were taken of the items that were polled, and the taker keeps what follows them.
+-- Where the last piece is unread, for want of memory, its bytes are missing from what it keeps.
 pub record Took (items : List InPiece) (progress : Progress) (messages : List (List ℕ)) : Type 0 where
   pub missing : List ℕ
   pub whole : bytes_of items ≡ frames messages ++ (progress.splitter ++ missing)
@@ -74,8 +74,8 @@ pub record Took (items : List InPiece) (progress : Progress) (messages : List (L
   pub telling : MayTell progress.told (bytes_of items) (shut_of items) messages
   pub count : progress.taken ≡ count_of messages
 
--- What was got spells these messages and less than a whole one behind them, and no shut came: so more is needed before
--- there is anything to take or tell.
+-- What was got spells these messages and then less than a whole one, and no shut came: so more is
+-- needed before there is anything to take or tell.
 abbrev pub NeedsMore : List InPiece → List (List ℕ) → Type 0
 NeedsMore got messages = (rest : List ℕ) × Spells (bytes_of got) messages rest × (shut_of got ≡ None)
 
@@ -92,7 +92,7 @@ grown messages taken.End = messages
 grown messages (taken.Reset code) = messages
 grown messages (taken.Fault fault) = messages
 
--- the answer that tells a thing
+-- the answer by which a thing is told
 abbrev pub telling : Told → Taken
 telling told.End = taken.End
 telling (told.Reset code) = taken.Reset code
@@ -117,7 +117,7 @@ Tells (taken.Fault fault) old new = TellsFault fault old new
 abbrev pub in_account : List (List ℕ) → Option Shut → List (List ℕ) → Option Told → Account
 in_account pieces closed messages said = record { fed = concat pieces; shut = closed; taken = messages; told = said; given = []; sent = [] }
 
--- one event for what is there
+-- one event for an option's value, if there is one
 abbrev pub once : {A : Type 0} → (A → CallEvent) → Option A → List CallEvent
 once event_of None = []
 once event_of (Some x) = event_of x ∷ []

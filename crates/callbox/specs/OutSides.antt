@@ -18,7 +18,7 @@ use Rattle.account.specs.Accounts.{IsBody, IsResponse}
 use Rattle.callbox.specs.declared.giver.FramedFault.{FramedFault}
 use Rattle.callbox.specs.declared.giver.FramedFault.TheVariants.{NotAFrame, Refused}
 
--- whether a head stands first
+-- whether the first item is a head
 abbrev pub has_head : List OutItem → Bool
 has_head [] = false
 has_head (Head fields ∷ items) = true
@@ -26,7 +26,7 @@ has_head (Message bytes ∷ items) = false
 has_head (Trailers fields ∷ items) = false
 has_head (Left ∷ items) = false
 
--- whether trailers stand among the items
+-- whether trailers are among the items
 abbrev pub has_trailers : List OutItem → Bool
 has_trailers [] = false
 has_trailers (Head fields ∷ items) = has_trailers items
@@ -34,7 +34,7 @@ has_trailers (Message bytes ∷ items) = has_trailers items
 has_trailers (Trailers fields ∷ items) = true
 has_trailers (Left ∷ items) = has_trailers items
 
--- whether the last item that a call gives stands among the items: trailers, or that it was left
+-- whether the last item that a call gives is among the items: trailers, or that it was left
 abbrev pub has_end : List OutItem → Bool
 has_end [] = false
 has_end (Head fields ∷ items) = has_end items
@@ -62,13 +62,15 @@ is_message (Message bytes) = true
 is_message (Trailers fields) = false
 is_message Left = false
 
--- Why a message is handed back: as the lane refuses an item, or for want of memory for the message with its prefix.
+-- Why a message is handed back: the lane refuses its item, or there is no memory for the message
+-- with its prefix.
 abbrev pub MayRefuseMessage : Type 0 → ℕ → ℕ → ℕ → PutFault (List ℕ) → Type 0
 MayRefuseMessage MayMiss room put seen_taken (Full message waiting) = (waiting + seen_taken ≡ put) × (room ≤ waiting)
 MayRefuseMessage MayMiss room put seen_taken (OutOfMemory message) = Unit {0}
 MayRefuseMessage MayMiss room put seen_taken (NotTaken message) = MayMiss
 
--- Why bytes with their prefix are handed back: they aren't one message, or they are, and the lane refuses them.
+-- Why bytes with their prefix are handed back: they aren't one message, or they are, and the lane
+-- refuses them.
 abbrev pub RefusesFramed : (ℕ → Type 0) → Type 0 → ℕ → ℕ → ℕ → List ℕ → FramedFault → Type 0
 RefusesFramed WantsMemory MayMiss room put seen_taken framed (NotAFrame bytes) = (bytes ≡ framed) × (IsFrame framed → ⊥)
 RefusesFramed WantsMemory MayMiss room put seen_taken framed (Refused fault) = (item_of fault ≡ framed) × IsFrame framed × MayRefuse WantsMemory MayMiss room put seen_taken fault
@@ -77,7 +79,7 @@ RefusesFramed WantsMemory MayMiss room put seen_taken framed (Refused fault) = (
 abbrev pub out_account : List OutItem → List OutItem → Account
 out_account given sent = record { fed = []; shut = None; taken = []; told = None; given = given; sent = sent }
 
--- the items that were given, and a Send for each that left
+-- the items that were given, and a Send for each that was sent
 abbrev pub out_events : List OutItem → List OutItem → List CallEvent
 out_events given sent = map event.Give given ++ map (λ _. event.Send) sent
 
@@ -102,7 +104,7 @@ IsFrame-prop bytes (message, fits, is) (other, other_fits, other_is) =
     ∙ ap (λ (e : bytes ≡ frame message). as_frame bytes message y_fits e) (Coded-set (coded_list coded_ℕ) bytes (frame message) is y_is))
     (same_message bytes message other fits other_fits is other_is) other_fits other_is
 
--- that a list is empty is so in one way
+-- a list is empty in one way only
 IsNone : List OutItem → Type 0
 IsNone [] = Unit {0}
 IsNone (item ∷ items) = ⊥

@@ -1,4 +1,5 @@
--- The value of a binary metadata field, whose name ends in -bin: gRPC over HTTP/2, "Custom-Metadata"; RFC 4648, section 4.
+-- The value of a binary metadata field, whose name ends in -bin: gRPC over HTTP/2,
+-- "Custom-Metadata"; RFC 4648, section 4.
 use Rattle.std.specs.Prelude.{◌≡◌, ℕ, ◌<◌, ◌⊎◌, List, [], ◌∷◌, ◌++◌, length, replicate, slice_index, codes}
 use Rattle.base64.specs.Rfc4648.{encode_symbols, padding_len}
 
@@ -10,7 +11,7 @@ alphabet = codes "ABCDEFGHIJKLMNOPQRSTUVWXYZabcdefghijklmnopqrstuvwxyz0123456789
 unfoldable pub unpadded : List ℕ → List ℕ
 unpadded bytes = encode_symbols alphabet bytes
 
--- and with all the padding that is due
+-- bytes in base64, with all the padding that is due
 unfoldable pub padded : List ℕ → List ℕ
 padded bytes = unpadded bytes ++ replicate (padding_len (length bytes)) 0x3D
 

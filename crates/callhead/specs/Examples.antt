@@ -77,7 +77,7 @@ request-head = record {
   trailing = refl;
 }
 
--- a pseudo-header behind another field, and an upper-case letter
+-- a pseudo-header after another field, and an upper-case letter
 pub is_malformed-late : is_malformed (request ++ field_of (codes ":authority") (codes "localhost") ∷ []) ≡ true
 unfolding is_malformed
 is_malformed-late = refl
@@ -86,7 +86,8 @@ pub is_malformed-upper_case : is_malformed (request ++ field_of (codes "X-a") (c
 unfolding is_malformed
 is_malformed-upper_case = refl
 
--- trailers: none, a field of the caller's own, a pseudo-header, an upper-case letter, a line feed, and a field of the connection
+-- trailers: none, a field of the caller's own, a pseudo-header, an upper-case letter, a line feed,
+-- and a field of the connection
 pub are_malformed_trailers-none : are_malformed_trailers [] ≡ false
 unfolding are_malformed_trailers
 are_malformed_trailers-none = refl
@@ -120,7 +121,7 @@ pub unknown_method-fields : unknown_method ≡ field_of (codes ":status") (codes
 unfolding percent_text digits
 unknown_method-fields = refl
 
--- no fields at all: the first fault is that they are no request
+-- no fields at all: the first fault is that they aren't a request's
 pub no-fields : IsFirstFault [] Malformed
 unfolding is_malformed
 no-fields = record { stands = refl; first = λ other less stands. absurd (least other less) }

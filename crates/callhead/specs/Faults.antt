@@ -1,4 +1,4 @@
--- The numbers by which the faults are known outside.
+-- The numbers by which programs print the faults.
 use Rattle.std.specs.Prelude.{ℕ}
 use Rattle.callhead.specs.declared.fault.HeadFault.{HeadFault}
 use Rattle.callhead.specs.declared.fault.HeadFault.TheVariants.{Malformed, NotPost, NotGrpc, BadTimeout, OutOfMemory}

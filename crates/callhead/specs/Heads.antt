@@ -1,4 +1,5 @@
--- The head of a call: gRPC over HTTP/2, "Requests"; the echoes are those of the interop test cases' custom metadata.
+-- The head of a call: gRPC over HTTP/2, "Requests"; the echoes are those of the interop test cases'
+-- custom metadata.
 use Rattle.std.specs.Prelude.{◌≡◌, ℕ, ◌<◌, nat_le, ◌⊎◌, Bool, true, false, ◌&&◌, List, [], ◌∷◌, ◌++◌, filter, Option, Some, None, MatchOption, if◌then◌else◌, bytes_eq, codes}
 use Rattle.std.specs.List.{list_all}
 use Rattle.lists.specs.declared.field.Field.{Field}
@@ -28,7 +29,7 @@ abbrev pub HasTimeout : List Field → Option ℕ → Type 0
 HasTimeout fields timeout =
     MatchOption (first_of (codes "grpc-timeout") fields) (timeout ≡ None) (λ text. (nanoseconds : ℕ) × IsTimeout text nanoseconds × (timeout ≡ Some nanoseconds))
 
--- ---- what a head tells
+-- ---- what a head says
 
 abbrev pub encoding_of : Option (List ℕ) → Encoding
 encoding_of None = Identity
@@ -38,7 +39,7 @@ encoding_of (Some name) = if bytes_eq name (codes "identity") then Identity else
 abbrev pub is_printable : List ℕ → Bool
 is_printable value = list_all (λ byte. nat_le 0x20 byte && nat_le byte 0x7E) value
 
--- The values that go back in the response's head: of each field, the one that it has.
+-- The values that go back in the response's head: each field's value.
 abbrev pub initial_echoes : List Field → List (List ℕ)
 initial_echoes fields = filter is_printable (values_of (codes "x-grpc-test-echo-initial") fields)
 
@@ -46,7 +47,7 @@ initial_echoes fields = filter is_printable (values_of (codes "x-grpc-test-echo-
 abbrev pub AreEchoesOf : List ℕ → List (List ℕ) → Type 0
 AreEchoesOf text echoes = IsBinValues text echoes ⊎ (((values : List (List ℕ)) → IsBinValues text values → ⊥) × (echoes ≡ []))
 
--- and for several fields, one after another
+-- the values that go back for several fields, one after another
 abbrev pub AreEchoes : List (List ℕ) → List (List ℕ) → Type 0
 AreEchoes [] echoes = echoes ≡ []
 AreEchoes (text ∷ texts) echoes =
@@ -67,7 +68,7 @@ pub record IsHead (fields : List Field) (head : CallHead) : Type 0 where
   pub initial : head.echo_initial ≡ initial_echoes fields
   pub trailing : AreTrailingEchoes fields head.echo_trailing
 
--- ---- why fields are no head
+-- ---- why fields aren't a head
 
 abbrev pub Stands : HeadFault → List Field → Type 0
 Stands Malformed fields = is_malformed fields ≡ true
@@ -76,7 +77,7 @@ Stands NotGrpc fields = IsGrpc fields → ⊥
 Stands BadTimeout fields = (timeout : Option ℕ) → HasTimeout fields timeout → ⊥
 Stands OutOfMemory fields = ⊥
 
--- The fault stands, and none with a lesser number does.
+-- The fields have the fault, and none with a lesser number.
 pub record IsFirstFault (fields : List Field) (fault : HeadFault) : Type 0 where
   pub stands : Stands fault fields
   pub first : (other : HeadFault) → code_of other < code_of fault → Stands other fields → ⊥

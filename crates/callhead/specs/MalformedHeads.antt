@@ -1,4 +1,5 @@
--- Which fields are no request, and which no trailers of one: RFC 9113, sections 8.1, 8.2, 8.2.1, 8.2.2, 8.3 and 8.3.1.
+-- Which fields aren't a request's, and which aren't its trailers: RFC 9113, sections 8.1, 8.2,
+-- 8.2.1, 8.2.2, 8.3 and 8.3.1.
 use Rattle.std.specs.Prelude.{ℕ, ◌-◌, ◌==◌, nat_lt, nat_le, Bool, false, not, ◌&&◌, ◌||◌, List, [], ◌∷◌, length, drop, count_by, Option, Some, None, is_none, slice_get, bytes_eq, codes}
 use Rattle.std.specs.List.{list_any, prefix_len}
 use Rattle.lists.specs.declared.field.Field.{Field}
@@ -17,7 +18,7 @@ has_bad_name field =
 
 -- ---- values (section 8.2.1)
 
--- a blank or a tab
+-- a space or a tab
 abbrev pub is_blank : Option ℕ → Bool
 is_blank None = false
 is_blank (Some byte) = (byte == 0x20) || (byte == 0x09)
@@ -65,7 +66,7 @@ is_unknown field = is_pseudo_header field && not (list_any (λ (name : List ℕ)
 abbrev pub is_empty_path : Field → Bool
 is_empty_path field = is_named (codes ":path") field && (length field.value == 0)
 
--- a pseudo-header stands behind the longest front of pseudo-headers
+-- a pseudo-header comes after the longest front of pseudo-headers
 abbrev pub has_late_pseudo_header : List Field → Bool
 has_late_pseudo_header fields = list_any is_pseudo_header (drop (prefix_len is_pseudo_header fields) fields)
 

@@ -34,7 +34,8 @@ abbrev pub timeout_fields : Option (List ℕ) → List Field
 timeout_fields None = []
 timeout_fields (Some text) = field_of (codes "grpc-timeout") text ∷ []
 
--- values that are to come back in the head of the response, and bytes that are to come back in the trailers
+-- values that are to come back in the head of the response, and bytes that are to come back in the
+-- trailers
 abbrev pub echo_fields : List (List ℕ) → List (List ℕ) → List Field
 echo_fields initial trailing =
     map (field_of (codes "x-grpc-test-echo-initial")) initial
@@ -49,9 +50,9 @@ opening_fields path =
 abbrev pub request_fields : List ℕ → Option (List ℕ) → List (List ℕ) → List (List ℕ) → List Field
 request_fields path timeout initial trailing = opening_fields path ++ (timeout_fields timeout ++ echo_fields initial trailing)
 
--- ---- the head that they are
+-- ---- the head that the fields are
 
--- a head asks for these: the path, the timeout that the text names, and the echoes
+-- a head asks for this path, the timeout that the text names, and these echoes
 pub record AsksFor (path : List ℕ) (timeout : Option (List ℕ)) (initial trailing : List (List ℕ)) (head : CallHead) : Type 0 where
   pub path_is : head.path ≡ path
   pub timeout_is : MatchOption timeout (head.timeout ≡ None) (λ text. (nanoseconds : ℕ) × IsTimeout text nanoseconds × (head.timeout ≡ Some nanoseconds))

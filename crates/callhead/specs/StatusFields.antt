@@ -1,4 +1,5 @@
--- The fields that answer a call: gRPC over HTTP/2, "Responses"; RFC 9110, sections 15.5.6 and 15.5.16.
+-- The fields that answer a call: gRPC over HTTP/2, "Responses"; RFC 9110, sections 15.5.6 and
+-- 15.5.16.
 use Rattle.std.specs.Prelude.{ℕ, List, [], ◌∷◌, ◌++◌, map, Option, Some, None, decimal, codes}
 use Rattle.grpc_status.specs.StatusCode.{status_number}
 use Rattle.grpc_status.specs.declared.StatusCode.TheVariants.{Unimplemented, Internal}
@@ -38,7 +39,8 @@ unknown_method = trailers_only (status_number Unimplemented) (codes "unknown met
 abbrev pub status_alone : List ℕ → List Field
 status_alone status = field_of (codes ":status") status ∷ []
 
--- The block that answers fields which are no head; a malformed request has none, nor has out of memory.
+-- The block that answers fields which aren't a head; there is none for a malformed request or for
+-- want of memory.
 abbrev pub refusal_of : HeadFault → Option (List Field)
 refusal_of Malformed = None
 refusal_of NotPost = Some (status_alone (codes "405"))

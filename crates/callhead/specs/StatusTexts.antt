@@ -22,7 +22,8 @@ percent_byte byte =
 unfoldable pub percent_text : List ℕ → List ℕ
 percent_text bytes = flat_map percent_byte bytes
 
--- The text that a value stands for. `percent_decode` puts its byte in the place of each `%` with two hexadecimal digits of
--- either case, and leaves any other `%` as it is; `utf8_lossy` puts U+FFFD in the place of what isn't UTF-8.
+-- The text that a value stands for. `percent_decode` puts its byte in the place of each `%` with
+-- two hexadecimal digits of either case, and leaves any other `%` as it is; `utf8_lossy` puts
+-- U+FFFD in the place of what isn't UTF-8.
 unfoldable pub text_of : List ℕ → List ℕ
 text_of value = utf8_lossy (percent_decode value)

@@ -1,4 +1,4 @@
-//! The fields that open a call, for whoever makes one (gRPC over HTTP/2, "Requests").
+//! The fields that open a call, for a client (gRPC over HTTP/2, "Requests").
 
 ghost use Rattle.std.specs.Prelude.{◌≡◌, codes, ◌++◌, ◌∷◌, [], map, option_copied, All, IfOk, IsTrue, OnOk};
 ghost use Rattle.callhead.specs.declared.head.CallHead.{CallHead};
@@ -13,9 +13,9 @@ use crate::names::{CONTENT_TYPE, ECHO_INITIAL, ECHO_TRAILING, GRPC_TYPE};
 use lists::{Field, Octets};
 use std::alloc::{AllocError, Global};
 
-/// The fields of a request: `:method`, `:scheme`, `:path`, `:authority`, `te` and `content-type`; then the timeout, a
-/// field for each value that is to come back in the head of the response, and one for each that is to come back in the
-/// trailers.
+/// The fields of a request: `:method`, `:scheme`, `:path`, `:authority`, `te` and `content-type`;
+/// then the timeout, a field for each value that is to come back in the head of the response, and
+/// one for each that is to come back in the trailers.
 pub fn request_fields(
     alloc: Global,
     path: &str,

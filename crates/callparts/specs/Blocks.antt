@@ -4,7 +4,7 @@ use Rattle.std.specs.List.{flat_map}
 use Rattle.std.specs.Global.{Vec}
 use Rattle.callparts.specs.declared.call_account.CallAccount.{CallAccount}
 
--- the full blocks, and behind them the last one
+-- the full blocks, and after them the last one
 abbrev pub items_of : Vec (Vec CallAccount) → Vec CallAccount → List CallAccount
 items_of full last = flat_map (λ block. block.items) full.items ++ last.items
 

@@ -32,7 +32,7 @@ echoing = record { path = []; timeout = None; encoding = Identity; echo_initial 
 cancelled_alone : response plain [] (status_of Cancelled) ≡ Trailers (trailers_only 1 (codes "cancelled")) ∷ []
 cancelled_alone = refl
 
--- behind a reply the trailers stand by themselves
+-- after a reply the trailers come by themselves
 cancelled_behind : response plain (Zeros 1 ∷ []) (status_of Cancelled)
     ≡ Head (response_fields []) ∷ reply_item (Zeros 1) ∷ Trailers (status_fields 1 (codes "cancelled") []) ∷ []
 cancelled_behind = refl
@@ -41,7 +41,7 @@ cancelled_behind = refl
 well_alone : response plain [] ok_status ≡ Head (response_fields []) ∷ Trailers (status_fields 0 [] []) ∷ []
 well_alone = refl
 
--- and so has one whose head wants something echoed there
+-- a call whose head wants something echoed has a head too
 echoed_alone : response echoing [] (status_of Cancelled)
     ≡ Head (response_fields (codes "a" ∷ [])) ∷ Trailers (status_fields 1 (codes "cancelled") []) ∷ []
 echoed_alone = refl

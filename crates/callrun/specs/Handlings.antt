@@ -1,4 +1,4 @@
--- What a method has made of what was taken of a call.
+-- What a method has answered to what was taken of a call.
 use Rattle.std.specs.Prelude.{◌≡◌, ◌≢◌, ◌⊎◌, ℕ, Bool, true, false, List, [], ◌++◌, Option, None, Some, Result, Ok, Err}
 use Rattle.account.specs.Accounts.{Begins}
 use Rattle.account.specs.declared.call.Told.{Told}
@@ -28,7 +28,7 @@ is_memory CutAtEnd = false
 
 -- ---- what is left of an answer
 
--- Of the method's answer these replies were given and these wait, by how the call ends.
+-- These replies of the method's answer were given, and these wait, as the call's end has it.
 abbrev pub EndsSo : Step → CallHead → Bool → Option Told → List Reply → List Reply → Option Ending → Type 0
 EndsSo answer head overdue said done waiting None = (answer.replies ≡ done ++ waiting) × (answer.ends ≡ None)
 EndsSo answer head overdue said done waiting (Some (ending.Method status)) = (answer.replies ≡ done ++ waiting) × (answer.ends ≡ Some status)
@@ -70,7 +70,7 @@ abbrev pub method_ending : Option Status → Option Ending
 method_ending None = None
 method_ending (Some status) = Some (ending.Method status)
 
--- the call ends so, and what waited is dropped
+-- the call ends by this cause, and what waited is dropped
 abbrev pub EndsBy : Cause → Handling → Handling → Type 0
 EndsBy cause old new = (new.state ≡ old.state) × (new.waiting ≡ []) × (new.ending ≡ Some (ending.Cause cause))
 
@@ -79,7 +79,8 @@ abbrev pub Accepts : Result Step MethodFault → Handling → Handling → Type 
 Accepts (Ok step) old new = (new.state ≡ old.state) × (new.waiting ≡ step.replies) × (new.ending ≡ method_ending step.ends)
 Accepts (Err fault) old new = EndsBy OutOfMemory old new
 
--- What a method makes of a message, or of the end: what it answered before was given, and what it answers now begins with that.
+-- A method answers a message, or the end: what it answered before was given, and the whole answer
+-- now begins with that.
 pub record Answers (answers : List (List ℕ) → Bool → Step → Type 0) (stands : MethodState → List (List ℕ) → Step → Type 0)
     (next : Option Told) (messages all : List (List ℕ)) (new : Handling) : Type 0 where
   pub each : (answered answer : Step) → answers messages false answered → answers all (is_end next) answer

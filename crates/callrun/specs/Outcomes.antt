@@ -1,4 +1,5 @@
--- What a call may have been given, when its method answers this to the messages that were taken and to whether their end was told.
+-- What a call may have been given, when its method answers this to the messages that were taken and
+-- to whether their end was told.
 use Rattle.std.specs.Prelude.{◌≡◌, ◌⊎◌, ℕ, Bool, true, false, List, [], ◌∷◌, map, Option, None, Some}
 use Rattle.lpm.specs.declared.fault.LpmFault.TheVariants as fault
 use Rattle.account.specs.Accounts.{Begins}
@@ -23,7 +24,8 @@ is_end (Some told.End) = true
 is_end (Some (told.Reset code)) = false
 is_end (Some (told.Fault fault)) = false
 
--- A cause for which the server ends a call: by what was told, or since the deadline has come. Want of memory shows in nothing that is kept.
+-- A cause for which the server ends a call is there: in what was told, or because the deadline has
+-- come. Want of memory leaves no trace.
 abbrev pub Stood : Cause → CallHead → Bool → Option Told → Type 0
 Stood Cancelled head overdue said = (code : ℕ) × (said ≡ Some (told.Reset code))
 Stood DeadlineExceeded head overdue said = overdue ≡ true
@@ -46,7 +48,8 @@ pub data IsOutcome (head : CallHead) (overdue : Bool) (said : Option Told) (answ
   -- a front of its replies, and a status of the server's own
   CutShort : (cause : Cause) (replies : List Reply) → Stood cause head overdue said → Begins replies answer.replies
       → given ≡ response head replies (status_of cause) → code ≡ Some (status_number (status_of cause).code) → IsOutcome head overdue said answer given code
-  -- the same, where the head was given before the cause stood
+  -- a front of its replies, and a status of the server's own, where the head was given before the
+  -- cause was there
   CutShortBehindHead : (cause : Cause) (replies : List Reply) → Stood cause head overdue said → Begins replies answer.replies
       → given ≡ full_response head replies (status_of cause) → code ≡ Some (status_number (status_of cause).code) → IsOutcome head overdue said answer given code
   -- a front of its replies, and no trailers

@@ -34,7 +34,8 @@ abbrev pub is_none : {A : Type 0} → List A → Bool
 is_none [] = true
 is_none (x ∷ xs) = false
 
--- A call that didn't go well and has no reply is answered by one block, unless its head wants something echoed first.
+-- One block answers a call that didn't go well and has no reply, unless the call's head wants
+-- something echoed first.
 abbrev pub is_short : CallHead → List Reply → Status → Bool
 is_short head replies status = is_none replies && (is_none head.echo_initial && not (status_number status.code == 0))
 

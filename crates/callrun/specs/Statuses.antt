@@ -1,4 +1,5 @@
--- The statuses with which the server itself ends a call (gRPC's status codes; the texts are our own).
+-- The statuses with which the server itself ends a call (gRPC's status codes; the texts are our
+-- own).
 use Rattle.std.specs.Prelude.{codes}
 use Rattle.lpm.specs.declared.fault.LpmFault.{LpmFault}
 use Rattle.lpm.specs.declared.fault.LpmFault.TheVariants as fault
@@ -20,7 +21,8 @@ status_of CompressedWithoutEncoding = status code.Internal (codes "compressed wi
 status_of BadFlag = status code.Internal (codes "bad flag")
 status_of CutAtEnd = status code.Internal (codes "message cut at end")
 
--- a compressed message where no encoding was named is the client's fault; where one was, the server doesn't have it
+-- a compressed message without a named encoding is the client's fault; an encoding that was named
+-- the server doesn't have
 abbrev pub compressed_by : Encoding → Cause
 compressed_by Other = UnsupportedEncoding
 compressed_by Identity = CompressedWithoutEncoding

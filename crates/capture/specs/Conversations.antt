@@ -60,7 +60,8 @@ segment_of talk time Server flags payload = record {
   payload = payload;
 }
 
--- A side has sent so many numbers more: one for each byte, for its SYN and for its FIN (section 3.4).
+-- A side has used more sequence numbers: one for each byte, for its SYN and for its FIN (section
+-- 3.4).
 abbrev pub advanced : Conversation → Side → ℕ → Conversation
 advanced talk Client count = record talk { client_next = (talk.client_next + count) % 2 ^ 32 }
 advanced talk Server count = record talk { server_next = (talk.server_next + count) % 2 ^ 32 }

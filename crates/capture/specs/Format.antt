@@ -1,5 +1,5 @@
--- A capture file as libpcap writes it (pcap-savefile), whose packets are IPv4 (RFC 791) or IPv6 (RFC 8200) with a segment of TCP
--- (RFC 9293).
+-- A capture file as libpcap writes it (pcap-savefile), whose packets are IPv4 (RFC 791) or IPv6
+-- (RFC 8200) with a segment of TCP (RFC 9293).
 use Rattle.std.specs.Prelude.{◌≡◌, ℕ, ◌+◌, ◌/◌, ◌%◌, ◌^◌, ◌≤◌, List, [], ◌∷◌, ◌++◌, length, take, drop, slice_index}
 use Rattle.capture.specs.declared.packet.Hosts.{Hosts}
 use Rattle.capture.specs.declared.packet.Hosts.TheVariants.{V4, V6}

@@ -16,7 +16,8 @@ use bytes::Bytes;
 use std::alloc::{AllocError, AllocFailed, Global};
 use thiserror::Error;
 
-/// The bytes before a file's first record, before a record's packet, before the segment in a packet of either version, and before a segment's payload.
+/// The bytes before a file's first record, before a record's packet, before the segment in a packet
+/// of either version, and before a segment's payload.
 const FILE_HEAD: usize = 24;
 
 const RECORD_HEAD: usize = 16;
@@ -108,7 +109,7 @@ fn packets_of(alloc: Global, records: &[u8]) -> Result<Vec<Packet>, CaptureFault
     Ok(packets)
 }
 
-/// The packet of the first record, at this byte, and what is behind that.
+/// The packet of the first record, at this byte, and what follows it.
 fn first_packet(alloc: Global, at: usize, bytes: &[u8]) -> Result<(Packet, &[u8]), CaptureFault>
     ensures ok { IfOk result (λ taken. StartsWith bytes.now taken.0 taken.1.now) }
     ensures err { IfErr result (λ fault. (fault ≡ OutOfMemory) ⊎ StartsNone bytes.now) }
@@ -130,7 +131,7 @@ fn first_packet(alloc: Global, at: usize, bytes: &[u8]) -> Result<(Packet, &[u8]
     }
 }
 
-/// As many bytes as the first record has, and what is behind it.
+/// The bytes of the first record, and what follows it.
 fn first_record(bytes: &[u8]) -> Option<(&[u8], &[u8])>
     ensures some { IfSome result (λ pair. (bytes.now ≡ pair.0.now ++ pair.1.now)
         × HasItsSize pair.0.now) }
@@ -180,7 +181,8 @@ fn carried(packet: &[u8]) -> Option<(SegmentHead, &[u8])>
     }
 }
 
-/// The head of this segment of a packet between these hosts, and its payload, where the checksum is right.
+/// The head of this segment of a packet between these hosts, and its payload, where the checksum is
+/// right.
 fn checked_parts<'s>(
     packet: &[u8],
     hosts: Hosts,

@@ -12,8 +12,8 @@ use std::alloc::{AllocError, Global};
 /// The most bytes of a payload, so that the lengths of packets fit their fields.
 pub const MOST_PAYLOAD: usize = 65_000;
 
-/// What a file begins with: the magic number, the version, two unused fields, the most bytes that are kept of a packet, and that packets
-/// begin with the head of IP.
+/// What a file begins with: the magic number, the version, two unused fields, the most bytes that
+/// are kept of a packet, and that packets begin with the head of IP.
 #[tactic(auto, unfolding(crate::specs::Fields::le32_at))]
 pub fn file_head() -> [u8; 24]
     ensures { IsFileHead result }

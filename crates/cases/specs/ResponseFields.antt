@@ -1,5 +1,6 @@
--- Which fields are no response: RFC 9113, sections 8.1, 8.2 and 8.3.2; and which begin one of gRPC: gRPC over HTTP/2,
--- "Responses". Names, values and fields of one connection are judged as those of requests are.
+-- Which fields are no response: RFC 9113, sections 8.1, 8.2 and 8.3.2; and which begin one of gRPC:
+-- gRPC over HTTP/2, "Responses". Names, values and fields of one connection are judged as those of
+-- requests are.
 use Rattle.std.specs.Prelude.{◌≡◌, ◌==◌, Bool, not, ◌&&◌, ◌||◌, List, count_by, Some, codes}
 use Rattle.std.specs.List.{list_any}
 use Rattle.lists.specs.declared.field.Field.{Field}

@@ -1,4 +1,4 @@
--- The text that tells a call's messages and how the call ended.
+-- The text with a call's messages and how the call ended.
 use Rattle.std.specs.Prelude.{ℕ, ◌+◌, List, [], ◌∷◌, ◌++◌, length, Option, Some, None, codes}
 use Rattle.std.specs.Fmt.{decimal}
 use Rattle.hex.specs.Hex.{encode_lower}

@@ -11,13 +11,14 @@ use Rattle.connection.specs.declared.orders.Orders.{Orders}
 use Rattle.connection.specs.declared.orders.Route.{Ghosts}
 
 module _ {J : Type 0} {book : Naming J} where
-  -- a call that an order opens stands in the register, at the number of its sender, with the order's stream
+  -- a call that an order opens is in the register, at the number of its sender, with the order's
+  -- stream
   abbrev pub IsOwn : Control (Opening J book) → Type 0
   IsOwn (Open id opening) =
       IsSomeAnd (request_at opening.sending.value.number.seen.log opening.sending.value.number.value) (λ request. request.id ≡ id)
   IsOwn _ = Unit {0}
 
-  -- an order that isn't put is kept in place of another, or isn't
+  -- an order that isn't put may be kept aside, in place of another
   abbrev pub IsKept : Control (Opening J book) → Option (Control (Opening J book)) → Option (Control (Opening J book)) → Type 0
   IsKept order old new = (new ≡ old) ⊎ (new ≡ Some order)
 
@@ -43,7 +44,8 @@ module _ {A B C J N : Type 0} {book : Naming J} {route : Ghosts N} where
   abbrev pub IsSame : Orders A B C J N book route → Orders A B C J N book route → Type 0
   IsSame old new = (new.outbox ≡ old.outbox) × (new.has_dropped ≡ old.has_dropped) × (new.unput ≡ old.unput) × (new.backlog ≡ old.backlog)
 
-  -- What was put begins these orders, and is all of them where none was dropped. That which is kept aside is one of those that were dropped.
+  -- What was put begins these orders, and is all of them where none was dropped. The order that is
+  -- kept aside is one of those that were dropped.
   pub record Ordered (all : List Order) (orders : Orders A B C J N book route) : Type 0 where
     pub dropped : List (Control (Opening J book))
     pub parts : map (λ order. order_of order) (put_of orders ++ dropped) ≡ all
@@ -51,7 +53,8 @@ module _ {A B C J N : Type 0} {book : Naming J} {route : Ghosts N} where
     pub kept : IfSome orders.unput (Contains dropped)
     pub whole : orders.has_dropped ≡ false → dropped ≡ []
 
-  -- The same of orders behind which no more come.
+  -- What was put begins these orders, and ends with the order that no more come. Where no order was
+  -- dropped it is all of them.
   pub record Closed (all : List Order) (orders : Orders A B C J N book route) : Type 0 where
     pub front : List (Control (Opening J book))
     pub dropped : List (Control (Opening J book))

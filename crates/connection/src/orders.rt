@@ -1,4 +1,4 @@
-//! What the reader has the writer do.
+//! The reader's orders to the writer.
 
 ghost use mathlib.Core.List.{IsPrefix};
 ghost use Rattle.std.specs.Prelude.{◌≡◌, [], Some, IsSomeAnd};
@@ -23,7 +23,7 @@ pub(crate) const ORDERS: usize = 1024;
 /// How long the reader waits for room before it looks again, in milliseconds.
 pub(crate) const STEP: u64 = 1;
 
-/// Which ring the orders of a connection go through, as a word for clauses.
+/// Names the ring through which a connection's orders go. Only clauses use it.
 pub(crate) trait Route {
     ghost use Rattle.std.specs.Prelude.{Option};
     ghost use Rattle.lane.specs.RingEnds.{RingName};
@@ -31,7 +31,7 @@ pub(crate) trait Route {
     ghost ring: { Option RingName };
 }
 
-/// Who calls at `Brand` says which.
+/// The caller who brings a `Brand` chooses the name.
 impl Route for Brand {
     ghost use Rattle.std.specs.Prelude.{None};
 
@@ -51,13 +51,14 @@ pub(crate) struct Outbox<J: Naming, N: Route> {
 pub(crate) struct Orders<A: Ledger, B: Ledger, C: Ledger, J: Naming, N: Route> {
     pub(crate) outbox: Outbox<J, N>,
     pub(crate) shared: Arc<Shared<A, B, C>>,
-    /// Whether there are orders, or credit that no call rings for, for which the writer wasn't rung yet.
+    /// Whether there are orders, or credit that no call rings for, for which the writer wasn't rung
+    /// yet.
     pub(crate) are_unrung: bool,
     /// Orders behind those in the ring, which had no room for them when the writer had stopped. They are put before the last order.
     pub(crate) backlog: VecDeque<Order<J>>,
     /// Whether orders were dropped, since there was no memory for the backlog.
     pub(crate) has_dropped: bool,
-    /// Of those that were dropped the one that opens a call, with its sender. Behind it no call begins.
+    /// The dropped order that opens a call, with its sender. After it no call begins.
     pub(crate) unput: Option<Order<J>>,
 }
 
@@ -132,7 +133,7 @@ impl<A: Ledger, B: Ledger, C: Ledger, J: Naming, N: Route> Orders<A, B, C, J, N>
         unreachable!()
     }
 
-    /// The same, where there is one.
+    /// Puts the order, if there is one.
     pub(crate) fn put_some<R: Wait>(&mut self, rt: &R, order: Option<Order<J>>)
         ensures puts { PutsAll order self.old self.new }
     {
@@ -176,7 +177,8 @@ impl<A: Ledger, B: Ledger, C: Ledger, J: Naming, N: Route> Orders<A, B, C, J, N>
         }
     }
 
-    /// Puts the last order, and waits where there is no room: also a writer that has stopped takes orders, and ends at this one.
+    /// Puts the last order, and waits where there is no room. A writer that has stopped still takes
+    /// orders, and ends at this one.
     pub(crate) fn close<R: Wait>(&mut self, rt: &R)
         ensures put { put_of self.new ≡ put_of self.old ++ orders.Close ∷ [] }
         ensures none_left { self.new.backlog.items ≡ [] }

@@ -1,4 +1,5 @@
-//! The reading thread of a connection: it reads, asks the lock, and does what the reading side decides (the crate `readerloop`).
+//! The reading thread of a connection. It reads, asks the lock, and does what the reading side
+//! decides (the crate `readerloop`).
 
 ghost use mathlib.Core.List.{IsPrefix};
 ghost use Rattle.callhead.specs.declared.head.CallHead.{CallHead as Head};
@@ -51,14 +52,16 @@ use std::thread::Threads;
 use std::time::{Clock, Duration, Instant};
 use writerloop::Senders;
 
-/// How many bytes are read at a time: the DATA that a window lets through, with the heads of its frames.
+/// How many bytes are read at a time: the DATA that a window lets through, with the heads of its
+/// frames.
 const PIECE: usize = 65_664;
 
-/// How many bytes are read at a time until a read brought so many: a connection that is silent takes no more memory, on its reader's
-/// stack.
+/// How many bytes are read at a time until one read fills them. A silent connection takes no more
+/// memory than these, on its reader's stack.
 const FIRST_PIECE: usize = 1_024;
 
-/// From how many bytes on the writer isn't rung for what came, where it is DATA that are fed to calls: these ring once they have taken that.
+/// For a read of this many bytes or more the writer isn't rung where all are DATA for calls: the
+/// workers ring once they have taken them.
 const LARGE_PIECE: usize = 8_192;
 
 /// The room for the next read: the first piece, until there is a whole one.
@@ -66,14 +69,15 @@ fn room<'x>(first: &'x mut [u8], whole: &'x mut [u8]) -> &'x mut [u8] {
     if whole.is_empty() { first } else { whole }
 }
 
-/// Behind a read of so many bytes that filled the first piece, makes the whole one. Without memory it goes on with the first.
+/// Makes the whole piece after a read of `count` bytes that filled the first. Without memory the
+/// reader goes on with the first.
 fn grow(whole: &mut Vec<u8>, count: usize) {
     if count == FIRST_PIECE && whole.is_empty() {
         let _ = whole.resize(PIECE, 0);
     }
 }
 
-/// The order that tells the client to open no streams behind this one, where there is one.
+/// The GOAWAY that asks the client to open no streams after this one, if there is one.
 fn goaway_of<J: Naming>(goaway: Option<StreamId>) -> Option<Order<J>>
     ensures order { order_in result ≡ goaway_in goaway }
     ensures own { IfSome result IsOwn }
@@ -101,7 +105,8 @@ pub(crate) struct Reader<
     pub(crate) reading: Reading<J, M>,
     /// The threads of the workers.
     hands: Vec<Hand<J, M>>,
-    /// How the reader's bell stood when it was looked for what came back. None where a half was shut since.
+    /// How the reader's bell stood when the reader last looked for what came back. None where a
+    /// half was shut since.
     looked: Option<u64>,
     gate: Arc<G>,
     /// When the connection began; nothing where the clock didn't tell.
@@ -146,7 +151,7 @@ where
         }
     }
 
-    /// Reads to the end, and says how the connection ended as far as the reader sees.
+    /// Reads to the end. Answers how the connection ended as far as the reader sees.
     #[inline(never)]
     pub(crate) fn read<I: ConnRead>(
         &mut self,
@@ -208,7 +213,7 @@ where
         unreachable!()
     }
 
-    /// Behind the last event: ends all halves and workers, and lets the writer end.
+    /// After the last event: ends all halves and workers, and lets the writer end.
     #[inline(never)]
     pub(crate) fn end(&mut self)
         ensures grows { Grows self.old.reading self.new.reading }
@@ -243,7 +248,8 @@ where
         }
     }
 
-    /// Puts the last order, and waits where there is no room. Meanwhile it takes what comes home: the writer may wait for a place there.
+    /// Puts the last order, and waits where there is no room. Meanwhile it takes the senders that
+    /// come back, since the writer may wait for a place for one.
     fn close(&mut self)
         ensures collects { Collects M.known M.names self.old.reading self.new.reading }
         ensures put { put_of self.new.orders ≡ put_of self.old.orders ++ orders.Close ∷ [] }
@@ -266,7 +272,8 @@ where
         unreachable!()
     }
 
-    /// Where the writer has ended, and handed these senders back: settles all calls. The accounts of all, and what was ordered.
+    /// Settles all calls once the writer has ended and handed these senders back. Answers the
+    /// accounts of all, and the orders.
     #[inline(never)]
     pub(crate) fn meet(self, rest: Senders<J>) -> (Accounts, Orders<A, B, C, J, N>)
         requires way { out_name self.reading.home ≡ in_name rest.sends.home }
@@ -312,7 +319,8 @@ where
         }
     }
 
-    /// Takes the senders back that the writer had at its end. Its end of the way home.
+    /// Takes the senders back that the writer had at its end. Answers the writer's end of the ring
+    /// of senders.
     fn take_rest(&mut self, rest: Senders<J>) -> RingIn<Returning<J>>
         ensures way { result ≡ rest.sends.home }
         ensures home { self.new.reading.home ≡ self.old.reading.home }
@@ -332,7 +340,7 @@ where
         unreachable!()
     }
 
-    /// Settles all calls, once all has come back of them.
+    /// Settles all calls, once all their ends have come back.
     fn settle_rest(&mut self)
         ensures collects { Collects M.known M.names self.old.reading self.new.reading }
         ensures none { unsettled self.new.reading.calls ≡ [] }
@@ -348,8 +356,8 @@ where
         unreachable!()
     }
 
-    /// Where something may have come back of calls since it was looked, takes that, and settles the calls that are over. Workers and the
-    /// writer ring for it.
+    /// Takes what came back of calls since the last look, if workers or the writer rang, and
+    /// settles the calls that are over.
     fn collect(&mut self)
         ensures collects { Collects M.known M.names self.old.reading self.new.reading }
         ensures orders { self.new.orders ≡ self.old.orders }
@@ -379,7 +387,7 @@ where
         }
     }
 
-    /// Behind the last event: the calls that their clients neither ended nor reset are cut.
+    /// After the last event: cuts the calls whose halves the client neither ended nor reset.
     fn cut_all(&mut self)
         ensures cuts { CutsSome M.known M.names true self.old.reading self.old.orders
             self.new.reading self.new.orders }
@@ -389,7 +397,7 @@ where
         }
     }
 
-    /// The same for the call at this place.
+    /// Cuts the call at this place, if its client neither ended nor reset its half.
     fn cut_at(&mut self, place: usize)
         ensures cuts { CutsSome M.known M.names true self.old.reading self.old.orders
             self.new.reading self.new.orders }
@@ -399,7 +407,8 @@ where
         }
     }
 
-    /// Looks whether the server is to stop, and has the peer told where it is. Whether no call is live then: the connection ends.
+    /// Looks whether the server drains, and if so orders the GOAWAY for it. Answers whether no call
+    /// is live then: the connection ends.
     fn heed_drain(&mut self) -> bool
         ensures cuts { CutsSome M.known M.names false self.old.reading self.old.orders
             self.new.reading self.new.orders }
@@ -419,7 +428,8 @@ where
         (book.closing(), book.live_id(0).is_some())
     }
 
-    /// The server is to stop: the peer is told which calls go on, unless it was.
+    /// The server drains: orders the GOAWAY that names the last call which goes on, unless it was
+    /// ordered.
     fn drain(&mut self)
         ensures cuts { CutsSome M.known M.names false self.old.reading self.old.orders
             self.new.reading self.new.orders }
@@ -449,7 +459,7 @@ where
         self.orders.shared.book.lock(&self.rt).stop();
     }
 
-    /// What bytes that came lead to; how the connection ends, if it does.
+    /// Does what bytes that came lead to. Answers how the connection ends, if it does.
     fn take(
         &mut self,
         intake: &mut Intake<A, B, C>,
@@ -480,8 +490,9 @@ where
         Ok(end)
     }
 
-    /// Rings for so many bytes that came. The writer wakes while the calls are answered. It is rung where an order waits, where few
-    /// bytes came, which may be returned at once, and where credit is due: what came may have made it so, and no worker rings for that.
+    /// Rings for `count` bytes that came. It rings the writer where an order waits, where few bytes
+    /// came, which may be returned at once, and where credit is due, since no worker rings for
+    /// credit that the bytes themselves made due. The writer wakes while the calls are answered.
     fn ring(&mut self, count: usize)
         ensures reading { self.new.reading
             ≡ record self.old.reading { seats = self.new.reading.seats } }
@@ -498,7 +509,7 @@ where
         self.orders.shared.book.lock(&self.rt).is_credit_due()
     }
 
-    /// What events lead to, one after another; how the connection ends, if it does.
+    /// Does what events lead to, one after another. Answers how the connection ends, if it does.
     fn heed(
         &mut self,
         intake: &mut Intake<A, B, C>,
@@ -522,7 +533,7 @@ where
         None
     }
 
-    /// What one event leads to; how the connection ends, if it does.
+    /// Does what one event leads to. Answers how the connection ends, if it does.
     fn follow(
         &mut self,
         intake: &mut Intake<A, B, C>,
@@ -578,7 +589,7 @@ where
         self.act(decided)
     }
 
-    /// What the peer tells the side that writes.
+    /// Passes on to the writer what the peer says to it.
     fn pass_on(&mut self, news: session::Control) -> Option<Ending>
         ensures reads { ReadsTo M.known M.names (events.Control news ∷ []) result
             self.old.reading self.old.orders self.new.reading self.new.orders }
@@ -605,7 +616,8 @@ where
         None
     }
 
-    /// Does what was decided: what is ordered first, then the half that is to be shut. How the connection ends, if it does.
+    /// Does what was decided: puts the orders, then shuts the half that is to be shut. Answers how
+    /// the connection ends, if it does.
     fn act(&mut self, decided: Decided<J>) -> Option<Ending>
         ensures acts { Acts M.known M.names decided self.old.reading self.old.orders
             self.new.reading self.new.orders }
@@ -630,7 +642,8 @@ where
         ends
     }
 
-    /// A stream begins with the head of a call. A call of a method is to be admitted by the lock.
+    /// A stream begins with the head of a call. If its path names a method, the lock is to admit
+    /// it.
     // (kept out of its caller, whose frame is on the stack of each connection that lives)
     #[inline(never)]
     fn open(
@@ -683,7 +696,7 @@ where
         }
     }
 
-    /// A call isn't admitted. Where that is since the server is to stop, the peer is told of it before.
+    /// A call isn't admitted. If that is because the server drains, GOAWAY is ordered first.
     fn turn_away(&mut self, id: StreamId, fault: AdmitFault) -> Option<Ending>
         ensures reads { (head : Head) (tally : Tally) → MayTurnAway tally.calls true fault
             → ReadsWith M.known M.names tally tally (events.Open id head ∷ []) result
@@ -695,7 +708,7 @@ where
         }
     }
 
-    /// A call isn't admitted since the server is to stop, of which the peer is told before.
+    /// A call isn't admitted because the server drains. GOAWAY is ordered first.
     fn turn_away_drained(&mut self, id: StreamId) -> Option<Ending>
         ensures reads { (head : Head) (tally : Tally)
             → ReadsWith M.known M.names tally tally (events.Open id head ∷ []) result
@@ -779,7 +792,8 @@ where
             .wait_past(&self.rt, mark, Duration::from_millis(STEP));
     }
 
-    /// Has the worker of this number answer a call. Where there is no memory for its lanes the connection ends.
+    /// Hands a call to the worker of this number. Where there is no memory for its lanes the
+    /// connection ends.
     fn engage(&mut self, number: usize, request: Request) -> Option<Ending>
         requires named { M.names request.head.path request.index }
         requires next { IsNext request.id self.old.reading }
@@ -795,7 +809,7 @@ where
         }
     }
 
-    /// Has one worker more.
+    /// Starts one more worker.
     fn hire(&mut self, methods: &Arc<Methods>) -> Result<(), AllocError>
         requires known { IsKnown M.known (λ m. answers (m.vtable, m.value))
             (listed methods.now.value) }
@@ -812,7 +826,8 @@ where
         Ok(())
     }
 
-    /// There is no memory, or no thread, for a call of this method, which was admitted: the connection ends.
+    /// A call of this method was admitted, and there is no memory or no thread for it: the
+    /// connection ends.
     fn lose(&mut self, id: StreamId, method: usize) -> Option<Ending>
         requires next { IsNext id self.old.reading }
         ensures reads { (head : Head) (tally : Tally) → M.names head.path method
@@ -836,7 +851,7 @@ where
         self.act(decided)
     }
 
-    /// DATA came on a stream, so many bytes of it by flow control.
+    /// DATA came on a stream: `flow` bytes of it count for flow control.
     fn data(
         &mut self,
         intake: &mut Intake<A, B, C>,

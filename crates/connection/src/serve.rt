@@ -42,11 +42,13 @@ use std::thread::Threads;
 use std::time::{Clock, Instant};
 use writerloop::{WriterEnding, Written};
 
-/// Serves one connection, and says what became of it. The caller's thread reads; one more writes, and up to 64 answer calls. It
-/// returns once the input has ended, or the connection was ended with an error or drained, and all that could be written was.
+/// Serves one connection, and answers what became of it. The caller's thread reads, one more thread
+/// writes, and up to 64 answer calls. It returns once the input has ended, or the connection ended
+/// with an error or was drained, and all that could be written was.
 ///
-/// Calls are answered by these methods, and go on when this gate lets them. A peer that neither reads nor closes is waited for.
-/// The drainer of the seat ends the connection while calls go on.
+/// These methods answer the calls, which go on when this gate lets them. The function waits for a
+/// peer that neither reads nor closes. The drainer of the seat ends the connection while calls go
+/// on.
 pub fn serve_connection<A, B, C, I, O, G, R>(
     rt: R,
     alloc: Global,
@@ -82,7 +84,7 @@ where
     )
 }
 
-/// The same of a connection that nobody drains.
+/// Serves a connection that nobody drains.
 pub fn serve_undrained<I, O, G, R>(
     rt: R,
     alloc: Global,
@@ -108,7 +110,7 @@ where
     serve_seated::<Brand, Brand, Brand, I, O, G, R>(rt, alloc, blanks, input, output, methods, gate)
 }
 
-/// The same, over these ledgers.
+/// Serves a connection over the ledgers of its seat.
 fn serve_seated<A, B, C, I, O, G, R>(
     rt: R,
     alloc: Global,
@@ -161,7 +163,7 @@ fn unserved<O: Drop>(alloc: Global, output: O) -> Served<O>
 /// The rings between a connection's reader and its writer.
 #[derive(Drop)]
 struct Rings<J: Naming> {
-    /// What the reader has the writer do.
+    /// The reader's orders to the writer.
     orders: (RingIn<Order<J>>, RingOut<Order<J>>),
     /// The senders that go back.
     senders: (RingIn<Returning<J>>, RingOut<Returning<J>>),
@@ -214,7 +216,7 @@ impl<A: Ledger, B: Ledger, C: Ledger, G: Drop> Common<A, B, C, G> {
     }
 }
 
-/// The same, with an empty register.
+/// Serves a connection with an empty register of calls.
 fn serve_named<A, B, C, J, M, I, O, G, R>(
     rt: R,
     alloc: Global,
@@ -258,7 +260,7 @@ where
     )
 }
 
-/// The same, with the rings between its threads.
+/// Serves a connection over the rings between its threads.
 fn serve_over<A, B, C, J, M, N, I, O, G, R>(
     rt: R,
     alloc: Global,
@@ -315,7 +317,8 @@ where
     end(rt, reader, intake, writing, read)
 }
 
-/// A connection that was begun: its reader, the reader's hold on the credit book, and the thread that writes.
+/// A connection that was begun: its reader, the reader's hold on the credit book, and the thread
+/// that writes.
 #[derive(Drop)]
 struct Begun<
     A: Ledger,
@@ -333,7 +336,7 @@ struct Begun<
     writing: WriterHand<C, J, O>,
 }
 
-/// Begins a connection, or serves it to its end where there is no memory for that.
+/// Begins a connection. Without memory for that, it serves the connection to its end.
 // (kept out of its caller, whose frame is on the stack of each connection that lives)
 #[inline(never)]
 fn begin<A, B, C, J, M, N, O, G, R>(
@@ -428,7 +431,7 @@ where
     }
 }
 
-/// Ends a connection that was read so.
+/// Ends a connection after its reader has read to the end.
 #[inline(never)]
 fn end<A, B, C, J, M, N, O, G, R>(
     rt: R,
@@ -450,7 +453,7 @@ where
     requires route { N.ring ≡ Some (out_name writing.promise.orders.value) }
     requires way { out_name reader.reading.home ≡ in_name writing.promise.home.value }
     requires heard { Hears M.known M.names reader.reading reader.orders }
-    // For what was sent, as far as it came home by then, whatever was heard: so it is served.
+    // The connection is served, whatever was heard, for the senders that came back by then.
     ensures served { (sent : List Sent) × AreCarried sent (taken reader.reading.home)
         × ((came : List ℕ) (told : List Step) (read_failed : Bool)
         → HasRead M.known M.names sent read came told reader.reading reader.orders
@@ -467,7 +470,8 @@ where
     meet_writer(reader, written, read)
 }
 
-/// What became of a connection, where its reader meets its writer, and takes the senders back that this had.
+/// What became of a connection: its reader meets its writer, and takes back the senders that the
+/// writer had.
 fn meet_writer<A, B, C, J, M, N, O, G, R>(
     reader: Reader<A, B, C, J, M, N, R, G>,
     written: Written<J, O>,
@@ -508,7 +512,7 @@ where
     meet(read, ending, calls, orders, rx, device)
 }
 
-/// The same by what either saw.
+/// What became of a connection, by what its reader and its writer each saw.
 fn meet<A, B, C, J, N, O>(
     read: Ending,
     written: Option<WriterEnding>,

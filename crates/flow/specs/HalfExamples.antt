@@ -15,7 +15,8 @@ plain kind stream = record { kind = kind; flags = record { bits = 0 }; stream = 
 abbrev pub last : FrameKind → ℕ → FrameHead
 last kind stream = record { kind = kind; flags = record { bits = 1 }; stream = stream; length = 4 }
 
--- streams 1 and 5 are begun, 1 has ended, and 5 was reset by the server; 3 is skipped, HEADERS on it began nothing
+-- streams 1 and 5 are begun, 1 has ended, and the server has reset 5; 3 is skipped, and HEADERS on
+-- it began nothing
 abbrev pub two_streams : List Event
 two_streams = Cut 5 ∷ Received (plain Headers 3) ∷ Received (last Data 1) ∷ Received (plain Headers 5) ∷ Received (plain Headers 1) ∷ []
 

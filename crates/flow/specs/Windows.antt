@@ -1,4 +1,5 @@
--- The windows of what is sent (RFC 9113, section 6.9): that of the connection, and one for each open stream.
+-- The windows of what is sent (RFC 9113, section 6.9): that of the connection, and one for each
+-- open stream.
 use Rattle.std.specs.Prelude.{◌≡◌, ℕ, ◌+◌, ◌<◌, ◌≤◌, ◌^◌, min, ℤ, pos, negsuc, ◌+ℤ◌, ◌≤ℤ◌, ◌<ℤ◌, List, [], ◌∷◌, ◌++◌, All, Option, Some, None, MatchOption, Result, Ok, Err, nat_eq, ◌⊎◌, is_some, false}
 use Rattle.std.specs.Option.{option_map}
 use Rattle.std.specs.Map.{lookup, set_value, remove_entry, values_of}
@@ -18,7 +19,8 @@ pub record Shared : Type 0 where
   pub connection : ℕ
   pub initial : ℕ
 
--- and for each open stream its balance: what was credited less what was spent since it was opened
+-- what all streams share, and for each open stream its balance: what was credited less what was
+-- spent since it was opened
 pub record Windows : Type 0 where
   pub connection : ℕ
   pub initial : ℕ
@@ -92,16 +94,17 @@ SpendFault w id n NoRoom = MatchOption (window w id) ⊥ (λ size. lesser w.conn
 SpendFault w id n Overflow = ⊥
 SpendFault w id n OutOfMemory = ⊥
 
--- an answer is the fault that stands, and is none exactly where none stands
+-- an answer is the fault that holds, and is Ok exactly where none holds
 abbrev pub Meets : (WindowFault → Type 0) → Result (Unit {0}) WindowFault → Type 0
 Meets Stands (Ok _) = (fault : WindowFault) → ¬ Stands fault
 Meets Stands (Err fault) = Stands fault
 
--- a balance with which the window is lawful, and which no spending passes
+-- a balance with which the window is lawful, and that is at least -2^31 - 1: no spending takes it
+-- lower
 abbrev pub IsBalance : ℕ → ℤ → Type 0
 IsBalance initial b = Fits (pos initial +ℤ b) × (negsuc (2 ^ 31) ≤ℤ b)
 
--- what is true of the windows at any time; the connection isn't among the streams
+-- what always holds of the windows; the connection isn't among the streams
 pub record IsWithin (connection initial : ℕ) (balances : List (ℕ × ℤ)) : Type 0 where
   pub connection_fits : connection ≤ MAX_WINDOW
   pub initial_fits : initial ≤ MAX_WINDOW

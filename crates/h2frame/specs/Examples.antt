@@ -9,11 +9,12 @@ use Rattle.h2frame.specs.Spelling.{head_text, spelling}
 pub ping_head : head_text 0 (record { kind = Ping; flags = record { bits = 1 }; stream = 0; length = 8 }) ≡ 0 ∷ 0 ∷ 8 ∷ 6 ∷ 1 ∷ 0 ∷ 0 ∷ 0 ∷ 0 ∷ []
 ping_head = refl
 
--- the reserved bit stands before the stream's first bit
+-- the reserved bit comes before the stream's first bit
 pub reserved_head : head_text 1 (record { kind = Data; flags = record { bits = 0 }; stream = 5; length = 16384 }) ≡ 0 ∷ 64 ∷ 0 ∷ 0 ∷ 0 ∷ 128 ∷ 0 ∷ 0 ∷ 5 ∷ []
 reserved_head = refl
 
--- HEADERS of one byte, behind two bytes of padding's length and priority, and before the padding
+-- HEADERS with a content of one byte, after the padding's length and the priority, and before the
+-- padding
 pub padded_headers : spelling (record { head = record { kind = Headers; flags = record { bits = 0x2c }; stream = 1; length = 9 }; content = 0x82 ∷ [] })
     (record { reserved = 0; priority = 0 ∷ 0 ∷ 0 ∷ 3 ∷ 16 ∷ []; padding = 0 ∷ 0 ∷ [] })
     ≡ 0 ∷ 0 ∷ 9 ∷ 1 ∷ 0x2c ∷ 0 ∷ 0 ∷ 0 ∷ 1 ∷ 2 ∷ 0 ∷ 0 ∷ 0 ∷ 3 ∷ 16 ∷ 0x82 ∷ 0 ∷ 0 ∷ []

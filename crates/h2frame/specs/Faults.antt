@@ -12,7 +12,7 @@ use Rattle.h2frame.specs.declared.kind.FrameKind.{FrameKind}
 use Rattle.h2frame.specs.declared.kind.FrameKind.TheVariants.{Data, Headers, Priority, RstStream, Settings, PushPromise, Ping, GoAway, WindowUpdate, Continuation, Unknown}
 use Rattle.h2frame.specs.Flags.{has, ack, is_padded, has_priority}
 
--- SETTINGS_MAX_FRAME_SIZE as it is until a peer is told otherwise (section 4.2)
+-- SETTINGS_MAX_FRAME_SIZE as it is until SETTINGS change it (section 4.2)
 abbrev pub max_payload : ℕ
 max_payload = 16384
 
@@ -30,7 +30,8 @@ may_be_on WindowUpdate stream = true
 may_be_on Continuation stream = nat_lt 0 stream
 may_be_on (Unknown code) stream = true
 
--- the bytes of a payload before its content: the length of the padding, and the priority (sections 6.1 and 6.2)
+-- the bytes of a payload before its content: the length of the padding, and the priority (sections
+-- 6.1 and 6.2)
 abbrev pub overhead : FrameHead → ℕ
 overhead head = (if is_padded head then 1 else 0) + (if has_priority head then 5 else 0)
 
@@ -56,7 +57,7 @@ head_fault head =
     (if may_have_length head.kind head then None else Some BadLength)
     else Some WrongStream)
 
--- the increment of a WINDOW_UPDATE's content: 31 bits behind one that is ignored (section 6.9)
+-- the increment of a WINDOW_UPDATE's content: 31 bits after one that is ignored (section 6.9)
 abbrev pub increment_of : List ℕ → ℕ
 increment_of content = from_be_bytes w32 content % 2 ^ 31
 
@@ -69,7 +70,7 @@ abbrev pub frame_fault : Frame → Option FrameFault
 frame_fault frame = option_or (head_fault frame.head)
     (if lacks_increment frame.head.kind frame.content then Some (ZeroIncrement frame.head.stream) else None)
 
--- the error that a fault is to the peer (RFC 9113, sections 4.2 and 6)
+-- the error code of a fault (RFC 9113, sections 4.2 and 6)
 abbrev pub fault_error : FrameFault → ErrorCode
 fault_error TooLong = FrameSizeError
 fault_error BadLength = FrameSizeError

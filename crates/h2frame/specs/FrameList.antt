@@ -8,7 +8,8 @@ use Rattle.h2frame.specs.Flags.{is_padded, has_priority}
 use Rattle.h2frame.specs.Faults.{overhead, head_fault, frame_fault}
 use Rattle.h2frame.specs.Spelling.{Skipped, IsHead, Fits, head_text, spelling}
 
--- a frame, or the stream of a WINDOW_UPDATE without an increment, which is an error of that stream alone
+-- a frame, or the stream of a WINDOW_UPDATE without an increment, which is an error of that stream
+-- alone
 pub data Entry : Type 0 where
   Whole : Frame → Entry
   NoIncrement : ℕ → Entry
@@ -34,16 +35,16 @@ BeginsWith bytes head after = (reserved : ℕ) × (reserved < 2) × IsHead head 
 abbrev pub IsUnfinished : List ℕ → Type 0
 IsUnfinished bytes = (length bytes < 9) ⊎ ((head : FrameHead) × (after : List ℕ) × BeginsWith bytes head after × (head_fault head ≡ None) × (length after < head.length))
 
--- the fault stands as soon as its head is there
+-- a head has this fault, which counts as soon as the head is there
 abbrev pub HasFaultyHead : FrameFault → List ℕ → Type 0
 HasFaultyHead fault bytes = (head : FrameHead) × (after : List ℕ) × BeginsWith bytes head after × (head_fault head ≡ Some fault)
 
--- more padding than bytes are left: it stands when the payload is whole
+-- more padding than bytes are left: it counts once the payload is whole
 abbrev pub IsOverpadded : List ℕ → Type 0
 IsOverpadded bytes = (head : FrameHead) × (padding : ℕ) × (after : List ℕ) × BeginsWith bytes head (padding ∷ after) × (head_fault head ≡ None)
     × (is_padded head ≡ true) × (head.length ≤ length (padding ∷ after)) × (head.length < overhead head + padding)
 
--- what no entry can begin with, and how far it has come doesn't matter
+-- no entry can begin with these bytes, however they go on
 abbrev pub IsFaulty : FrameFault → List ℕ → Type 0
 IsFaulty TooLong bytes = HasFaultyHead TooLong bytes
 IsFaulty WrongStream bytes = HasFaultyHead WrongStream bytes
@@ -63,11 +64,11 @@ FrameList bytes entries end = (rest : List ℕ) × Joined bytes entries rest × 
 
 -- ---- a reader's answers
 
--- what each frame that is read has
+-- what holds of each frame that is read
 pub record IsLawful (frame : Frame) : Type 0 where
   pub head : IsHead frame.head
   pub fault : frame_fault frame ≡ None
-  -- all of the payload is content, where nothing is skipped
+  -- all of the payload is content, if nothing is skipped
   pub whole : is_padded frame.head ≡ false → has_priority frame.head ≡ false → length frame.content ≡ frame.head.length
   pub within : overhead frame.head + length frame.content ≤ frame.head.length
 
@@ -75,7 +76,7 @@ pub record IsLawful (frame : Frame) : Type 0 where
 abbrev pub StandsAt : Entry → List ℕ → Type 0
 StandsAt entry bytes = (rest : List ℕ) × Joined bytes (entry ∷ []) rest
 
--- the entry that an answer is, where it is one
+-- the entry that an answer is, if it is one
 abbrev pub refused : FrameFault → List Entry
 refused (ZeroIncrement stream) = if stream == 0 then [] else NoIncrement stream ∷ []
 refused _ = []
@@ -85,7 +86,8 @@ answered None = []
 answered (Some (Ok frame)) = Whole frame ∷ []
 answered (Some (Err fault)) = refused fault
 
--- why a fault is answered: it stands in the bytes, or a frame does for whose content, which isn't empty, there is no memory
+-- why a fault is answered: the bytes have it; or they have a frame for whose content, which isn't
+-- empty, there is no memory
 abbrev pub HasCause : FrameFault → List ℕ → Type 0
 HasCause OutOfMemory bytes = (frame : Frame) × StandsAt (Whole frame) bytes × (0 < length frame.content)
 HasCause (ZeroIncrement stream) bytes = StandsAt (NoIncrement stream) bytes ⊎ IsFaulty (ZeroIncrement stream) bytes

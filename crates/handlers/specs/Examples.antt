@@ -16,9 +16,9 @@ use Rattle.handlers.specs.Requests.{known_code, is_size, judge_simple}
 use Rattle.handlers.specs.Answers.{AnswersSingle, AnswersFull, AnswersHalf, AnswersSum}
 use Rattle.handlers.specs.Replies.{reply_bytes}
 
--- ---- the causes, in their order
+-- ---- the causes, in order
 
--- a request that nothing is right with, but for what is given here
+-- a request in which all is wrong but what is given here
 abbrev pub wrong_request : Option BoolValue → Option EchoStatus → ℤ → SimpleRequest
 wrong_request expected asked kind = record {
   response_type = kind;

@@ -1,4 +1,5 @@
--- The bytes of a reply: the canonical spelling of the response message (messages.proto and empty.proto of grpc.testing).
+-- The bytes of a reply: the canonical spelling of the response message (messages.proto and
+-- empty.proto of grpc.testing).
 use Rattle.std.specs.Prelude.{◌≡◌, ◌≤◌, length, ℕ, zero, suc, ℤ, pos, List, [], ◌++◌, replicate, Some, refl}
 use Rattle.pbwire.specs.Spelling.{varint_spelling, spelling_of_all}
 use Rattle.testproto.specs.declared.messages.Payload.{Payload}
@@ -24,7 +25,7 @@ reply_bytes Empty = []
 reply_bytes (Zeros size) = spelling_of_all (streaming_output_call_response_fields (output_response size))
 reply_bytes (Sum value) = spelling_of_all (streaming_input_call_response_fields (input_response value))
 
--- how many zeros a payload ends the message with
+-- with how many zeros of a payload the message ends
 abbrev pub zero_count : Reply → ℕ
 zero_count Empty = 0
 zero_count (Zeros size) = size
@@ -45,7 +46,7 @@ front_bytes (Sum value) = reply_bytes (Sum value)
 abbrev pub IsShort : Reply → Type 0
 IsShort reply = length (reply_bytes reply) ≤ 4194304
 
--- a SimpleResponse with that payload and neither name nor scope is spelled the same
+-- a SimpleResponse with that payload and neither name nor scope has the same spelling
 abbrev pub simple_response : ℕ → SimpleResponse
 simple_response size = record { payload = Some (zero_payload size); username = []; oauth_scope = [] }
 

@@ -1,6 +1,7 @@
--- How one request is judged (gRPC's interop-test-descriptions.md; where it is silent, our own rules).
--- A verdict on bytes is one that follows from a message that they are, or from there being none. A second message of a
--- method that takes one, and what stands behind a request that ends the call, need no verdict.
+-- How one request is judged (gRPC's interop-test-descriptions.md; where it is silent, our own
+-- rules). A verdict on bytes follows from the message that they are, or from their being none. A
+-- second message to a method that takes one, and what follows a request that ends the call, need no
+-- verdict.
 use Rattle.std.specs.Prelude.{◌≡◌, ℕ, ℤ, pos, negsuc, zero, suc, Bool, true, false, if◌then◌else◌, List, [], ◌∷◌, map, length, Option, Some, None, Result, Ok, Err, nat_le, unwrap_or}
 use Rattle.grpc_status.specs.declared.StatusCode.{StatusCode}
 use Rattle.grpc_status.specs.declared.StatusCode.TheVariants.{Unknown}
@@ -24,12 +25,13 @@ use Rattle.handlers.specs.Statuses.{status, status_of}
 
 -- ---- reading
 
--- the message that the bytes are, or none where they are no message
+-- the message that the bytes are, or none if they are no message
 abbrev pub IsRead : {M : Type 0} → (Field → Type 0) → (List Field → M → Type 0) → List ℕ → Option M → Type 0
 IsRead accepts is_value bytes (Some message) = IsValueOf accepts is_value bytes message
 IsRead {M} accepts is_value bytes None = (message : M) → IsValueOf accepts is_value bytes message → ⊥
 
--- The verdict on a request: a status that ends the call, or what it asks for. A malformed one ends the call.
+-- The verdict on a request: a status that ends the call, or what the request asks for. A malformed
+-- request ends the call.
 abbrev pub verdict : {M A : Type 0} → (M → Result A Status) → Option M → Result A Status
 verdict judge None = Err (status_of MalformedMessage)
 verdict judge (Some message) = judge message
@@ -67,7 +69,7 @@ abbrev pub zeros : ℤ → Reply
 zeros (pos size) = Zeros size
 zeros (negsuc size) = Zeros 0
 
--- ---- the causes, in their order
+-- ---- the causes, in order
 
 abbrev pub unless_compressed : {A : Type 0} → Option BoolValue → Result A Status → Result A Status
 unless_compressed expected others = if is_true expected then Err (status_of NotCompressed) else others

@@ -22,11 +22,11 @@ abbrev pub status_or_ok : Option Status → Status
 status_or_ok None = ok_status
 status_or_ok (Some status) = status
 
--- an answer whose end was told has a status: the one that there is, or OK
+-- at the end an answer has a status: the one that there is, or OK
 abbrev pub finished : Step → Step
 finished step = ending step.replies (status_or_ok step.ends)
 
--- a status once there stays
+-- the first status stays
 abbrev pub first_status : Option Status → Option Status → Option Status
 first_status None later = later
 first_status (Some status) later = Some status

@@ -1,6 +1,7 @@
 //! The methods of a server.
 //!
-//! In a contract they are their list. Who found an index calls the method at it, by `first`, `message` and `end`.
+//! In a contract they are their list. A caller who found an index calls the method at it by
+//! `first`, `message` and `end`.
 
 ghost use Rattle.std.specs.Prelude.{◌≡◌, ◌≢◌, ◌<◌, ◌++◌, ◌∷◌, [], List, ℕ, true, false, length, IfSome, IfNone, IfOk, OnOk, IsSome, slice_get, option_copied};
 ghost use Rattle.std.specs.List.{HoldsAt, AllWithin};
@@ -23,7 +24,7 @@ pub struct Methods {
 }
 
 impl Methods {
-    /// Takes no memory.
+    /// It takes no memory.
     pub fn new(methods: Vec<Box<dyn Method>>) -> Methods
         ensures { listed result ≡ methods.items }
     {
@@ -70,7 +71,9 @@ impl Methods {
         first_of(method)
     }
 
-    /// Has the method at this index take the next message of a call.
+    /// Has the method at this index take the next message of a call. The step has what the method
+    /// answers to the messages with this one, less what it gave before. A state that has ended
+    /// gives nothing more.
     pub fn message(
         &self,
         alloc: Global,
@@ -95,7 +98,7 @@ impl Methods {
         message_of(method, alloc, state, message)
     }
 
-    /// Tells the method at this index that no message of a call follows.
+    /// Ends a call's messages for the method at this index: none follows.
     pub fn end(
         &self,
         alloc: Global,

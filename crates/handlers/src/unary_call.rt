@@ -1,4 +1,4 @@
-//! UnaryCall and CacheableUnaryCall: one request, answered by one payload of the length that it asks for.
+//! UnaryCall and CacheableUnaryCall: one request, and one payload of the length that it asks for.
 
 ghost use Rattle.std.specs.Prelude.{◌≡◌, ◌++◌, ◌∷◌, [], List, ℕ, true, false, IfOk, OnOk, IsSome, codes};
 ghost use Rattle.handlers.specs.declared.step.Step.{Step as Given};

@@ -55,7 +55,8 @@ AreUpdates table text (new_limit ∷ limits) next =
     × (text ≡ first ++ rest) × IsInteger 5 32 first new_limit × (new_limit ≤ 4096)
     × AreUpdates (resize table new_limit) rest limits next
 
--- Over the table the block spells these fields and leaves the next table: changes of size, and then fields.
+-- Over the table the block spells these fields and leaves the next table: changes of size, and then
+-- fields.
 pub record IsBlock (table : Table) (block : List ℕ) (fields : List Field) (next : Table) : Type 0 where
   pub limits : List ℕ
   pub updates : List ℕ

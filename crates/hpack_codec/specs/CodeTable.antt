@@ -1,4 +1,5 @@
--- The tables that Huffman's code is read and written by, and that they are that code: a test that is computed.
+-- The tables by which Huffman's code is read and written, and a computed test that they are that
+-- code.
 use Rattle.std.specs.Prelude.{ℕ, zero, suc, ◌+◌, ◌-◌, Bool, true, false, ◌&&◌, ◌||◌, nat_lt, nat_le, ◌==◌, List, [], ◌∷◌, length, slice_index}
 use Rattle.hpack_codec.specs.declared.huffman.Codes.{Codes}
 use Rattle.hpack_codec.specs.Huffman.{code_length, code_number}
@@ -24,7 +25,7 @@ abbrev pub are_rows : List ℕ → List Codes → Bool
 are_rows symbols [] = true
 are_rows symbols (row ∷ rows) = is_row symbols row && are_rows symbols rows
 
--- the rows stand by ascending length
+-- the rows are in the order of their lengths
 abbrev pub is_least : Codes → List Codes → Bool
 is_least row [] = true
 is_least row (next ∷ rows) = nat_le row.len next.len && is_least row rows
@@ -40,7 +41,7 @@ is_covered (row ∷ rows) symbol =
     ((row.len == code_length symbol) && (nat_le row.first (code_number symbol) && nat_lt (code_number symbol) row.above))
     || is_covered rows symbol
 
--- Each row is right, they stand in order, and each byte is in one.
+-- Each row is right, the rows are in order, and each byte is in one.
 unfoldable pub is_code_table : List Codes → List ℕ → Bool
 is_code_table rows symbols =
     are_rows symbols rows && (are_ascending rows && each_below 256 (is_covered rows))

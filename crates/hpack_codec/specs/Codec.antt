@@ -13,12 +13,13 @@ Reads (Some table) block fields (Some next) = IsBlock table block fields next ×
 Reads (Some table) block fields None = ⊥
 Reads None block fields kept = ⊥
 
--- The fault is the first from the left that stands in the block over the table that is kept.
+-- The fault is the first from the left in the block, over the table that is kept.
 abbrev pub IsFirstFault : HpackFault → Option Table → List ℕ → Type 0
 IsFirstFault fault (Some table) block = Stands fault table block
 IsFirstFault fault None block = fault ≡ Dead
 
--- What an encoder keeps: the table that its blocks led to, and the least limit set since then, or the table's.
+-- What an encoder keeps: the table that its blocks led to, and the least limit set since then, or
+-- the table's.
 pub record Encoding : Type 0 where
   pub table : Table
   pub least : ℕ
@@ -50,7 +51,8 @@ abbrev pub encoding_of : Option Table → ℕ → Option Encoding
 encoding_of None least_limit = None
 encoding_of (Some table) least_limit = Some (record { table = table; least = least_limit })
 
--- A field of this name never becomes an entry: its value is a text that a request may have said, or an application's bytes.
+-- A field of this name never becomes an entry: its value is a text that a request may have said, or
+-- an application's bytes.
 abbrev pub IsPrivate : List ℕ → Type 0
 IsPrivate name = (name ≡ codes "grpc-message") ⊎ ((front : List ℕ) × (name ≡ front ++ codes "-bin"))
 

@@ -23,7 +23,7 @@ unfoldable pub flags_of : ℕ → List ℕ → ℕ
 flags_of prefix_bits [] = 0
 flags_of prefix_bits (first ∷ rest) = first / 2 ^ prefix_bits * 2 ^ prefix_bits
 
--- The bytes behind a greatest prefix: up to the first without the top bit they say the number.
+-- The bytes after a prefix of all ones: up to the first without the top bit they say the number.
 pub record TakesMore (bytes : List ℕ) (number : ℕ) (rest : List ℕ) : Type 0 where
   pub front : List ℕ
   pub last : ℕ
@@ -33,7 +33,7 @@ pub record TakesMore (bytes : List ℕ) (number : ℕ) (rest : List ℕ) : Type 
   pub at_most_five : length front < 5
   pub sum : number ≡ base_128 (front ++ last ∷ [])
 
--- They end before such a byte, or there is none among five.
+-- The bytes end before a byte without the top bit, or none of the first five is one.
 abbrev pub IsMoreFault : HpackFault → List ℕ → Type 0
 IsMoreFault Truncated bytes = IsUnfinished bytes × (length bytes < 5)
 IsMoreFault Integer bytes =
@@ -85,7 +85,7 @@ IsTextFault Huffman text = (octets : List ℕ) → IsHuffman text octets → ⊥
 IsTextFault OutOfMemory text = Unit {0}
 IsTextFault other text = ⊥
 
--- A fault that stands, or out of memory.
+-- A fault of the bytes, or out of memory.
 abbrev pub OrMemory : HpackFault → Type 0 → Type 0
 OrMemory OutOfMemory Fault = Unit {0}
 OrMemory other Fault = Fault
@@ -106,7 +106,7 @@ TakesIndexed table bytes field rest =
     (text : List ℕ) × (bytes ≡ text ++ rest)
     × ((index : ℕ) × IsInteger 7 128 text index × (entry_at table index ≡ Some field))
 
--- the table behind a field that becomes an entry, or doesn't
+-- the table after a field that becomes an entry, or doesn't
 abbrev pub next_table : Bool → Table → Field → Table
 next_table true table field = insert_entry table field
 next_table false table field = table
@@ -118,7 +118,7 @@ pub record TakesField (table : Table) (bytes : List ℕ) (field : Field) (is_ent
   pub represents : Represents table text field (next_table is_entry table field)
   pub shorter : length rest < length bytes
 
--- where a representation of a field has to stand; a change of size is none
+-- the fault where a representation of a field has to be; a change of size isn't one
 abbrev pub IsFieldFault : HpackFault → Table → List ℕ → Type 0
 IsFieldFault fault table bytes =
     (Begins 128 256 bytes × IsIndexedFault fault table bytes)
@@ -127,7 +127,7 @@ IsFieldFault fault table bytes =
     ⊎ (Begins 0 16 bytes × IsLiteralFault fault 4 0 table bytes)
     ⊎ (Begins 32 64 bytes × (fault ≡ SizeUpdate))
 
--- behind fields of lawful size
+-- the fault after fields of lawful size
 pub record FaultBehind (fault : HpackFault) (table : Table) (bytes : List ℕ) : Type 0 where
   pub front : List ℕ
   pub rest : List ℕ

@@ -23,10 +23,12 @@ use std::marker::Model;
 /// The sizes that the fields of a block may have together.
 const MAX_SIZES: usize = 65536;
 
-/// For how many fields a block's memory is taken at once, if it has as many bytes: no field has none.
+/// For how many fields a block's memory is taken at once, if it has as many bytes: no field has
+/// none.
 const MOST_AT_ONCE: usize = 16;
 
-/// Reads the blocks of one connection in their order. A clause sees the dynamic table, and none once it is dead.
+/// Reads the blocks of one connection in order. A clause sees the dynamic table, and none once it
+/// is dead.
 #[derive(Drop)]
 pub struct Decoder {
     alloc: Global,
@@ -92,7 +94,7 @@ impl Decoder {
     }
 }
 
-/// Makes the changes of size that a block begins with, and answers what is behind them.
+/// Makes the changes of size with which a block begins, and answers what follows them.
 fn updates<'b>(table: &mut DynamicTable, block: &'b [u8]) -> Result<&'b [u8], HpackFault>
     ensures ok { IfOk result (λ rest. TakesUpdates table.old block.now table.new rest.now) }
     ensures err { IfErr result (λ fault. IsUpdatesFault fault table.old block.now) }
@@ -163,7 +165,7 @@ fn keep(
     Ok(())
 }
 
-/// The first field, whether it becomes an entry, and the bytes behind it.
+/// The first field, whether it becomes an entry, and the bytes after it.
 fn field_at<'b>(
     alloc: Global,
     table: &DynamicTable,

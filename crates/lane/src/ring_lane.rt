@@ -1,13 +1,14 @@
-//! A lane over a ring, which the reader empties for the writer, and over a second, larger one once more items wait than
-//! the first has places for.
+//! A lane over a ring, and over a second, larger one once more items wait than the first has places
+//! for.
 //!
-//! The writer keeps one place of the first ring free, for the last item or for the way on: the reading end of the second
-//! ring. So `last` always finds a place, and the reader needs no memory.
+//! The writer keeps one place of the first ring free, for the last item or for the way on, which is
+//! the reading end of the second ring. So `last` always finds a place, and the reader needs no
+//! memory.
 //!
-//! `polled`: an item has to be moved out before its place is free, and a reference to it is answered: so it lives in the
-//! reading end until the next poll that finds one.
+//! An item has to be moved out of the ring before its place is free, and `poll` answers a reference
+//! to it. So the item stays in the reading end (`polled`) until the next poll that finds one.
 //!
-//! `meet`: not in the trait, since a `RowLane` can't answer it.
+//! `meet` isn't in the trait, since a `RowLane` can't answer it.
 ghost use Rattle.std.specs.Prelude.{◌≡◌, ◌+◌, ◌<◌, ◌≤◌, ◌^◌, ◌++◌, min, true, length};
 ghost use Rattle.std.specs.Coded.{Coded-set, coded_option};
 ghost use Rattle.rtrb.specs.Ring.{sent, known_free, producer_capacity, received};
@@ -35,14 +36,14 @@ use std::alloc::{AllocError, Global};
 use std::marker::PhantomData;
 use step::Step;
 
-/// How many places a first ring has at most. So a lane with room for 16 items has no second one.
+/// How many places a first ring has at most. So a lane with room for 16 items has no second ring.
 const FIRST_PLACES: usize = 17;
 
 /// The writing end of a `RingLane`.
 #[derive(Drop)]
 pub struct RingLaneIn<T> {
     first: Producer<Step<T>>,
-    // Where the writer went on to it.
+    // The second ring, once the writer went on to it.
     second: Option<SecondIn<T>>,
     room: usize,
     // How many items went through the first ring.
@@ -78,23 +79,23 @@ pub struct RingLaneShut<T> {
 #[derive(Drop)]
 pub struct RingLaneOut<T> {
     first: Consumer<Step<T>>,
-    // Where the way on was taken.
+    // The second ring, once the way on was taken.
     second: Option<SecondOut<T>>,
     room: usize,
     // How many items came through the first ring.
     count: u64,
-    // The item that was got last, which the caller may still look at.
+    // The last item that was got, which the caller may still look at.
     polled: Option<T>,
     ghost counted: { count ≡ count_of (pieces (received first)) },
     ghost linked: { Linked second_out_name (λ fresh. second_out_name fresh.out.value) (link (received first)) second } by { Linked-prop second_out_name (λ fresh. second_out_name fresh.out.value) RingName_set (link (received first)) second },
     ghost kept: { polled ≡ last_of (pieces (received first) ++ of_second second_got second) } by { Coded-set (coded_option T.code) polled (last_of (pieces (received first) ++ of_second second_got second)) },
 }
 
-/// A lane over a ring of 17 places, or of `room + 1` where that is less, and over a ring of `room + 1` places once 16 items
-/// wait in the first and there is room for more.
+/// A lane over a ring of 17 places, or of `room + 1` if that is less; and over a ring of `room + 1`
+/// places once 16 items wait in the first and there is room for more.
 ///
-/// `put` takes memory for the second ring alone, once for a lane, and never where the room is 16 or less. It has room again
-/// as items are got.
+/// `put` takes memory only for the second ring, once, and never where the room is 16 or less. It
+/// has room again as items are got.
 pub struct RingLane<T> {
     marker: PhantomData<T>,
 }
@@ -267,8 +268,8 @@ impl<T: Drop> RingLane<T> {
     ghost use mathlib.Core.List.{IsPrefix};
     ghost use Rattle.lane.specs.RingLane.{in_name, out_name, put_in, seen_taken, got, ahead};
 
-    /// What was got, and then as many items as it answers, which `poll` gives from now on, begin what was put. Where it answers
-    /// 0 all was got.
+    /// How many items `poll` gives for sure from now on. What was got and then these items begin
+    /// what was put. At 0 all was got.
     pub fn meet(tx: &mut RingLaneIn<T>, rx: &mut RingLaneOut<T>) -> u64
         requires { in_name tx.old ≡ out_name rx.old }
         ensures writer { (in_name tx.new ≡ in_name tx.old) × (put_in tx.new ≡ put_in tx.old) }

@@ -1,4 +1,5 @@
--- How far the message at the front of some bytes goes. The words of the crate's own functions.
+-- How far the message at the front of some bytes goes. Only the crate's own functions use these
+-- words.
 use Rattle.std.specs.Prelude.{◌≡◌, ℕ, ◌+◌, ◌*◌, ◌<◌, ◌≤◌, ◌==◌, nat_lt, if◌then◌else◌, List, [], ◌∷◌, ◌++◌, length, take, drop, Result, Ok, Err}
 use Rattle.std.specs.List.{concat}
 use Rattle.lpm.specs.declared.fault.LpmFault.{LpmFault}
@@ -7,7 +8,8 @@ use Rattle.lpm.specs.declared.splitter.Split.{Split}
 use Rattle.lpm.specs.declared.splitter.Split.TheVariants.{Message, More, Fault}
 use Rattle.lpm.specs.Messages.{max_message_len, frame, announced, IsMessage, IsUnfinished, IsFaulty}
 
--- how many bytes the message at the front has with its prefix, as far as these bytes say, or what is wrong with it
+-- how many bytes the message at the front has with its prefix, as far as these bytes say, or its
+-- fault
 unfoldable pub extent_of : List ℕ → Result ℕ LpmFault
 extent_of [] = Ok 5
 extent_of (flag ∷ bytes) =
@@ -26,7 +28,7 @@ abbrev pub IsExtent : List ℕ → Result ℕ LpmFault → Type 0
 IsExtent bytes (Ok len) = Extends bytes len
 IsExtent bytes (Err fault) = IsFaulty bytes fault
 
--- the message of len bytes with its prefix leaves the front, or memory was wanting
+-- the message of len bytes with its prefix leaves the front, or there was no memory
 abbrev pub TakesFront : List ℕ → ℕ → Split → List ℕ → Type 0
 TakesFront old len (Message message) new = (message ≡ drop 5 (take len old)) × (new ≡ drop len old)
 TakesFront old len More new = ⊥

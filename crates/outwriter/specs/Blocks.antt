@@ -14,7 +14,7 @@ frame_of block =
     if block.begun then continuation_frame block.id (is_short block) (take 16384 block.rest)
     else headers_frame block.id block.ends (is_short block) (take 16384 block.rest)
 
--- the block behind that frame
+-- the block after that frame
 abbrev pub rest_of : HeaderBlock → Option HeaderBlock
 rest_of block =
     if is_short block then None else Some (record { id = block.id; ends = block.ends; begun = true; rest = drop 16384 block.rest })

@@ -1,4 +1,4 @@
--- What a writer keeps of its calls follows from its run.
+-- How what a writer keeps of its calls follows from its run.
 use Rattle.std.specs.Prelude.{◌≡◌, ◌≢◌, ◌⊎◌, ◌||◌, ◌&&◌, not, ℕ, ◌==◌, ◌<◌, Bool, true, false, All, List, [], ◌∷◌, ◌++◌, map, length, get_or, Option, None, Some, is_some}
 use Rattle.std.specs.List.{list_any}
 use Rattle.account.specs.Accounts.{Begins}
@@ -27,17 +27,20 @@ abbrev pub bytes_marks : Option (List ℕ) → List Mark
 bytes_marks None = []
 bytes_marks (Some bytes) = map Byte bytes
 
--- the call at an open stream's place is the stream's; what was told of it, with what is in hand, is all that its items spell
+-- the call at an open stream's place is the stream's; what was written of it, with what is in hand,
+-- is all that its items spell
 abbrev pub IsExact : ℕ → OpenStream → List (ℕ × List OutItem) → List Mark → Type 0
 IsExact id stream calls told = (stream.place < length calls)
     × ((d : ℕ × List OutItem) → ((get_or calls stream.place d).0 ≡ id)
     × (told ++ bytes_marks stream.in_hand ≡ spelled (get_or calls stream.place d).1))
 
--- what was told on a stream that isn't open begins what the items spell, with a reset behind it only where one was written
+-- what was written on a stream that isn't open begins what the items spell, and then a reset only
+-- where one was written
 abbrev pub IsEnded : Option Bool → List Mark → List OutItem → Type 0
 IsEnded over told items = IsFrontOf told (spelled items) × (over ≢ Some true → Begins told (spelled items))
 
--- nothing was told of a stream that is no call's before it was over; and no more than a reset, or a refusal that was asked for
+-- nothing was written on a stream of no call before it was over, and then no more than a reset, or
+-- a refusal that was asked for
 abbrev pub IsUncalled : ℕ → List Step → Option Bool → List Mark → Type 0
 IsUncalled id run over told = (over ≡ None → told ≡ []) × IsOther id run told
 
@@ -45,7 +48,7 @@ IsUncalled id run over told = (over ≡ None → told ≡ []) × IsOther id run 
 abbrev pub has_reason : ℕ → List Step → Bool
 has_reason id run = is_called_off id run || is_dropped id run
 
--- what is due of a stream that was refused or reset
+-- what may be due on a stream: it was refused or reset
 abbrev pub MayBeDue : List Step → Outbound → OpenStreams → Due → Type 0
 MayBeDue run o streams (due_kind.Refuse id fields) = (is_fresh id run ≡ false) × (is_served id run ≡ false) × (streams id ≡ None)
     × (is_heard o.states id ≡ true) × IsRefused id fields run × (has_reason id run ≡ true)
@@ -54,7 +57,7 @@ MayBeDue run o streams _ = Unit {0}
 
 -- ---- how streams end
 
--- the end of a stream, as it is due: a Refuse of one that was reset isn't written any more
+-- the end of a stream that is due: a Refuse of one that was reset isn't written any more
 abbrev pub is_due_of : States → ℕ → Due → Bool
 is_due_of owed id (due_kind.Reset stream code) = id == stream
 is_due_of owed id (due_kind.Refuse stream fields) = (id == stream) && not (is_reset owed stream)
@@ -64,7 +67,7 @@ is_due_of owed id _ = false
 abbrev pub IsEnding : ℕ → Outbound → Type 0
 IsEnding id o = (is_some (over_on o.states id) ≡ true) ⊎ (list_any (is_due_of o.states id) o.due.items ≡ true)
 
--- so it is of each stream that was called off, unless it was dropped
+-- the end of each stream that was called off was written or is due, unless the stream was dropped
 abbrev pub HeedsEnds : List Step → Outbound → Type 0
 HeedsEnds run o = (id : ℕ) → is_stream id ≡ true → is_called_off id run ≡ true → IsEnding id o ⊎ (is_dropped id run ≡ true)
 
@@ -72,7 +75,7 @@ HeedsEnds run o = (id : ℕ) → is_stream id ≡ true → is_called_off id run 
 abbrev pub HeedsOpen : List Step → OpenStreams → Type 0
 HeedsOpen run streams = (id : ℕ) → is_some (streams id) ≡ true → was_reset id run ≡ false
 
--- one that was is heard of
+-- a stream that was reset is heard of
 abbrev pub HeedsHeard : List Step → Outbound → Type 0
 HeedsHeard run o = (id : ℕ) → is_stream id ≡ true → was_reset id run ≡ true → is_heard o.states id ≡ true
 
@@ -86,28 +89,29 @@ AreOver o dues = (id : ℕ) → is_stream id ≡ true → list_any (is_due_of o.
 
 -- ---- all of them
 
--- The streams of a writer, of which its frames tell these marks: those that are open, and the calls in the order of their Opens.
+-- The streams of a writer, whose frames have these marks: those that are open, and the calls in the
+-- order of their Opens.
 pub record Serves (run : List Step) (o : Outbound) (streams : OpenStreams) (calls : List (ℕ × List OutItem)) (marks : List (ℕ × Mark)) : Type 0 where
   pub spells : SpellsOf run o marks
-  -- of an open stream all is told but what is in hand
+  -- all of an open stream's items is written but what is in hand
   pub exact : (id : ℕ) (stream : OpenStream) → streams id ≡ Some stream → IsExact id stream calls (marks_on id marks)
   pub not_over : (id : ℕ) (stream : OpenStream) → streams id ≡ Some stream → over_on o.states id ≡ None
   pub known : (id : ℕ) (stream : OpenStream) → streams id ≡ Some stream → knows o.states id ≡ true
-  -- of a call whose stream isn't open, a front
+  -- a front is written of a call whose stream isn't open
   pub ended : (k : ℕ) (d : ℕ × List OutItem) → k < length calls → streams (get_or calls k d).0 ≡ None → is_served (get_or calls k d).0 run ≡ true
       → IsEnded (over_on o.states (get_or calls k d).0) (marks_on (get_or calls k d).0 marks) (get_or calls k d).1
-  -- so of a call whose sender was given back
+  -- a front is written of a call whose sender was given back
   pub returned : (id : ℕ) (items : List OutItem) → IsReturned id items run → is_served id run ≡ true
       → (streams id ≡ None) × IsEnded (over_on o.states id) (marks_on id marks) items
   pub stale : (id : ℕ) (items : List OutItem) → IsReturned id items run → is_fresh id run ≡ false
-  -- a stream that two calls have is none that is served
+  -- a stream that two calls have is no served one
   pub apart : (i j : ℕ) (d : ℕ × List OutItem) → i < length calls → j < length calls → i ≢ j → (get_or calls i d).0 ≡ (get_or calls j d).0
       → is_served (get_or calls i d).0 run ≡ false
   pub opened : (k : ℕ) (d : ℕ × List OutItem) → k < length calls → is_fresh (get_or calls k d).0 run ≡ false
   pub due : All (MayBeDue run o streams) o.due.items
-  -- of a stream of which nothing was heard nothing is told
+  -- nothing is written on a stream of which nothing was heard
   pub unknown : (id : ℕ) → is_heard o.states id ≡ false → marks_on id marks ≡ []
-  -- of one that was neither opened nor refused, at most a reset
+  -- at most a reset is written on a stream that was neither opened nor refused
   pub other : (id : ℕ) → is_fresh id run ≡ true → IsEnded (over_on o.states id) (marks_on id marks) []
   -- a call's stream is open until its end was written or a Reset of it was taken
   pub stays : (id : ℕ) → is_served id run ≡ true → is_stream id ≡ true → streams id ≡ None
@@ -120,7 +124,8 @@ pub record Serves (run : List Step) (o : Outbound) (streams : OpenStreams) (call
   pub brought : (id : ℕ) → knows o.states id ≡ (is_stream id && is_opened id run)
   pub uncalled : (id : ℕ) → knows o.states id ≡ false → IsUncalled id run (over_on o.states id) (marks_on id marks)
 
--- What is kept follows from the run: of the connection, of its calls, which gave these items, and of the ends that controls asked for.
+-- What is kept of the connection, of its calls, which gave these items, and of the ends that
+-- controls asked for follows from the run.
 pub record Kept (run : List Step) (o : Outbound) (calls : List (ℕ × List OutItem)) : Type 0 where
   pub mirrors : MirrorsOf run o
   pub marks : List (ℕ × Mark)
@@ -134,8 +139,9 @@ abbrev pub refuses : ℕ → Due → Bool
 refuses id (due_kind.Refuse stream fields) = id == stream
 refuses id _ = false
 
--- these were put behind what was due, these streams are a call's now, and these limits of the header table were told to the encoder; the streams
--- that are over, those that were reset, the first frame and the header block are the same
+-- these frames were added to what was due, these streams are a call's now, and the encoder got
+-- these limits of the header table; the streams that are over, those that were reset, the first
+-- frame and the header block didn't change
 pub record Takes (more : List Due) (is_new : ℕ → Bool) (limits : List ℕ) (old new : Outbound) : Type 0 where
   pub due : new.due.items ≡ old.due.items ++ more
   pub knows : (id : ℕ) → knows new.states id ≡ (is_new id || knows old.states id)
@@ -150,16 +156,16 @@ pub record Takes (more : List Due) (is_new : ℕ → Bool) (limits : List ℕ) (
 abbrev pub none_is_new : ℕ → Bool
 none_is_new id = false
 
--- a frame tells nothing of a stream, and no stream is over by it
+-- a frame has no mark of a stream, and no stream is over by it
 abbrev pub IsPlain : Frame → Outbound → Outbound → Type 0
 IsPlain frame old new = TellsMore frame [] old new × SameEnds old.states new.states × ((front : List Due) × (old.due.items ≡ front ++ new.due.items) × AreOver old front)
 
--- it resets a stream, for which that was due
+-- a frame resets a stream for which that was due
 abbrev pub IsReset : Frame → Outbound → Outbound → Type 0
 IsReset frame old new = (id : ℕ) × (code : ErrorCode) × (front : List Due) × (old.due.items ≡ front ++ due_kind.Reset id code ∷ new.due.items)
     × TellsReset id frame old new × (over_on old.states id ≡ None) × SetsEnd old.states id true new.states × AreOver old front
 
--- it begins the refusal of a stream, for which that was due
+-- a frame begins the refusal of a stream for which that was due
 abbrev pub IsRefusal : Frame → Outbound → Outbound → Type 0
 IsRefusal frame old new = (id : ℕ) × (fields : List Field) × (front : List Due) × (old.due.items ≡ front ++ due_kind.Refuse id fields ∷ new.due.items)
     × TellsMore frame (block_marks id fields true) old new × (over_on old.states id ≡ None) × SetsEnd old.states id false new.states × AreOver old front
@@ -168,7 +174,7 @@ IsRefusal frame old new = (id : ℕ) × (fields : List Field) × (front : List D
 abbrev pub IsOwn : Frame → Outbound → Outbound → Type 0
 IsOwn frame old new = SameStanding old new × (IsPlain frame old new ⊎ (IsReset frame old new ⊎ IsRefusal frame old new)) × SameOpen old.states new.states
 
--- no frame: what was due is dropped at most
+-- no frame comes: at most, what was due is dropped
 pub record Rests (old new : Outbound) : Type 0 where
   pub due : (front : List Due) × (old.due.items ≡ front ++ new.due.items) × AreOver old front
   pub standing : SameStanding old new

@@ -54,8 +54,9 @@ goaway_is_told = refl
 pub reset_is_asked : IsAsked 3 Cancel leaving
 reset_is_asked = inl ((refl, refl), refl)
 
--- The first SETTINGS come unasked. Further ones, an ACK with a payload and a PUSH_PROMISE would have to stand among what is due, and no
--- control puts them there; and a PING that is no ACK but for a Probe of its bytes.
+-- No control asks for the first SETTINGS. Further ones, an ACK with a payload and a PUSH_PROMISE
+-- would have to be due, and no control makes them so; nor a PING without ACK, but for a Probe of
+-- its bytes.
 pub first_unasked : told_by false first_settings ≡ []
 first_unasked = refl
 
@@ -81,7 +82,7 @@ opened_first = refl
 pub sizes_of_windows : window_sizes (TableSize 9 ∷ WindowSize 5 ∷ WindowSize 7 ∷ []) ≡ 5 ∷ 7 ∷ []
 sizes_of_windows = refl
 
--- of the limits that SETTINGS set for the header table the least counts
+-- the least of the limits that SETTINGS set for the header table counts
 pub limits_of_tables : table_sizes (TableSize 9 ∷ WindowSize 5 ∷ TableSize 7 ∷ TableSize 8 ∷ []) ≡ 9 ∷ 7 ∷ 8 ∷ []
 limits_of_tables = refl
 
@@ -118,7 +119,8 @@ whole = refl
 pub none_left : unfinished (Written (continuation_frame 5 true (3 ∷ [])) ∷ half_a_block) ≡ None
 none_left = refl
 
--- SETTINGS that come between its frames set the limit of the next block's table, and not of its own
+-- SETTINGS that come between the frames of a block set the limit of the next block's table, and not
+-- of its own
 pub least_by_now : least_table (Taken (Settings (TableSize 9 ∷ TableSize 7 ∷ TableSize 8 ∷ [])) ∷ half_a_block) ≡ 7
 least_by_now = refl
 
@@ -129,7 +131,7 @@ least_of_the_block = refl
 pub over : is_over 5 half_a_block ≡ true
 over = refl
 
--- of ten bytes that were granted on stream 1, which is open, four were written as credit
+-- ten bytes were granted on stream 1, which is open, and four of them were written as credit
 abbrev pub crediting : List Step
 crediting = Written (update_frame 1 4) ∷ Granted 1 6 ∷ Granted 0 9 ∷ Granted 1 4 ∷ Taken (order.Open 1 tt) ∷ Written first_settings ∷ []
 
@@ -139,28 +141,28 @@ ten_granted = refl
 pub four_updated : updated 1 crediting ≡ 4
 four_updated = refl
 
--- what a stream is granted isn't the connection's, nor the other way round
+-- a stream's grants aren't the connection's, nor the other way round
 pub nine_granted : granted 0 crediting ≡ 9
 nine_granted = refl
 
 pub none_updated : updated 0 crediting ≡ 0
 none_updated = refl
 
--- so six are owed, and on the connection all that was granted
+-- so six are owed on the stream, and on the connection all that was granted
 pub six_owed : owed 1 crediting ≡ 6
 six_owed = refl
 
 pub nine_owed : owed 0 crediting ≡ 9
 nine_owed = refl
 
--- on a stream that wasn't opened, or was reset, nothing is
+-- nothing is owed on a stream that wasn't opened, or was reset
 pub none_owed_unopened : owed 3 (Granted 3 4 ∷ crediting) ≡ 0
 none_owed_unopened = refl
 
 pub none_owed_reset : owed 1 (Granted 1 5 ∷ Taken (order.Reset 1 Cancel false) ∷ crediting) ≡ 0
 none_owed_reset = refl
 
--- at most 2^31 - 1 are at once
+-- at most 2^31 - 1 are owed at once
 pub most_owed : owed 0 (Granted 0 2147483647 ∷ crediting) ≡ 2147483647
 most_owed = refl
 
@@ -171,7 +173,7 @@ last_with_an_error = refl
 pub not_last : is_last (goaway_frame 7 (Code NoError)) ≡ false
 not_last = refl
 
--- a message in two DATA frames tells the same bytes as the item spells
+-- a message in two DATA frames has the bytes that the item spells
 abbrev pub a_field : Field
 a_field = record { name = 1 ∷ []; value = 2 ∷ [] }
 

@@ -31,7 +31,7 @@ table_sizes settings = flat_map table_size settings
 abbrev pub HasWindow : List WindowStep → ℕ → Type 0
 HasWindow history id = (id ≡ 0) ⊎ (is_some (since_opening id history) ≡ true)
 
--- it would be over 2^31 - 1 with n bytes more
+-- the window would be larger than 2^31 - 1 with n bytes more
 abbrev pub Overflows : List WindowStep → ℕ → ℕ → Type 0
 Overflows history id n = HasWindow history id × (¬ CanCredit history id n)
 
@@ -44,7 +44,8 @@ abbrev pub resets_stream : ℕ → Order → Bool
 resets_stream id (Reset stream code written) = id == stream
 resets_stream id _ = false
 
--- a Reset of the stream was taken, whether or not it is to be written: by this side, or by the peer's RST_STREAM
+-- a Reset of the stream was taken, whether or not it is to be written: by this side, or by the
+-- peer's RST_STREAM
 abbrev pub was_reset : ℕ → List Step → Bool
 was_reset id [] = false
 was_reset id (Taken order ∷ before) = resets_stream id order || was_reset id before
@@ -60,8 +61,9 @@ is_stream id = nat_lt 0 id && nat_le id MAX_WINDOW
 abbrev pub opens : List Step → List WindowStep → ℕ → Bool
 opens run history id = is_stream id && ((not (is_over id run) && not (was_reset id run)) && not (is_some (since_opening id history)))
 
--- From one history a control that is taken after a run leads to the next. One that would take a window over 2^31 - 1
--- changes none; nor does credit of a stream that isn't open. A Reset closes its stream's window, whether or not it is to be written.
+-- A control that is taken after a run leads from one history to the next. One that would make a
+-- window larger than 2^31 - 1 changes none; nor does credit on a stream that isn't open. A Reset
+-- closes its stream's window, whether or not it is to be written.
 abbrev pub Takes : List Step → List WindowStep → Order → List WindowStep → Type 0
 Takes run history (Settings settings) next =
     (All (CanResize history) (window_sizes settings) × (next ≡ reverse (map Resizing (window_sizes settings)) ++ history))

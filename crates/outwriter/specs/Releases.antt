@@ -25,15 +25,15 @@ module _ {L In Out Shut : Type 0} where
   abbrev pub HasNone : ℕ → List (ℕ × Sender L In Out Shut) → Type 0
   HasNone id senders = All (λ call. call.0 ≢ id) senders
 
-  -- none of the first of them is
+  -- none of the senders before a place is of this stream
   abbrev pub HasNoneBelow : ℕ → ℕ → List (ℕ × Sender L In Out Shut) → Type 0
   HasNoneBelow n id senders = (k : ℕ) (d : ℕ × Sender L In Out Shut) → k < n → k < length senders → (get_or senders k d).0 ≢ id
 
-  -- one of this stream stands at a place
+  -- a sender of this stream is at a place
   abbrev pub IsAt : ℕ → ℕ → List (ℕ × Sender L In Out Shut) → Type 0
   IsAt id place senders = (place < length senders) × ((d : ℕ × Sender L In Out Shut) → (get_or senders place d).0 ≡ id)
 
-  -- the sender that was last stands at this place now, if any does
+  -- the sender that was last is at this place now, if any is
   abbrev pub MovedTo : ℕ → List (ℕ × Sender L In Out Shut) → OpenStreams → OpenStreams → Type 0
   MovedTo place senders streams left = ((moved : ℕ × Sender L In Out Shut) × (moved ≡ get_or senders place moved) × PlaceIs moved.0 (length senders) place streams left)
       ⊎ ((left ≡ streams) × (place < length senders → ⊥))

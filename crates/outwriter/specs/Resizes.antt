@@ -9,6 +9,6 @@ IsSeen sizes greatest None = (sizes ≡ []) × (greatest ≡ 0)
 IsSeen sizes greatest (Some last) =
     ((before : List ℕ) × (sizes ≡ before ++ last ∷ [])) × All (λ size. size ≤ greatest) sizes × Contains sizes greatest
 
--- with the initial size n no window of a stream is over 2^31 - 1
+-- with the initial size n no stream's window is larger than 2^31 - 1
 abbrev pub FitsOn : Windows → ℕ → Type 0
 FitsOn w n = (n ≤ MAX_WINDOW) × ((id : ℕ) → 0 < id → IfSome (balance w id) (λ b. Fits (pos n +ℤ b)))

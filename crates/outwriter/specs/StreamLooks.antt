@@ -52,7 +52,7 @@ module _ {E : Type 0} where
   TakesAt None old new ahead from to result = (result ≡ Ok polled.Nothing) × (new ≡ old) × (to ≡ from)
   TakesAt (Some s) old new ahead from to result = TakesHand s.1 s.0 old new ahead from to result
 
--- what is ahead of the other senders is the same
+-- what is ahead of the other senders doesn't change
 abbrev pub SameElsewhere : ℕ → List (List OutItem) → List (List OutItem) → Type 0
 SameElsewhere place old new = (k : ℕ) → k ≢ place → get_or new k [] ≡ get_or old k []
 
@@ -81,20 +81,21 @@ module _ {L In Out Shut : Type 0} where
   HoldsOn got (Some frame) old new = (run : List Step) → Holds got run old → Holds got (Written frame ∷ run) new
   HoldsOn got None old new = (run : List Step) → Holds got run old → Holds got run new
 
-  -- what was told is a front still
+  -- what was written is still a front
   abbrev pub KeepsFronts : (Out → List OutItem) → Sending L In Out Shut → Sending L In Out Shut → Type 0
   KeepsFronts got old new = (run : List Step) → TellFronts run (calls got old.senders.items) → TellFronts run (calls got new.senders.items)
 
-  -- of whom a sender gave that its call was left, one did still
+  -- where a sender gave that its call was left, one still did
   abbrev pub KeepsLeft : (Out → List OutItem) → Sending L In Out Shut → Sending L In Out Shut → Type 0
   KeepsLeft got old new = (id : ℕ) → GaveLeft id (calls got old.senders.items) → GaveLeft id (calls got new.senders.items)
 
-  -- what the senders gave has what was told as a front still, each sender is an end of the same lane, and none forgets that its call was left
+  -- what was written is still a front of what the senders gave, each sender is an end of the same
+  -- lane, and none forgets that its call was left
   abbrev pub Gives : {Name : Type 0} → (Out → List OutItem) → (Out → Name) → Sending L In Out Shut → Sending L In Out Shut → Type 0
   Gives got name old new = KeepsFronts got old new × (lanes name new.senders.items ≡ lanes name old.senders.items) × KeepsLeft got old new
 
-  -- A frame is sound, might be written, and is the next step. Where there is none, what is due and what is owed is the same, and what is kept follows
-  -- from the run still.
+  -- A frame is sound, may be written, and is the next step. Where there is none, what is due and
+  -- what is owed doesn't change, and what is kept still follows from the run.
   abbrev pub Picks : (Out → List OutItem) → Option Frame → Sending L In Out Shut → Sending L In Out Shut → Type 0
   Picks got o old new = IfSome o IsSound × Progress o old.outbound new.outbound × IfNone o (SameOwn old.outbound new.outbound) × HoldsOn got o old new
 
@@ -103,11 +104,11 @@ module _ {L In Out Shut : Type 0} where
   StuckAt ahead id core = (stream : OpenStream) → (open_at core.outbound.states) id ≡ Some stream
       → IsStuck (room core.outbound.states.windows id) stream.in_hand (get_or (aheads ahead core.senders.items) stream.place [])
 
-  -- nor on any on which nothing could be before
+  -- nothing can be written on this stream, nor on any on which nothing could be written before
   abbrev pub GetsStuck : (Out → List OutItem) → (Out → List OutItem) → ℕ → Sending L In Out Shut → Sending L In Out Shut → Type 0
   GetsStuck got ahead id old new = (run : List Step) → Holds got run old → StuckAt ahead id new × ((k : ℕ) → k ≢ id → StuckAt ahead k old → StuckAt ahead k new)
 
-  -- of the other streams all is the same
+  -- the other streams don't change
   abbrev pub LeavesStuck : (Out → List OutItem) → (Out → List OutItem) → ℕ → Sending L In Out Shut → Sending L In Out Shut → Type 0
   LeavesStuck got ahead id old new = (run : List Step) → Holds got run old → (k : ℕ) → k ≢ id → StuckAt ahead k old → StuckAt ahead k new
 
@@ -121,6 +122,6 @@ module _ {L In Out Shut : Type 0} where
   abbrev pub AllStuck : (Out → List OutItem) → (Out → List OutItem) → Sending L In Out Shut → Sending L In Out Shut → Type 0
   AllStuck got ahead old new = (run : List Step) → Holds got run old → AreStuck new.outbound (open_at new.outbound.states) (aheads ahead new.senders.items)
 
-  -- or the last frame was a GOAWAY with an error
+  -- nothing can be written on any open stream, or the last frame was a GOAWAY with an error
   abbrev pub GetsQuiet : (Out → List OutItem) → (Out → List OutItem) → Sending L In Out Shut → Sending L In Out Shut → Type 0
   GetsQuiet got ahead old new = (run : List Step) → Holds got run old → IsQuiet ahead new

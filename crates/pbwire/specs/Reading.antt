@@ -1,5 +1,6 @@
--- Reading from left to right, as a function: what the private readers answer, and that there is one reading of each list.
--- That it reads by the rules of Varint and Fields, and nothing else, is proved of it.
+-- Reading from left to right, as a function: what the private readers answer, and that there is one
+-- reading of each list. That it reads by the rules of Varint and Fields, and nothing else, is
+-- proved of it.
 use Rattle.std.specs.Prelude.{◌≡◌, ℕ, zero, suc, ◌/◌, ◌%◌, ◌^◌, List, [], ◌∷◌, length, take, drop, Result, Ok, Err, nat_lt, nat_le, ◌==◌, if◌then◌else◌}
 use Rattle.std.specs.Int.{w32, w64, from_le_bytes}
 use Rattle.pbwire.specs.declared.fault.WireFault.{WireFault}

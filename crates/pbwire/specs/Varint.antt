@@ -18,7 +18,8 @@ IsTerminated (byte ∷ next ∷ bytes) = HasTopBit byte × IsTerminated (next �
 abbrev pub sum_of_groups : List ℕ → ℕ
 sum_of_groups bytes = sum_by (λ group. group.1 % 128 * 128 ^ group.0) (enumerate_from 0 bytes)
 
--- These bytes, all of them, spell the number. Bits over 64 are dropped, so a number has several spellings.
+-- These bytes, all of them, spell the number. Bits over 64 are dropped, so a number has several
+-- spellings.
 pub record IsVarint (bytes : List ℕ) (number : ℕ) : Type 0 where
   pub terminated : IsTerminated bytes
   pub short : length bytes ≤ 10

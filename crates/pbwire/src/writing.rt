@@ -1,7 +1,7 @@
 //! Writing varints and fields at the end of a buffer.
 //!
-//! Where the second part of a field finds no room, the buffer is taken back to its old length; the room isn't asked
-//! for first, so a buffer with room is never grown.
+//! Where the second part of a field finds no room, the buffer is taken back to its old length; the
+//! room isn't asked for first, so a buffer with room is never grown.
 
 ghost use Rattle.std.specs.Prelude.{◌≡◌, ◌+◌, ◌<◌, ◌≤◌, ◌++◌, length, take, vec_len, vec_capacity, OnOk, OnErr, IfErr};
 ghost use Rattle.pbwire.specs.declared.fault.WireFault.TheVariants.{OutOfMemory};
@@ -13,8 +13,8 @@ use crate::field::FieldValue;
 use crate::tag::tag;
 use std::alloc::AllocError;
 
-/// How many values the seven bits of a byte have that count; the top bit, which says that another byte follows, is worth
-/// as much.
+/// How many values the seven bits of a byte have that count; the top bit, which says that another
+/// byte follows, is worth as much.
 const GROUPS: u64 = 0x80;
 
 /// Appends a varint. Where that fails, a part of it may have been appended.
@@ -34,7 +34,7 @@ fn push_varint(number: u64, out: &mut Vec<u8>) -> Result<(), AllocError>
     Ok(())
 }
 
-/// Appends what stands behind a field's tag.
+/// Appends what follows a field's tag.
 fn push_content(value: &FieldValue<'_>, out: &mut Vec<u8>) -> Result<(), AllocError>
     ensures ok { OnOk result
         (out.new.items ≡ out.old.items ++ content_spelling (content_of value.now)) }

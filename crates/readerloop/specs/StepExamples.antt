@@ -49,7 +49,8 @@ first_is_fed head = refl
 pub missed_is_reset : (head : CallHead) → shut_by 1 (since 1 (one_is_missed head)) ≡ Some (shut.Reset 11)
 missed_is_reset head = refl
 
--- a piece that no call takes is missed, unless it is padding alone; what comes later isn't fed, and no end shuts the half
+-- a piece that no call takes is missed, unless it is padding alone; what comes later isn't fed, and
+-- no end shuts the half
 abbrev pub one_is_discarded : CallHead → List Step
 one_is_discarded head =
     Told (events.End 1) Plain
@@ -104,14 +105,14 @@ unstarted_ends head = refl
 pub stopped_orders_none : (head : CallHead) → orders_at (two_calls head) (Told (events.Open 9 head) (Unserved Stopped)) ≡ []
 stopped_orders_none head = refl
 
--- a head that was turned away is that of no call
+-- the head of a stream that was turned away is no call's
 pub first_head : (head : CallHead) → head_of 1 (two_calls head) ≡ Some head
 first_head head = refl
 
 pub no_head_of_seventh : (head : CallHead) → head_of 7 (two_calls head) ≡ None
 no_head_of_seventh head = refl
 
--- what came before a call was admitted is nothing to it
+-- what came before a call was admitted doesn't concern it
 pub since_begins_anew : (head : CallHead) → since 5 (two_calls head) ≡ Told (events.Open 7 head) (TurnedAway refused.TooMany) ∷ []
 since_begins_anew head = refl
 
@@ -134,8 +135,8 @@ lacking_ends head = refl
 pub discard_orders_none : (head : CallHead) → orders_at (two_calls head) (Told (events.Data 5 (10 ∷ []) 1) (Received Discard)) ≡ []
 discard_orders_none head = refl
 
--- The server drains behind the two calls: GOAWAY names the later of them, though stream 7 was begun. What begins behind that is refused, and an
--- error's GOAWAY names no greater stream.
+-- The server drains after the two calls: GOAWAY names the later of them, though stream 7 was begun.
+-- A stream that begins after that is refused, and an error's GOAWAY names no greater stream.
 pub drain_names_last : (head : CallHead) → orders_at (two_calls head) Drains ≡ Goaway 5 (reason.Code NoError) ∷ []
 drain_names_last head = refl
 
@@ -148,25 +149,26 @@ drained_fails head = refl
 pub drain_of_none : orders_at [] Drains ≡ Goaway 0 (reason.Code NoError) ∷ []
 drain_of_none = refl
 
--- where memory runs out behind a drain, GOAWAY names no greater stream either, and the connection ends
+-- where memory runs out after a drain, GOAWAY names no greater stream either, and the connection
+-- ends
 pub drained_lacks : (head : CallHead) → orders_at (Told (events.Open 9 head) (TurnedAway refused.Draining) ∷ Drains ∷ two_calls head) Lacks ≡ Goaway 5 reason.Memory ∷ []
 drained_lacks head = refl
 
 pub lacks_ends : ends_at Lacks ≡ Some OutOfMemory
 lacks_ends = refl
 
--- a call that is admitted behind a drain is refused by the law
+-- a call that is admitted after a drain is refused by the law
 pub admitted_late : (head : CallHead) → ¬ AdmitsNoMore (Told (events.Open 9 head) Admitted ∷ Drains ∷ two_calls head)
 admitted_late head (none, rest) = cc-some (none refl)
   where
     cc-some : {A : Type 0} {x : A} → Some x ≡ None → ⊥
     cc-some same = cc
 
--- a reset of the client's is told to the writing side, and not written
+-- a reset by the client goes on to the writing side, and isn't written
 pub reset_goes_on : (head : CallHead) → orders_at (two_calls head) (Told (events.Reset 1 Cancel) Plain) ≡ Reset 1 Cancel false ∷ []
 reset_goes_on head = refl
 
--- at the end of the input the halves that are open are reset, and the client is told
+-- at the end of the input the halves that are open are reset, with RST_STREAM to the client
 pub open_is_cut : (head : CallHead) → orders_at (two_calls head) (CutOff 1) ≡ Reset 1 Cancel true ∷ []
 open_is_cut head = refl
 
@@ -178,7 +180,7 @@ pub in_turn : (head : CallHead) → orders_by (Told (events.Open 5 head) Admitte
     ≡ Open 1 tt ∷ Refuse 3 unknown_method ∷ Open 5 tt ∷ []
 in_turn head = refl
 
--- a piece that is lost lets the half go, padding alone doesn't, and a reset of the client's is none of it
+-- a piece that is lost lets the half go; padding alone doesn't, and a reset by the client doesn't
 pub missed_lets_go : lets_go 1 (Told (events.Data 1 (11 ∷ []) 1) Missed) ≡ true
 missed_lets_go = refl
 

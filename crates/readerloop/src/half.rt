@@ -19,7 +19,8 @@ pub enum Half {
     Open(Feeder<InLane>),
     /// It was ended or reset.
     Shut(FedShut<InLane>),
-    /// A piece came that no call takes any more. What follows isn't fed, and how the half ends isn't told.
+    /// A piece came that no call takes any more. What follows isn't fed, and how the half ends
+    /// isn't known.
     Missed(Feeder<InLane>),
     /// It is being moved.
     Moving,
@@ -63,7 +64,8 @@ impl Half {
         }
     }
 
-    /// Shuts it in this way: the client has ended or reset it, or no more of it is taken. Where it was closed before nothing changes.
+    /// Shuts it in this way: the client has ended or reset it, or no more of it is taken. A half
+    /// that was closed before stays as it is.
     pub fn shut(&mut self, kind: Shut)
         ensures lane { lane_of self.new ≡ lane_of self.old }
         ensures closed { is_open self.new ≡ false }

@@ -8,7 +8,7 @@ use Rattle.reasons.specs.declared.Reason.TheVariants.{Code, First, Frame, Hpack,
 use Rattle.reasons.specs.Codes.{code_of}
 use Rattle.reasons.specs.Texts.{text_of}
 
--- a server that stops has no fault to tell
+-- a server that stops has no fault to report
 pub nothing_to_tell : text_of (Code NoError) ≡ []
 nothing_to_tell = refl
 

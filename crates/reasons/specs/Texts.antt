@@ -39,7 +39,7 @@ setting_text setting.InitialWindowSize = codes "setting 4, wanted at most 2,147,
 setting_text setting.MaxFrameSize = codes "setting 5, wanted 16,384 to 16,777,215 (RFC 9113, 6.5.2)"
 setting_text _ = codes "a setting has a value that it may not have (RFC 9113, 6.5.2)"
 
--- of a frame on a stream that wasn't begun
+-- the text for a frame on a stream that wasn't begun
 abbrev pub unbegun_text : FrameKind → List ℕ
 unbegun_text kind.Headers = codes "HEADERS on an even stream, or on one below the greatest that was begun (RFC 9113, 5.1.1)"
 unbegun_text kind.Data = codes "DATA on a stream that wasn't begun (RFC 9113, 5.1)"

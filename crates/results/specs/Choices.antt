@@ -19,7 +19,7 @@ rank Level.Must = 0
 rank Level.Should = 1
 rank Level.Ours = 2
 
--- a level binds as much as the least; a case of no level is chosen too
+-- a level binds at least as much as the least one; a case without a level is chosen too
 abbrev pub IsOfLevel : Option Level → Option Level → Type 0
 IsOfLevel None level = ⊤
 IsOfLevel (Some least) None = ⊤
@@ -53,7 +53,8 @@ IsFirstIdle entries words word =
     (place : ℕ) × (found : Bor (List ℕ)) × (slice_get words place ≡ Some found) × (found.now ≡ word) × IsIdle entries word
     × AllChoose entries (take place words)
 
--- why no cases are chosen: a word is idle, of those that choose and then of those that skip; or no case is left
+-- why no cases are chosen: a word is idle, of those that choose and then of those that skip; or no
+-- case is left
 abbrev pub Explains : List Entry → Choice → ChoiceFault → Type 0
 Explains entries choice (fault.NoCase word) =
     IsFirstIdle entries choice.words.now word.now

@@ -29,7 +29,8 @@ seconds milliseconds =
     decimal (milliseconds / 1000) ++ codes "." ++ decimal (milliseconds / 100 % 10)
     ++ decimal (milliseconds / 10 % 10) ++ decimal (milliseconds % 10)
 
--- what all suites and one have: how many cases there are, fail and are skipped, and how long they took
+-- what all suites and one have: how many cases there are, fail and are skipped, and how long they
+-- took
 abbrev pub counts : Suite → List Outcome → ℕ → List (List ℕ × List ℕ)
 counts suite outcomes milliseconds =
     (codes "name", suite_word suite)

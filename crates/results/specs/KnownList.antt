@@ -98,6 +98,6 @@ Explains all fault.OutOfMemory = ⊤
 abbrev pub has_name : List ℕ → Known → Bool
 has_name name known = bytes_eq (string_bytes known.name) name
 
--- a known failure whose name is none of these
+-- a known failure whose name isn't among these
 abbrev pub is_stray : List (Bor (List ℕ)) → Known → Bool
 is_stray all known = not (list_any (λ name. bytes_eq name.now (string_bytes known.name)) all)

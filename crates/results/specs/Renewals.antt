@@ -60,14 +60,15 @@ abbrev pub with_entries : List Entry → List Entry → List Entry
 with_entries list [] = list
 with_entries list (next ∷ more) = with_entries (with_entry list next) more
 
--- the cases that were run and belong on the list, in their order, and then those that were known and were not run
+-- the cases that were run and belong on the list, in their order, and then those that were known
+-- and were not run
 abbrev pub failed_entries : List Outcome → List Entry
 failed_entries outcomes = with_entries [] (filter_map (failed_entry outcomes) outcomes)
 
 unfoldable pub renewal : List Known → List Outcome → List Entry
 renewal known outcomes = with_entries (failed_entries outcomes) (filter_map (unrun_entry outcomes) known)
 
--- no two have the same name
+-- no two have one name
 abbrev pub HaveOwnNames : List Entry → Type 0
 HaveOwnNames [] = ⊤
 HaveOwnNames (first ∷ more) = (¬ Contains (names more) first.name) × HaveOwnNames more

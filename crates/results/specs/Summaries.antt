@@ -63,7 +63,7 @@ CountsOnce summary =
     summary.ok + summary.failed + summary.unsteady + summary.not_tested + summary.not_applicable + summary.known + summary.mended
     ≡ summary.cases
 
--- and each failure at one level at most
+-- each failure counts at one level at most
 abbrev pub CountsLevels : Summary → Type 0
 CountsLevels summary = summary.failed_must + summary.failed_should + summary.failed_ours ≤ summary.failed
 

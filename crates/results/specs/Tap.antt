@@ -100,7 +100,8 @@ block_of Point.Skips outcome = []
 block_of Point.Fails outcome = yaml_block outcome
 block_of Point.Todo outcome = yaml_block outcome
 
--- the line of a test point, with a directive where it isn't to count: `not ok 3 - wire grpc/4 END_STREAM on HEADERS`
+-- the line of a test point, with a directive where it isn't to count:
+-- `not ok 3 - wire grpc/4 END_STREAM on HEADERS`
 unfoldable pub point_line : ℕ → Point → Outcome → List ℕ
 point_line number how outcome =
     status how ++ codes " " ++ decimal number ++ codes " - " ++ suite_word outcome.suite ++ codes " "

@@ -9,8 +9,9 @@ is_allowed c =
     (c == 9) || (c == 10) || (c == 13) || (nat_le 32 c && nat_le c 0xd7ff) || (nat_le 0xe000 c && nat_le c 0xfffd)
     || (nat_le 0x10000 c && nat_le c 0x10ffff)
 
--- A character as a reader gives it back, in content and in an attribute's value: markup by its entities (section 4.6), white space
--- that a reader would change by references (sections 2.11, 3.3.3), and U+FFFD for one that isn't allowed.
+-- A character as a reader gives it back, in content and in an attribute's value: markup by its
+-- entities (section 4.6), white space that a reader would change by references (sections 2.11,
+-- 3.3.3), and U+FFFD for one that isn't allowed.
 abbrev pub char_text : ℕ → List ℕ
 char_text c =
     if c == 38 then codes "&amp;"

@@ -1,7 +1,7 @@
 //! The list of known failures: a file that names the cases that may fail, a line each.
 //!
-//! A line is blank, or a comment that begins with `#`, or a name, a space, and the reason why it may fail. The reason may
-//! begin with the word `sometimes`: then the case may pass too.
+//! A line is blank, or a comment that begins with `#`, or a name, a space, and the reason why it
+//! may fail. The reason may begin with the word `sometimes`: then the case may pass too.
 
 ghost use Rattle.std.specs.Prelude.{◌≡◌, ◌==◌, [], ◌∷◌, ◌++◌, IfErr, IfOk, IfNone, IfSome, OnOk, find, map, option_map, string_bytes};
 ghost use Rattle.std.specs.List.{after_first, before_first};
@@ -84,7 +84,7 @@ struct Said<'a> {
 }
 
 impl Said<'_> {
-    /// The known failure that it tells of.
+    /// The known failure that it names.
     fn known(self, alloc: Global) -> Result<Known, AllocError>
         ensures { IfOk result (λ known. entry known ≡ said self.entry) }
     {

@@ -9,7 +9,8 @@ use crate::standing::{Standing, failure_count};
 use crate::words::{Level, Suite, Verdict};
 use std::alloc::AllocError;
 
-/// How many cases of a run ended in which way. Each case is counted in one of the fields but `cases` and those of levels.
+/// How many cases of a run ended in which way. Each case is counted in one of the fields but
+/// `cases` and those of levels.
 #[derive(Clone, Copy)]
 pub struct Summary {
     pub cases: usize,
@@ -156,8 +157,9 @@ fn push_others(text: &mut String, summary: &Summary) -> Result<(), AllocError>
     push_count(text, summary.mended, "no longer failing")
 }
 
-/// Adds the last line of a run: `wire: 407 cases, 390 ok, 3 failed (1 must, 2 should, 0 ours), 1 unsteady, 13 not applicable in
-/// 12345 ms`. How many are ok and failed is always told, and else what isn't 0; levels, where a case of `wire` failed.
+/// Adds the last line of a run: `wire: 407 cases, 390 ok, 3 failed (1 must, 2 should, 0 ours), 1
+/// unsteady, 13 not applicable in 12345 ms`. The numbers of ok and failed cases are always there,
+/// the others if they aren't 0, and the levels if a case of `wire` failed.
 pub fn push_summary(
     text: &mut String,
     suite: Suite,

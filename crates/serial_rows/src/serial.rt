@@ -49,7 +49,7 @@ pub struct Serial<'a, R> {
     /// How many calls were admitted, and how many of them no worker serves.
     pub admitted: usize,
     pub unserved: usize,
-    /// The streams of the calls that were settled, rising in each look, and 0 behind each look that
+    /// The streams of the calls that were settled, rising in each look, and 0 after each look that
     /// was asked for or that settled one.
     pub settled: Vec<StreamId>,
     /// How the connection ended, if the reader ended it.

@@ -47,12 +47,12 @@ abbrev pub IsSettled : List Entry → Type 0
 IsSettled [] = ⊥
 IsSettled (entry ∷ entries) = IsSettings entry
 
--- whole groups came, and these entries behind them
+-- whole groups came, and these entries after them
 pub record IsPassed (entries behind : List Entry) (given : List InEvent) (history : List Event) (kept : Option Table) : Type 0 where
   pub passes : Passes entries behind given (record { history = history; kept = kept })
   pub settled : IsSettled entries
 
--- the frames of a header block came behind them, of which HEADERS had this verdict
+-- the frames of a header block came after them, whose HEADERS had this verdict
 pub record IsInside (block : Pending) (judged : HalfVerdict) (history : List Event) (frames : List Frame) (streams : Streams) : Type 0 where
   pub begun : IsBegun history frames block
   pub as_judged : judged ≡ verdict history block.head
@@ -79,7 +79,7 @@ abbrev pub LeadsOn : List Entry → List InEvent → Option Position → Streams
 LeadsOn entries given (Some position) streams kept = Leads entries given position streams kept
 LeadsOn entries given None streams kept = (rest : List ℕ) → Stops entries rest given
 
--- the position behind these events
+-- the position after these events
 abbrev pub ends_at : Option InEvent → Bool
 ends_at (Some event) = is_fatal event
 ends_at None = false
@@ -109,20 +109,20 @@ abbrev pub IsEnd : Result Frame FrameFault → List InEvent → List InEvent →
 IsEnd (Ok frame) old new = ⊥
 IsEnd (Err fault) old new = (fault ≢ OutOfMemory) × (new ≡ old ++ fatal (reason.Frame fault))
 
--- the bytes behind the preface lead to this position
+-- the bytes after the preface lead to this position
 abbrev pub ReadsTo : List ℕ → List InEvent → Position → List ℕ → Streams → Option Table → Type 0
 ReadsTo text given position waiting streams kept = (entries : List Entry) × Joined text entries waiting × Leads entries given position streams kept
 
--- they are the end of the connection
+-- the bytes after the preface are the end of the connection
 abbrev pub IsOver : List ℕ → List InEvent → Type 0
 IsOver text given = (entries : List Entry) × (rest : List ℕ) × Joined text entries rest × Stops entries rest given
 
--- the bytes behind the preface lead to this position, or are the end
+-- the bytes after the preface lead to this position, or are the end
 abbrev pub ReadsNext : List ℕ → List InEvent → Option Position → List ℕ → Streams → Option Table → Type 0
 ReadsNext text given (Some position) waiting streams kept = ReadsTo text given position waiting streams kept
 ReadsNext text given None waiting streams kept = IsOver text given
 
--- the bytes behind the preface lead to this stage, in which no frame is left that is whole
+-- the bytes after the preface lead to this stage, in which no whole frame is left
 abbrev pub ReadsOn : List ℕ → List InEvent → Stage → List ℕ → Streams → Option Table → Type 0
 ReadsOn text given (Reading position) waiting streams kept = ReadsTo text given position waiting streams kept × IsUnfinished waiting
 ReadsOn text given Dead waiting streams kept = IsOver text given
@@ -152,8 +152,8 @@ pub record Reached (bytes : List ℕ) (given : List InEvent) (core : Core) : Typ
 abbrev pub core_of : Stage → List ℕ → Streams → Option Table → Core
 core_of stage waiting streams kept = record { stage = stage; waiting = waiting; streams = streams; kept = kept }
 
--- A piece leads from one core to another, and from some events of it to others: whatever bytes and events led to the
--- first core, with the piece, and with what is new of the events, they lead to the second.
+-- A piece leads from one core to another, and adds to the events: whatever bytes and events led to
+-- the first core, they lead to the second with the piece and the new events.
 pub record Feeds (old : Core) (piece : List ℕ) (before : List InEvent) (new : Core) (after : List InEvent) : Type 0 where
   pub sound : IsSoundStage new.stage new.streams
   pub follows : (bytes : List ℕ) (earlier : List InEvent) → Reached bytes (earlier ++ before) old → Reached (bytes ++ piece) (earlier ++ after) new

@@ -24,7 +24,7 @@ half_a_preface = Greeted (0x20 ∷ 0x2a ∷ 0x20 ∷ 0x48 ∷ 0x54 ∷ 0x54 ∷ 
 pub another_text : Events (0x47 ∷ []) (fatal reason.Preface)
 another_text = Departed (λ more behind e. absurd (omega (arith, ap (λ (b : List ℕ). get_or b 0 0) e))) refl
 
--- SETTINGS without a parameter, and the spelling of it
+-- SETTINGS without a parameter, and its spelling
 abbrev pub plain_head : FrameHead
 plain_head = record { kind = Settings; flags = record { bits = 0 }; stream = 0; length = 0 }
 

@@ -1,10 +1,11 @@
--- The events of a connection's bytes (RFC 9113, sections 3.4, 4.3, 5.4 and 6), on the whole list of its frames: behind
--- the preface it is cut into groups, each of which has its events, and these end with the first that is fatal.
--- The events are a relation between bytes and a list, and so are its parts: no function is written down that would
--- compute them a second time. That the relation is no weaker than a function is a law (`one_list`, `goes_on`). Groups
--- of frames, and not what the core keeps from frame to frame: a header block is one group, whatever it is cut into,
--- and what stands behind the last whole group is said once, by `Close`. What a fatal event leaves behind is not
--- pinned, since nothing follows it (`one_outcome`).
+-- The events of a connection's bytes (RFC 9113, sections 3.4, 4.3, 5.4 and 6), by the whole list of
+-- its frames. After the preface the list is cut into groups. Each group has its events, and these
+-- end with the first that is fatal. The events are a relation between bytes and a list, and so are
+-- its parts: no function computes them a second time. Laws say that the relation is no weaker than
+-- a function (`one_list`, `goes_on`). The groups are of whole frames, not of what the core keeps
+-- from frame to frame: a header block is one group, whatever it is cut into, and `Close` alone says
+-- what follows the last whole group. Nothing follows a fatal event, so what it leaves isn't pinned
+-- (`one_outcome`).
 use Rattle.std.specs.Prelude.{◌≡◌, ◌⊎◌, ℕ, Bool, true, false, List, [], ◌∷◌, ◌++◌, map, flat_map, Option, Some}
 use Rattle.std.specs.List.{list_any}
 use Rattle.h2frame.specs.declared.error_code.ErrorCode.{ErrorCode}
@@ -36,8 +37,8 @@ pub record Situation : Type 0 where
 abbrev pub start : Situation
 start = record { history = []; kept = Some empty_table }
 
--- frames that have their events together: one that is no part of a header block, a WINDOW_UPDATE without an increment
--- on a stream, or all those of a header block
+-- frames that have their events together: one frame outside a header block, a WINDOW_UPDATE without
+-- an increment on a stream, or all frames of a header block
 pub data Group : Type 0 where
   Single : Frame → Group
   Credit : ℕ → Group
@@ -70,7 +71,7 @@ abbrev pub is_fatal : InEvent → Bool
 is_fatal (Fatal why) = true
 is_fatal _ = false
 
--- the connection goes on behind these events
+-- the connection goes on after these events
 abbrev pub IsCalm : List InEvent → Type 0
 IsCalm given = list_any is_fatal given ≡ false
 
@@ -97,8 +98,9 @@ pub record Passes (entries behind : List Entry) (given : List InEvent) (now : Si
   pub opens : Opens entries
   pub runs : Runs start groups given now
 
--- What stands behind the groups: no whole one yet; a fault of the bytes; HEADERS that are an error of the connection;
--- an entry that doesn't go on with the header block of these frames; or a group that is fatal.
+-- What follows the groups: no whole one yet; a fault of the bytes; HEADERS that are an error of the
+-- connection; an entry that doesn't go on with the header block of these frames; or a group that is
+-- fatal.
 pub data Close : Type 0 where
   Unfinished : Close
   Faulty : FrameFault → Close
@@ -119,7 +121,7 @@ Breaks (Whole frame) block fault = Stands fault block frame
 Breaks (NoIncrement id) block Interrupted = Unit {0}
 Breaks (NoIncrement id) block TooLong = ⊥
 
--- it stands behind the groups, in the entries and the rest of the bytes, and has these events
+-- the close follows the groups, in the entries and the rest of the bytes, and has these events
 abbrev pub Closes : Close → Situation → List Entry → List ℕ → List InEvent → Type 0
 Closes Unfinished now behind rest last = IsPartial now.history behind × IsUnfinished rest × (last ≡ [])
 Closes (Faulty fault) now behind rest last = IsPartial now.history behind × IsFaulty fault rest × (last ≡ fatal (reason.Frame fault))
@@ -130,7 +132,8 @@ Closes (Broken frames block entry fault) now behind rest last =
 Closes (Ended group next why) now behind rest last =
     (behind ≡ entries_of group) × GroupGives now group (fatal why) next × (last ≡ fatal why)
 
--- The entries of the bytes behind the preface, as far as they count, and the rest of the bytes come to these events.
+-- The entries of the bytes after the preface, as far as they count, and the rest of the bytes have
+-- these events.
 pub record Follows (entries : List Entry) (rest : List ℕ) (close : Close) (given : List InEvent) : Type 0 where
   pub behind : List Entry
   pub before : List InEvent
@@ -140,12 +143,13 @@ pub record Follows (entries : List Entry) (rest : List ℕ) (close : Close) (giv
   pub closes : Closes close now behind rest last
   pub all : given ≡ before ++ last
 
--- the first frame is another than SETTINGS
+-- the first frame isn't SETTINGS
 abbrev pub IsUnsettled : List Entry → Type 0
 IsUnsettled entries = (entry : Entry) × (entries ≡ entry ∷ []) × (IsSettings entry → ⊥)
 
--- The events of the bytes: none as long as the preface is unfinished; the end of the connection where they depart from
--- the preface, or where the first frame is no SETTINGS; or those of the groups behind it.
+-- The events of the bytes: none as long as the preface is unfinished; the end of the connection
+-- where the bytes depart from the preface, or where the first frame isn't SETTINGS; or those of the
+-- groups after the preface.
 pub data Events : List ℕ → List InEvent → Type 0 where
   Greeted : {bytes : List ℕ} {given : List InEvent} (due : List ℕ) → preface ≡ bytes ++ due → given ≡ [] → Events bytes given
   Departed : {bytes : List ℕ} {given : List InEvent} → Departs preface bytes → given ≡ fatal reason.Preface → Events bytes given

@@ -1,4 +1,4 @@
--- What each frame comes to that is no part of a header block (RFC 9113, section 6).
+-- What each frame outside a header block means (RFC 9113, section 6).
 use Rattle.std.specs.Prelude.{◌≡◌, ◌⊎◌, ℕ, ◌==◌, Bool, true, false, List, [], ◌∷◌}
 use Rattle.h2frame.specs.declared.frame.Frame.{Frame}
 use Rattle.h2frame.specs.declared.kind.FrameKind.{FrameKind}
@@ -19,19 +19,19 @@ use Rattle.session.specs.Streams.{after_frame, data_events, reset_events, window
 abbrev pub fatal : Reason → List InEvent
 fatal why = events.Fatal why ∷ []
 
--- SETTINGS with ACK tell nothing; one faulty parameter refuses all of the frame
+-- SETTINGS with ACK have no event; one faulty parameter refuses the whole frame
 abbrev pub SettingsGive : Bool → List ℕ → List InEvent → Type 0
 SettingsGive true content given = given ≡ []
 SettingsGive false content given =
     ((settings : List PeerSetting) × Tells content settings × (given ≡ events.Control (controls.Settings settings) ∷ []))
     ⊎ ((why : Reason) × IsRefused content why × (given ≡ fatal why))
 
--- PING is answered, unless it is an answer
+-- PING has an event unless it is an acknowledgement
 abbrev pub ping_events : Bool → List ℕ → List InEvent
 ping_events true content = []
 ping_events false content = events.Control (controls.Ping content) ∷ []
 
--- a frame of a stream: its events by its verdict, and the history behind it
+-- a frame of a stream: its events by its verdict, and the history after it
 abbrev pub OnStream : (HalfVerdict → Frame → List InEvent) → List Event → Frame → List InEvent → List Event → Type 0
 OnStream events_of history frame given next =
     (given ≡ events_of (verdict history frame.head) frame) × (next ≡ after_frame (verdict history frame.head) frame.head history)
@@ -40,12 +40,13 @@ OnStream events_of history frame given next =
 abbrev pub OnConnection : List InEvent → List Event → List InEvent → List Event → Type 0
 OnConnection due history given next = (given ≡ due) × (next ≡ history)
 
--- WINDOW_UPDATE on stream 0 is one of the connection
+-- WINDOW_UPDATE on stream 0 concerns the connection
 abbrev pub WindowGives : Bool → List Event → Frame → List InEvent → List Event → Type 0
 WindowGives true history frame given next = OnConnection (window_event frame ∷ []) history given next
 WindowGives false history frame given next = OnStream window_events history frame given next
 
--- The frame comes to these events, and leads from one history to the next. HEADERS are judged with their whole block.
+-- The frame has these events, and leads from one history to the next. HEADERS are judged with their
+-- whole block.
 abbrev pub KindGives : FrameKind → List Event → Frame → List InEvent → List Event → Type 0
 KindGives Data history frame given next = OnStream data_events history frame given next
 KindGives RstStream history frame given next = OnStream reset_events history frame given next

@@ -9,7 +9,7 @@ preface = 0x50 ∷ 0x52 ∷ 0x49 ∷ 0x20 ∷ 0x2a ∷ 0x20 ∷ 0x48 ∷ 0x54 �
 abbrev pub Departs : List ℕ → List ℕ → Type 0
 Departs text bytes = (more behind : List ℕ) → bytes ++ more ≡ text ++ behind → ⊥
 
--- Of a text that is due the bytes bring the front, all of it where anything is left of them.
+-- The bytes have the front of a text that is due, and all of it if anything is left of them.
 pub record Brings (due bytes still rest : List ℕ) : Type 0 where
   pub came : List ℕ
   pub taken : bytes ≡ came ++ rest

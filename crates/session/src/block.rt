@@ -1,4 +1,4 @@
-//! What a whole header block comes to (RFC 9113, sections 4.3 and 8.1).
+//! What a whole header block means (RFC 9113, sections 4.3 and 8.1).
 
 ghost use Rattle.std.specs.Prelude.{◌≡◌, ◌∷◌, ◌++◌, true, List, OnOk, IsSome};
 ghost use Rattle.callhead.specs.MalformedHeads.{are_malformed_trailers};
@@ -17,7 +17,8 @@ use lists::Field;
 use reasons::Reason;
 use std::alloc::{AllocError, Global};
 
-/// The events of a whole header block, behind those before it. Its HEADERS, with this head, had this verdict.
+/// Adds the events of a whole header block to those before it. Its HEADERS, with this head, had
+/// this verdict.
 pub fn block_events(
     alloc: Global,
     halves: &mut Halves,
@@ -69,7 +70,7 @@ fn head_events(
     }
 }
 
-/// The events of fields that are no head of a call. Those that are malformed reset their stream.
+/// The events of fields that are no head of a call. Malformed ones reset their stream.
 fn bad_head_events(
     halves: &mut Halves,
     head: &FrameHead,
@@ -90,7 +91,7 @@ fn bad_head_events(
     begin(InEvent::BadHead(head.stream, fault), head, events)
 }
 
-/// The events of trailers. Those that are malformed reset their stream (RFC 9113, section 8.1.1).
+/// The events of trailers. Malformed ones reset their stream (RFC 9113, section 8.1.1).
 fn trailer_events(
     halves: &mut Halves,
     head: &FrameHead,

@@ -12,13 +12,13 @@ use std::alloc::{AllocError, Global};
 use std::marker::Model;
 use thiserror::Error;
 
-/// The most bytes of a header block that are taken.
+/// The most bytes of a header block that the server takes.
 pub const MAX_BLOCK: usize = 65_536;
 
 /// Why a header block doesn't go on.
 #[derive(Clone, Copy, Debug, PartialEq, Eq, Error)]
 pub enum FragmentFault {
-    /// Another frame stands inside it.
+    /// Another frame came inside it.
     #[error("a frame stands inside a header block")]
     Interrupted,
     /// It would be over 65,536 bytes.
@@ -49,8 +49,8 @@ impl From<AllocError> for FragmentFault {
     }
 }
 
-/// A header block whose frames come one after another. A clause sees the head of its HEADERS, its bytes so far, and
-/// whether they are all.
+/// A header block whose frames come one after another. A clause sees the head of its HEADERS, its
+/// bytes so far, and whether they are all of them.
 #[derive(Drop)]
 pub struct HeaderBlock {
     head: FrameHead,

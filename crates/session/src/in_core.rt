@@ -1,7 +1,8 @@
 //! The reading core of a connection: its bytes go in, in any pieces, and their events come out.
 //!
-//! `feed` says what a piece leads to, for every list of bytes and events that led to the core before it; the loop that
-//! feeds the pieces names the list, and `laws::answers` then gives the events. After `Fatal` what is fed isn't kept.
+//! `feed` says what a piece leads to, for every list of bytes and events that led to the core
+//! before. The loop that feeds the pieces names the list, and `laws::answers` then gives the
+//! events. After `Fatal` no piece is kept.
 
 ghost use Rattle.std.specs.Prelude.{◌≡◌, List, ℕ, [], ◌++◌, length, true, IfOk, IsErrOf, IsOk, OnErr};
 ghost use Rattle.std.specs.Io.KnownBytes.{Consumes, IsAtEnd};
@@ -102,7 +103,8 @@ impl InCore {
 
     /// The events of the next piece of the connection's bytes. After `Fatal` and after an `Err` there are none.
     pub fn feed(&mut self, piece: &[u8]) -> Result<Vec<InEvent>, AllocError>
-        // However the bytes before it were cut, they and the piece have the events before and these.
+        // However the bytes before the piece were cut, they and the piece have the events before
+        // and these.
         ensures events { IfOk result (λ given. (bytes : List ℕ) (before : List InEventOf) →
             Reached bytes before self.old
             → Reached (bytes ++ piece.now) (before ++ given.items) self.new) }
@@ -182,7 +184,7 @@ fn advance(
     }
 }
 
-/// Takes what is due of the preface, and reads what is behind it.
+/// Takes what is due of the preface, and reads what follows it.
 fn greet(
     preface: Preface,
     reader: &mut FrameReader,
@@ -206,7 +208,7 @@ fn greet(
     read(Position::First, reader, context, rest, events)
 }
 
-/// Reads the frames that are whole by a piece.
+/// Reads the frames that a piece makes whole.
 fn read(
     position: Position,
     reader: &mut FrameReader,

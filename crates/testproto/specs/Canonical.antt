@@ -89,7 +89,8 @@ streaming_output_call_response_fields m = message_fields payload_fields 1 m.payl
 
 -- ---- the law of the canonical spelling
 
--- What is written of a message that can be, where it fits into memory, has that message as its value.
+-- What is written of a message that can be, where it fits into memory, has that message as its
+-- value.
 abbrev pub IsReadBack : {M : Type 0} → (M → Type 0) → (M → List Field) → (Field → Type 0) → (List Field → M → Type 0) → Type 0
 IsReadBack {M} fits fields_of accepts is_value =
     (message : M) → fits message → length (spelling_of_all (fields_of message)) < 2 ^ 64 → IsValueOf accepts is_value (spelling_of_all (fields_of message)) message

@@ -1,4 +1,5 @@
--- The messages of grpc.testing (messages.proto and empty.proto): the value of a list of fields, and which fields are accepted.
+-- The messages of grpc.testing (messages.proto and empty.proto): the value of a list of fields, and
+-- which fields are accepted.
 use Rattle.std.specs.Prelude.{◌≡◌, ◌⊎◌, List}
 use Rattle.pbwire.specs.Fields.{Field}
 use Rattle.testproto.specs.declared.fault.ProtoFault.{ProtoFault}

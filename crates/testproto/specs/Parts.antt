@@ -1,4 +1,5 @@
--- The fields that are written of a message, a part for each field of its schema, and what a reader has of them.
+-- The fields that are written of a message, a part for each field of its schema, and what a reader
+-- has of them.
 use Rattle.std.specs.Prelude.{◌≡◌, ◌<◌, ◌+◌, ◌%◌, ◌^◌, ◌==◌, not, ℕ, zero, suc, ℤ, pos, negsuc, Bool, true, false, if◌then◌else◌, List, [], ◌∷◌, ◌++◌, map, length, Option, Some, None, IfSome, FitsSigned, IsUtf8, refl}
 use Rattle.std.specs.List.{AllByRecursion}
 use Rattle.std.specs.Int.{w32, w64, cast_signed, cast_unsigned}
@@ -261,7 +262,7 @@ repeated_part fields_of number messages lawful = record {
 
 -- ---- all parts of a message
 
--- the fields of the parts, behind others
+-- the fields of the parts, after others
 abbrev pub fields_of_parts : List Field → List Part → List Field
 fields_of_parts before [] = before
 fields_of_parts before (p ∷ ps) = fields_of_parts (before ++ p.fields) ps

@@ -31,7 +31,7 @@ pub all_map : {X : Type 0} (P Q : X → Type 0) → ((x : X) → P x → Q x) �
 all_map P Q each [] all = tt
 all_map P Q each (x ∷ xs) all = (each x all.0, all_map P Q each xs all.1)
 
--- behind accepted fields stands one that is refused
+-- after accepted fields comes one that is refused
 pub record StopsIn (accepts : Field → Type 0) (refuses : Field → ProtoFault → Type 0) (input : List ℕ) : Type 0 where
   pub before : List Field
   pub rest : List ℕ

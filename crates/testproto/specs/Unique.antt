@@ -1,4 +1,5 @@
--- Fields have one value, and no field is both accepted and refused: what the laws of each message cite.
+-- Fields have one value, and no field is both accepted and refused: what the laws of each message
+-- cite.
 use Rattle.std.specs.Prelude.{◌≡◌, ◌⊎◌, ℕ, List, [], ◌∷◌, ◌++◌, Option, Some, None, IsUtf8, refl}
 use Rattle.std.proofs.Common.{sym, ap, subst, ◌∙◌, inl, inr}
 use Rattle.std.specs.List.{AllByRecursion}

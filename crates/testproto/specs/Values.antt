@@ -1,7 +1,8 @@
--- What the fields of a message say (Protocol Buffers encoding guide, "Last One Wins", "Optional and Repeated Fields" and "Submessages").
--- Values are defined over lists of fields and not over bytes: several occurrences of an embedded message are the
--- message of their joined field lists, each read by itself. The fields of joined well formed bytes are the joined
--- fields (`fields_join` of `pbwire`).
+-- What the fields of a message say (Protocol Buffers encoding guide, "Last One Wins", "Optional and
+-- Repeated Fields" and "Submessages"). Values are defined over lists of fields and not over bytes:
+-- several occurrences of an embedded message are the message of their joined field lists, each read
+-- by itself. The fields of joined well formed bytes are the joined fields (`fields_join` of
+-- `pbwire`).
 use Rattle.std.specs.Prelude.{◌≡◌, ◌≢◌, ℕ, ℤ, ◌%◌, ◌^◌, ◌==◌, ◌⊎◌, Bool, not, if◌then◌else◌, List, [], ◌∷◌, ◌++◌, Option, Some, None, IsUtf8}
 use Rattle.std.specs.List.{flat_map, AllByRecursion}
 use Rattle.std.specs.Int.{w32, cast_signed}
@@ -28,7 +29,7 @@ bytes_of (four_bytes n) = []
 abbrev pub varint_in : ℕ → Field → List ℕ
 varint_in number field = if field.number == number then varints_of field.content else []
 
--- the same for a content
+-- the contents that a field gives to the field of this number
 abbrev pub content_in : ℕ → Field → List (List ℕ)
 content_in number field = if field.number == number then bytes_of field.content else []
 
@@ -90,7 +91,8 @@ AcceptsText number field = AllByRecursion IsUtf8 (content_in number field)
 abbrev pub AcceptsMessage : (Field → Type 0) → ℕ → Field → Type 0
 AcceptsMessage accepts number field = AllByRecursion (IsWellFormed accepts) (content_in number field)
 
--- The fault stands in the bytes: behind accepted fields no field can follow, or the field that follows has it inside.
+-- The fault stands in the bytes: after accepted fields no field can follow, or the field that
+-- follows has it inside.
 abbrev pub HasFault : (Field → Type 0) → (Field → ProtoFault → Type 0) → List ℕ → ProtoFault → Type 0
 HasFault accepts refuses input fault =
     (before : List Field) × (rest : List ℕ) × StartsWithFields input before rest × AllByRecursion accepts before

@@ -1,5 +1,5 @@
-//! One field of a message, as it is written, by its kind: how long it is, and the field at the end of a buffer.
-//! A default is left out.
+//! One field of a message, as it is written, by its kind: how long it is, and the field at the end
+//! of a buffer. A default is left out.
 
 ghost use Rattle.std.specs.Prelude.{◌≡◌, ◌+◌, ◌++◌, ◌^◌, ◌≤◌, ℕ, length, take, IfSome, IfNone, OnOk, IfErr};
 ghost use Rattle.pbwire.specs.Fields.{field_with, content_of, varint};
@@ -104,7 +104,7 @@ pub(crate) fn add_message<'a, M: Message<'a>>(
     }
 }
 
-/// Appends a field. It fails for memory alone.
+/// Appends a field. It fails only for want of memory.
 fn put(number: u32, value: &FieldValue<'_>, out: &mut Vec<u8>) -> Result<(), ProtoFault>
     requires { IsFieldNumber number }
     ensures ok { OnOk result

@@ -1,7 +1,7 @@
-//! Which field of each message is which. Every impl has the same shape: three lists with a call for each field.
+//! The fields of each message. Every impl has three lists, each with a call for each field.
 //!
-//! A message takes a field by asking each of its own fields in turn, and not by a `match` on numbers: each kind is
-//! then written and proved once. At most eight comparisons a field.
+//! A message takes a field by asking each of its own fields in turn, not by a `match` on numbers:
+//! so each kind is written and proved once. That is at most eight comparisons for each field.
 
 ghost use Rattle.std.specs.Prelude.{◌≢◌, ◌++◌, ◌∷◌, [], List, length, ◌≡◌, ◌+◌, ◌^◌, ◌≤◌, take, IfErr, IfSome, IfNone, OnOk};
 ghost use Rattle.pbwire.specs.Spelling.{spelling_of_all, IsFieldNumber};

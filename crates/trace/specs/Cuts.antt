@@ -1,5 +1,5 @@
--- How the bytes of one side of a connection are cut (RFC 9113, sections 3.4 and 4.1): a client's preface, and then frames, whatever
--- faults these have.
+-- How the bytes of one side of a connection are cut (RFC 9113, sections 3.4 and 4.1): a client's
+-- preface, and then frames, whatever faults these have.
 use Rattle.std.specs.Prelude.{◌≡◌, ℕ, List, [], ◌∷◌, ◌++◌, length, Option, Some, None}
 use Rattle.h2frame.specs.FrameList.{BeginsWith}
 use Rattle.trace.specs.declared.item.Item.{Item}
@@ -20,7 +20,8 @@ Spells InFrames text Preface = ⊥
 Spells InFrames text (Frame head payload) = BeginsWith text head payload × (length payload ≡ head.length)
 Spells InFrames text (Rest bytes) = ⊥
 
--- From one stage on the bytes are the joined texts of the items, and then the rest, which is to be cut from the next stage on.
+-- From one stage on the bytes are the joined texts of the items, and then the rest, which is to be
+-- cut from the next stage on.
 abbrev pub Cut : Stage → List ℕ → List Item → Stage → List ℕ → Type 0
 Cut stage bytes [] next rest = (next ≡ stage) × (rest ≡ bytes)
 Cut stage bytes (item ∷ items) next rest =
@@ -30,7 +31,7 @@ Cut stage bytes (item ∷ items) next rest =
 abbrev pub Takes : Stage → List ℕ → Item → List ℕ → Type 0
 Takes stage bytes item rest = (text : List ℕ) × (bytes ≡ text ++ rest) × Spells stage text item
 
--- They begin with no whole item.
+-- The bytes begin with no whole item.
 abbrev pub IsUnfinished : Stage → List ℕ → Type 0
 IsUnfinished stage bytes = (text more : List ℕ) (item : Item) → bytes ≡ text ++ more → Spells stage text item → ⊥
 
@@ -39,7 +40,7 @@ pub record Pending : Type 0 where
   pub stage : Stage
   pub bytes : List ℕ
 
--- what is shown of bytes that are no whole item, where there are any
+-- what is shown of bytes that aren't a whole item, if there are any
 abbrev pub leftover : List ℕ → List Item
 leftover [] = []
 leftover (byte ∷ bytes) = Rest (byte ∷ bytes) ∷ []

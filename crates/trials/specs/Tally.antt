@@ -1,4 +1,4 @@
--- A case that is run several times: what came of its runs, and the line that tells it.
+-- A case that is run several times: the outcomes of its runs, and the line that reports them.
 use Rattle.std.specs.Prelude.{◌≡◌, ℕ, ◌+◌, List, [], ◌∷◌, ◌++◌, min, Option, Some, None, Result, Ok, Err, codes}
 use Rattle.std.specs.Option.{option_or}
 use Rattle.std.specs.Fmt.{decimal}

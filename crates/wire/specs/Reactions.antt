@@ -14,7 +14,8 @@ abbrev pub is_one_of : Option ℕ → List ℕ → Bool
 is_one_of None codes = false
 is_one_of (Some code) codes = list_any (λ it. it == code) codes
 
--- GOAWAY with one of these errors, or the end of the connection where no GOAWAY says an error (RFC 9113, section 5.4.1)
+-- GOAWAY with one of these errors, or the end of the connection where no GOAWAY says an error (RFC
+-- 9113, section 5.4.1)
 abbrev pub has_ended : Option ℕ → Bool → List ℕ → Bool
 has_ended None closed codes = closed
 has_ended (Some code) closed codes = if code == 0 then closed else list_any (λ it. it == code) codes

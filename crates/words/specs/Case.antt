@@ -1,5 +1,7 @@
--- `case NAME.. --port P`, with `--host H`, `--times N`, `--streams K` and `--timeout S`; or by the flags of gRPC's own interop clients,
--- `case --test_case=NAME --server_port=P --server_host=H --use_tls=false`, and those of soaks; or `case --list`
+-- `case NAME.. --port P`, with `--host H`, `--times N`, `--streams K` and `--timeout S`; or by the
+-- flags of gRPC's own interop clients,
+-- `case --test_case=NAME --server_port=P --server_host=H --use_tls=false`, and those of soaks; or
+-- `case --list`
 use Rattle.std.specs.Prelude.{◌≤◌, ⊤, ℕ, Bool, false, List, [], ◌∷◌, Option, Some, None, if◌then◌else◌, codes, is_none, map, option_map, option_and_then}
 use Rattle.std.specs.Bool.{then_some}
 use Rattle.std.specs.Option.{option_map_or, option_or, option_xor}
@@ -89,7 +91,7 @@ case_command = with_reporting (with_tracing (with_soak (with_credentials (
     timeout_option)
     tls_option))))
 
--- what a soak is told
+-- the words of a soak
 pub record Soak : Type 0 where
   pub iterations : ℕ
   pub max_failures : ℕ
@@ -110,7 +112,7 @@ soak words = record {
   response_size = words.response_size;
 }
 
--- what a client is told that runs cases
+-- the words of a client that runs cases
 pub record Run : Type 0 where
   pub names : List Text
   pub host : Text
@@ -152,7 +154,7 @@ names_by (Some name) (first ∷ names) = None
 abbrev pub names_of : List Row → Option (List Text)
 names_of rows = names_by (text_of (codes "test_case") rows) (texts_of (codes "NAME") rows)
 
--- the program speaks cleartext alone
+-- the program speaks only cleartext
 abbrev pub is_cleartext : List Row → Bool
 is_cleartext rows = option_map_or (λ text. bytes_eq text (codes "false")) (text_of (codes "use_tls") rows) false
 
@@ -174,7 +176,7 @@ soak_of rows =
     (amount_of (codes "soak_max_failures") rows))
     (amount_of (codes "soak_iterations") rows)
 
--- how the cases are run that these words choose, and what is told of them
+-- how the cases that these words choose are run and reported
 abbrev pub run_of : List Text → reporting.Told → List Row → Option Run
 run_of names told rows =
     option_and_then (λ host. option_and_then (λ port. option_and_then (λ times.

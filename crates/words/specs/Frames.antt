@@ -16,7 +16,7 @@ frames_command =
     (text_option (codes "side")))
     (flag (codes "full"))
 
--- of which bytes the frames are told, and how
+-- which bytes' frames are printed, and how
 pub record Told : Type 0 where
   pub files : List Text
   pub side : Option Side

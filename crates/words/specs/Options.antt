@@ -94,6 +94,6 @@ has_flag name rows = option_map_or (λ text. bytes_eq text (codes "true")) (firs
 abbrev pub IsCommand : App → Command → Type 0
 IsCommand app command = (app_of command ≡ app) × ((out-Command command).has_globals ≡ false)
 
--- the option is this to `clap`, and is none of the subcommands
+-- the option is this to `clap`, and isn't one of the subcommands
 abbrev pub IsOption : Rule → Arg → Type 0
 IsOption rule arg = (rule_of arg ≡ rule) × (arg.global ≡ false)

@@ -1,5 +1,6 @@
--- The options that `case`, `wire` and `misbehave` share: `--json FILE`, `--junit FILE`, `--tap`, `--save DIR`, `--known FILE`,
--- `--write-known FILE`, `--skip WORDS`, `--level LEVEL`, `--repeat N`, `--fail-fast`
+-- The options that `case`, `wire` and `misbehave` share: `--json FILE`, `--junit FILE`, `--tap`,
+-- `--save DIR`, `--known FILE`, `--write-known FILE`, `--skip WORDS`, `--level LEVEL`,
+-- `--repeat N`, `--fail-fast`
 use Rattle.std.specs.Prelude.{ℕ, ◌&&◌, ◌==◌, Bool, false, List, Option, None, Some, if◌then◌else◌, codes, map, option_map, option_and_then}
 use Rattle.std.specs.List.{flat_map, slice_split}
 use Rattle.std.specs.Option.{option_map_or}
@@ -40,7 +41,7 @@ with_reporting app =
     repeat_option)
     (flag (codes "fail-fast"))
 
--- what is told of outcomes, and which cases are left out
+-- how outcomes are reported, and which cases are left out
 pub record Told : Type 0 where
   pub json : Option Text
   pub junit : Option Text
@@ -67,7 +68,8 @@ reporting words = record {
   fails_fast = words.fails_fast;
 }
 
--- the words for cases that are left out: those between commas, of each time that the option is given
+-- the words for cases that are left out: those between commas, of each time that the option is
+-- given
 abbrev pub skipped_of : List Row → List Text
 skipped_of rows = flat_map (slice_split (λ byte. byte == 44)) (texts_of (codes "skip") rows)
 

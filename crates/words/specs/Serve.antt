@@ -52,7 +52,7 @@ serve_command = with_tracing (with_files (
     patience_option)
     (text_option (codes "record"))))
 
--- what a server is told
+-- the words of a server
 pub record Serving : Type 0 where
   pub host : Text
   pub port : Port

@@ -1,4 +1,5 @@
--- `wire CASES.. --port P`, with `--host H`, `--silence S`, `--timeout T`, `--jobs N` and `--verbose`; or `wire --list`
+-- `wire CASES.. --port P`, with `--host H`, `--silence S`, `--timeout T`, `--jobs N` and
+-- `--verbose`; or `wire --list`
 use Rattle.std.specs.Prelude.{◌≤◌, ⊤, ℕ, Bool, List, Option, if◌then◌else◌, codes, is_none, map, option_map, option_and_then}
 use Rattle.std.specs.Bool.{then_some}
 use Rattle.clap.specs.Walk.{Row, Rule, Text}
@@ -12,7 +13,8 @@ use Rattle.words.specs.declared.wire.WireRun.{WireRun}
 use Rattle.words.specs.declared.wire.WireWords.{WireWords}
 use Rattle.words.specs.declared.wire.WireWords.TheVariants as wire_words
 
--- P, S, T and N are 1 to 65,535; H is 127.0.0.1, S is 1,000, T is 10 and N is 8 if they are not given
+-- P, S, T and N are 1 to 65,535; H is 127.0.0.1, S is 1,000, T is 10 and N is 8 if they are not
+-- given
 abbrev pub host_option : Rule
 host_option = by_default (codes "127.0.0.1") (text_option (codes "host"))
 
@@ -37,7 +39,7 @@ wire_command = with_reporting (with_tracing (
     jobs_option)
     (flag (codes "verbose"))))
 
--- what a run of wire cases is told
+-- the words of a run of wire cases
 pub record Run : Type 0 where
   pub names : List Text
   pub host : Text
@@ -70,7 +72,7 @@ abbrev pub told : WireWords → Told
 told wire_words.List = list
 told (wire_words.Run words) = run (run_told words)
 
--- how the cases are run that these words choose, and what is told of them
+-- how the cases that these words choose are run and reported
 abbrev pub run_of : List Text → reporting.Told → List Row → Option Run
 run_of names told rows =
     option_and_then (λ port. option_and_then (λ host. option_and_then (λ silence.

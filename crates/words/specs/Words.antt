@@ -1,4 +1,5 @@
--- What the words of a command line mean: `clap`'s meaning of a simple command, at the command line of this program.
+-- What the words of a command line mean: `clap`'s meaning of a simple command, at the command line
+-- of this program.
 use Rattle.std.specs.Prelude.{◌≤◌, ⊤, ℕ, true, List, [], ◌∷◌, Option, Some, None, if◌then◌else◌, codes, option_map, option_and_then}
 use Rattle.std.specs.Str.{bytes_eq}
 use Rattle.clap.specs.Walk.{Row, Text}
@@ -42,7 +43,7 @@ command_line =
     wire_command.top)
     frames_command.top
 
--- what the program is told to do
+-- what the words ask the program to do
 pub data Meaning : Type 0 where
   print_body : ℕ → Meaning
   print_parts : Meaning
@@ -75,7 +76,7 @@ plain_command_of p =
     else if bytes_eq p.0 (codes "drain") then option_map drain (own_port_of p.1)
     else None
 
--- and of all
+-- the command of a name and of the values of its options
 abbrev pub command_of : Text × List Row → Option Meaning
 command_of p =
     if bytes_eq p.0 (codes "case") then option_map try_case (trial_of p.1)
@@ -116,7 +117,7 @@ abbrev pub IsBad : WordsFault → Type 0
 IsBad (BadWords reason) = ⊤
 IsBad OutOfMemory = ⊥
 
--- the numbers by which the faults are known outside
+-- the numbers by which programs print the faults
 abbrev pub code_of : WordsFault → ℕ
 code_of (BadWords reason) = 1
 code_of OutOfMemory = 2

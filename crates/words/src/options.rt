@@ -1,7 +1,7 @@
 //! The kinds of option that commands have, and what is read of their values.
 //!
-//! A number is read by `get_one::<usize>`; where it gave none, or one out of the range, there is none. `clap`'s parser has
-//! the same range, so this never decides.
+//! A number is read by `get_one::<usize>`. If that gives none, or one out of the range, there is
+//! none. `clap`'s parser has this range too, so this never decides.
 
 ghost use Rattle.std.specs.Prelude.{◌≡◌, ◌≢◌, ◌≤◌, false, IfOk, IfSome, map, option_map};
 ghost use Rattle.clap.specs.Words.{found_of, rows_of, rule_of};
@@ -11,7 +11,7 @@ use clap::builder::ValueParser;
 use clap::{Arg, ArgAction, ArgMatches, value_parser};
 use std::alloc::{AllocError, Global};
 
-/// The host of servers of which none is named.
+/// The host of a server if none is named.
 pub const LOOPBACK: &str = "127.0.0.1";
 
 /// The greatest number that an option takes, but for `--cut` and amounts.
@@ -126,7 +126,8 @@ pub(crate) fn texts_of<'a>(
     }
 }
 
-// The texts of an option that may be given several times, or of the words at a place, if there is one.
+// The texts of an option that may be given several times, or of the words at a place, if there is
+// one.
 pub(crate) fn some_texts_of<'a>(
     alloc: Global,
     options: &ArgMatches<'a>,

@@ -29,12 +29,13 @@ pub const COMMANDS: [&str; 9] = [
     "wire",
 ];
 
-/// What the program is told to do.
+/// What the words ask the program to do.
 #[derive(Drop)]
 pub enum Words<'a> {
-    /// Print the messages of one call, whose bytes are taken in pieces of so many, 1 to `MAX_CUT`.
+    /// Print the messages of one call, whose bytes are taken in pieces of this size, 1 to
+    /// `MAX_CUT`.
     Body(usize),
-    /// Serve the connection in standard input, and print what it was answered with.
+    /// Serve the connection in standard input, and print what the server wrote.
     Parts,
     /// Serve connections.
     Serve(ServeWords<'a>),
@@ -48,7 +49,7 @@ pub enum Words<'a> {
     Misbehave(MisbehaveWords<'a>),
     /// Run wire cases against a server, or list them.
     Wire(WireWords<'a>),
-    /// Tell the frames in the bytes of connections.
+    /// Print the frames in the bytes of connections.
     Frames(FramesWords<'a>),
 }
 
@@ -57,7 +58,7 @@ pub enum Words<'a> {
 pub enum WordsFault<'a> {
     /// They mean no command.
     BadWords(Reason<'a>),
-    /// No memory was to be had.
+    /// There is no memory.
     OutOfMemory,
 }
 
@@ -184,8 +185,9 @@ fn read_command<'a>(alloc: Global, words: &'a [String]) -> Result<Option<Words<'
     }
 }
 
-/// Reads the words after the program's name. No words at all are `body --cut 3`. They are read by `clap`'s rules: options come
-/// in any order, `--cut=3`, `--cut 3`, `--cut +3` and `--cut 003` are the same, and none is given twice.
+/// Reads the words after the program's name, by `clap`'s rules. No words at all are `body --cut 3`.
+/// Options come in any order, none comes twice, and `--cut=3`, `--cut 3`, `--cut +3` and
+/// `--cut 003` mean one thing.
 pub fn read_words<'a>(alloc: Global, words: &'a [String]) -> Result<Words<'a>, WordsFault<'a>>
     ensures ok { IfOk result (λ told. meaning_of (map string_bytes words.now) ≡ Some (meaning told)) }
     ensures in_range { IfOk result IsInRange }

@@ -1,6 +1,7 @@
-//! The options that `case`, `wire` and `misbehave` share: which cases are left out, how often they are run, and in which forms
-//! their outcomes are told. `--json FILE`, `--junit FILE`, `--tap`, `--save DIR`, `--known FILE`, `--write-known FILE`, `--skip
-//! WORDS`, `--level LEVEL`, `--repeat N`, `--fail-fast`.
+//! The options that `case`, `wire` and `misbehave` share: which cases are left out, how often cases
+//! are run, and in which forms outcomes are reported. `--json FILE`, `--junit FILE`, `--tap`,
+//! `--save DIR`, `--known FILE`, `--write-known FILE`, `--skip WORDS`, `--level LEVEL`,
+//! `--repeat N`, `--fail-fast`.
 
 ghost use Rattle.std.specs.Prelude.{◌≡◌, ◌==◌, ◌≤◌, ◌++◌, false, IfOk, IfSome, OnOk, map, option_map};
 ghost use Rattle.std.specs.List.{flat_map, slice_split};
@@ -16,7 +17,7 @@ use clap::{Arg, ArgAction, ArgMatches, Command};
 use results::Level;
 use std::alloc::{AllocError, Global};
 
-/// What is told of outcomes, and which cases are left out.
+/// How outcomes are reported, and which cases are left out.
 #[derive(Drop)]
 pub struct Reporting<'a> {
     /// The file for JSON, or `-` for standard output.
@@ -27,7 +28,7 @@ pub struct Reporting<'a> {
     pub has_tap: bool,
     /// The folder for the bytes of cases that failed.
     pub save: Option<&'a str>,
-    /// The file with the known failures, and the file that they are written to.
+    /// The file with the known failures, and the file to which they are written.
     pub known: Option<&'a str>,
     pub write_known: Option<&'a str>,
     /// What chooses the cases that are left out.
@@ -129,7 +130,7 @@ fn skipped_of<'a>(alloc: Global, options: &ArgMatches<'a>) -> Result<Vec<&'a str
     all_parts_of(alloc, texts.as_slice())
 }
 
-// The level, if one is named; nothing where its name is no level's.
+// The level, if one is named; nothing if the name isn't a level's.
 fn level_of(options: &ArgMatches<'_>) -> Option<Option<Level>>
     ensures { result ≡ level_of (rows_of (found_of options.now)) }
 {
@@ -149,7 +150,7 @@ pub(crate) fn wants_output_twice(options: &ArgMatches<'_>) -> bool
     }
 }
 
-// What is told of outcomes.
+// How outcomes are reported.
 pub(crate) fn reporting_of<'a>(
     alloc: Global,
     options: &ArgMatches<'a>,

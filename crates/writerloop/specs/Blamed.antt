@@ -8,8 +8,8 @@ use Rattle.outwriter.specs.declared.control.OutFault.TheVariants.{PeerWindow}
 use Rattle.outwriter.specs.RunState.{Blames, Concerns}
 use Rattle.outwriter.specs.Steps.{Order, Step, Taken, Granted, Written, Returned}
 
--- With a control of the peer that was taken, the stream's window would be over 2^31 - 1 bytes; of stream 0 the connection's, or by an initial
--- size some stream's.
+-- A control of the peer that was taken would make the stream's window larger than 2^31 - 1 bytes;
+-- for stream 0 it is the connection's window, or by an initial size some stream's.
 pub record WouldOverflow (id : ℕ) (run : List Step) : Type 0 where
   pub order : Order
   pub before : List Step

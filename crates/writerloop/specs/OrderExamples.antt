@@ -1,4 +1,5 @@
--- Worked runs of a writer's core, by the orders that it took. A run has its latest step first, and orders the earliest.
+-- Worked runs of a writer's core, by the orders that it took. A run has its latest step first, and
+-- orders the earliest.
 use Rattle.reasons.specs.declared.Reason.TheVariants as reason
 use Rattle.std.proofs.Common.{inl, inr, ap, subst, sym, ◌∙◌, true≢false}
 use Rattle.std.specs.Prelude.{◌≡◌, ◌++◌, ℕ, Bool, true, false, refl, List, [], ◌∷◌}
@@ -26,7 +27,7 @@ answered n blames = (
   (inl tt, (inl tt, (inr (inl (5, 0, refl, refl)), tt))),
 )
 
--- it must do so
+-- the writer must end it
 pub unanswered : (n : ℕ) → ¬ CanCredit [] 0 n → ¬ Obeys false (Window 0 n ∷ []) (Taken (Window 0 n) ∷ [])
 unanswered n over (took, (inl (history, none, room), rest)) = over (subst (λ (found : List WindowStep). CanCredit found 0 n) none (room (inl refl)))
 unanswered n over (took, (inr (inl answer), rest)) = answer
@@ -50,7 +51,8 @@ drained = (
   (inl tt, (inl tt, (inl tt, (inl tt, tt)))),
 )
 
--- there was no memory for a PING: the writer ends the connection, and takes no more orders than Close
+-- there was no memory for a PING: the writer ends the connection, and takes no more orders than
+-- Close
 pub parted : (bytes : List ℕ)
     → Obeys true (InputEnded ∷ Ping bytes ∷ InputEnded ∷ Close ∷ []) (Taken Close ∷ Taken (Goaway 5 reason.Memory) ∷ Taken InputEnded ∷ [])
 parted bytes = record {
@@ -75,11 +77,11 @@ last_at test [] order = refl
 last_at test (one ∷ []) order = refl
 last_at test (one ∷ next ∷ orders) order = last_at test (next ∷ orders) order
 
--- none is left out where none was lost
+-- no order is left out where none was lost
 pub left_out : ¬ Obeys false (Close ∷ []) []
 left_out obeys = true≢false (ap (λ (orders : List Order). last_is closes orders) obeys.0)
 
--- two are not exchanged
+-- two orders don't change places
 pub exchanged : ¬ Obeys false (Close ∷ InputEnded ∷ []) (Taken Close ∷ Taken InputEnded ∷ [])
 exchanged (inl (earlier, parts, took), answered) = true≢false (sym (last_at closes earlier Close) ∙ ap (λ (orders : List Order). last_is closes orders) (sym parts))
 exchanged (inr (inl (last, id, is, concerns, blames), took), answered) = absurd concerns
@@ -87,7 +89,7 @@ exchanged (inr (inr (inl (id, is, among, goes_on)), took), answered) = true≢fa
 exchanged (inr (inr (inr (inl (is, unsaid))), took), answered) = true≢false (ap closes is)
 exchanged (inr (inr (inr (inr (is, unsaid))), took), answered) = true≢false (ap closes is)
 
--- no call is reset behind the end of the input
+-- no call is reset after the end of the input
 pub left_too_late : ¬ Obeys false (Open 1 tt ∷ InputEnded ∷ []) (Taken (Reset 1 InternalError true) ∷ Taken InputEnded ∷ Taken (Open 1 tt) ∷ [])
 left_too_late (inl (earlier, parts, took), answered) =
     true≢false (ap (λ (orders : List Order). last_is ends_input orders) parts ∙ last_at ends_input earlier (Reset 1 InternalError true))
@@ -99,7 +101,7 @@ left_too_late (inr (inr (inr (inr (is, unsaid))), took), answered) = absurd cc
 abbrev leaves : Order → Bool
 leaves order = is_some (goaway_by order)
 
--- not twice, nor behind another GOAWAY
+-- the writer doesn't warn twice, nor after another GOAWAY
 pub warned_late : ¬ HasTaken [] (Taken warning ∷ Taken (Goaway 5 (reason.Code NoError)) ∷ [])
 warned_late (inl (earlier, parts, took)) = true≢false (sym (last_at leaves earlier warning) ∙ ap (λ (orders : List Order). last_is leaves orders) (sym parts))
 warned_late (inr (inl (last, id, is, concerns, blames), took)) = absurd concerns

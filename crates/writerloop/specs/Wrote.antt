@@ -16,7 +16,7 @@ use Rattle.writerloop.specs.declared.frames.Frames.{Frames}
 use Rattle.writerloop.specs.Spelled.{Holds, ended_by}
 
 module _ {L In Out Shut : Type 0} where
-  -- an Open that is taken brings its sender behind the others; nothing else changes them
+  -- an Open that is taken adds its sender after the others; nothing else changes them
   abbrev pub BringsBy : Taking (Sender L In Out Shut) → Control (Sender L In Out Shut) → List (ℕ × Sender L In Out Shut) → List (ℕ × Sender L In Out Shut) → Type 0
   BringsBy Done control old new = Brings (Ok tt) control old new
   BringsBy (Ended id) control old new = new ≡ old
@@ -31,12 +31,13 @@ module _ {L In Out Shut W : Type 0} where
     pub bytes : Holds writer.standing (frames_of run) before (contents writer.device) writer.buffer.items writer.ended.items
     pub marked : writer.standing ≡ Broken → failed writer.device ≡ true
 
-  -- whatever run led to the writer before, with these steps it leads to the writer after
+  -- whatever run led to the writer before, these steps lead on from it to the writer after
   abbrev pub WritesOn : (Out → List OutItem) → (W → Option (List ℕ)) → (W → Bool) → List Step → Frames L W In Out Shut → Frames L W In Out Shut → Type 0
   WritesOn got contents failed steps old new =
       (before : Option (List ℕ)) (run : List Step) → Wrote got contents failed before run old → Wrote got contents failed before (steps ++ run) new
 
-  -- Why the buffer isn't filled further. Nothing more comes where a Close was taken, and nothing now where none was.
+  -- Why the buffer isn't filled further: nothing more comes only where a Close was taken, and
+  -- nothing comes now where none was.
   abbrev pub Rests : (Out → List OutItem) → Filled → List Step → Frames L W In Out Shut → Type 0
   Rests ahead Full run writer = Unit {0}
   Rests ahead Idle run writer = IsAtRest ahead run writer.core × (writer.core.closed ≡ false)

@@ -19,7 +19,8 @@ use device::ConnWrite;
 use h2frame::StreamId;
 use outwriter::Control;
 
-/// A call begins: its sender goes to the core. Without memory the order comes back, and nothing changed.
+/// A call begins: its sender goes to the core. Without memory the order comes back, and nothing
+/// changes.
 pub(crate) fn begin<J: Naming, W: ConnWrite>(
     frames: &mut Frames<OutLane, W>,
     sends: &mut Sends<J>,
@@ -64,7 +65,7 @@ pub(crate) fn begin<J: Naming, W: ConnWrite>(
     }
 }
 
-/// The control that an order is where no call begins by it; else which call begins.
+/// The control that an order is, if it opens no call; else the call that it opens.
 pub(crate) fn split<J: Naming>(
     order: Order<J>,
 ) -> Result<Control<Sender<OutLane>>, (StreamId, Opening<J>)>

@@ -1,4 +1,5 @@
-//! The frames of bytes that come in pieces: those of the frame list of the joined pieces, however they were cut.
+//! The frames of bytes that come in pieces: those of the frame list of the joined pieces, however
+//! they were cut.
 
 ghost use Rattle.std.specs.Prelude.{List, ℕ, ◌++◌, map, flat_map, IfOk, OnOk, None};
 ghost use Rattle.h2frame.specs.FrameList.{Entry, Whole, Joined, IsUnfinished, FrameList};

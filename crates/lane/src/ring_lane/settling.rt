@@ -17,7 +17,7 @@ use crate::lane::{End, Settled};
 use rtrb::{Consumer, Producer};
 
 impl Settled {
-    /// The counts of both rings, where these are those of the second, and `left` counts what is left of both.
+    /// The counts of both rings: these are the second ring's, but for `left`, which is of both.
     pub(super) fn beside(self, put: u64, got: u64) -> Settled
         ensures put { result.put ≡ min (put + self.put) 18446744073709551615 }
         ensures got { result.got ≡ min (got + self.got) 18446744073709551615 }
@@ -58,7 +58,7 @@ fn way_on<T: Drop>(step: Step<T>, found: Option<SecondOut<T>>) -> Option<SecondO
     }
 }
 
-/// What was popped, and then what it answers the number of, is what was pushed.
+/// How many items were not popped. What was popped and then these items is what was pushed.
 pub(super) fn meet_first<S>(first: &mut Producer<S>, reading: &mut Consumer<S>) -> usize
     requires name { producer_name first.old ≡ consumer_name reading.old }
     requires filled { producer_capacity first.old ≤ length (sent first.old) + known_free first.old }
@@ -76,7 +76,8 @@ pub(super) fn meet_first<S>(first: &mut Producer<S>, reading: &mut Consumer<S>) 
     reading.slots_beside(first)
 }
 
-/// Brings all ends together. It counts what was put into the second ring, what was got of it, and what is left of both rings.
+/// Brings all ends together. It counts what was put into the second ring, what was got from it, and
+/// what is left in both rings.
 pub(super) fn settle_rings<T: Drop>(
     mut first: Producer<Step<T>>,
     second: Option<End<SecondIn<T>, SecondShut<T>>>,

@@ -16,7 +16,7 @@ use crate::fault::PutFault;
 use std::alloc::AllocError;
 
 impl<T: Drop> RingLaneIn<T> {
-    /// How many items of the first ring this end has not seen taken.
+    /// Looks how many items of the first ring this end hasn't seen taken.
     fn unseen(&mut self) -> u64
         ensures name { in_name self.new ≡ in_name self.old }
         ensures second { self.new.second ≡ self.old.second }
@@ -48,7 +48,7 @@ impl<T: Drop> RingLaneIn<T> {
         self.first.cached_slots() >= 2 || self.first.slots() >= 2
     }
 
-    /// How many items wait, where the queue is full and there is no second ring.
+    /// Whether there is room, where there is no second ring; `Err` has how many items wait.
     pub(super) fn look(&mut self) -> Result<(), u64>
         requires first { self.old.second ≡ None }
         ensures name { in_name self.new ≡ in_name self.old }
@@ -66,7 +66,8 @@ impl<T: Drop> RingLaneIn<T> {
         self.check_waiting()
     }
 
-    /// How many items wait, where the queue is full, the first ring has no room and there is no second one.
+    /// Whether there is room, where the first ring has none and there is no second one; `Err` has
+    /// how many items wait.
     fn check_waiting(&self) -> Result<(), u64>
         requires first { self.now.second ≡ None }
         requires full { known_free self.now.first ≤ 1 }
@@ -83,7 +84,7 @@ impl<T: Drop> RingLaneIn<T> {
         Ok(())
     }
 
-    /// How many items wait, where the queue is full and has a second ring.
+    /// Whether there is room, where there is a second ring; `Err` has how many items wait.
     pub(super) fn look_on(&mut self) -> Result<(), u64>
         requires second { is_some self.old.second ≡ true }
         ensures name { in_name self.new ≡ in_name self.old }
