@@ -11,7 +11,7 @@ use Rattle.session.specs.declared.event.InEvent.{InEvent}
 use Rattle.session.specs.declared.event.InEvent.TheVariants as events
 use Rattle.session.specs.FlowBytes.{counted_by, counted_told}
 use Rattle.readerloop.specs.Orders.{IsDue}
-use Rattle.readerloop.specs.Steps.{Received, Missed, Lacking, TurnedAway, Step, Told, CutOff, Drains, Lacks, events_of, is_draining, reported}
+use Rattle.readerloop.specs.Steps.{Received, Missed, Lacking, Stopped, TurnedAway, Unknown, Unserved, Step, Told, CutOff, Drains, Lacks, events_of, is_draining, reported}
 
 -- A call isn't admitted behind 64 or more that were, where the server drains, for want of memory, or since its number doesn't rise.
 abbrev pub MayTurnAway : ℕ → Bool → AdmitFault → Type 0
@@ -43,6 +43,19 @@ IsJustified _ before = Unit {0}
 abbrev pub AreJustified : List Step → Type 0
 AreJustified [] = Unit {0}
 AreJustified (step ∷ before) = IsJustified step before × AreJustified before
+
+-- ---- calls that are refused, or passed over
+
+-- A call is refused as one of an unknown method only where no index has its path. No worker serves one that was admitted since the writing side
+-- has stopped, only where orders were dropped.
+abbrev pub IsFounded : (List ℕ → ℕ → Type 0) → Bool → Step → Type 0
+IsFounded names dropped (Told (events.Open id head) Unknown) = (index : ℕ) → names head.path index → ⊥
+IsFounded names dropped (Told (events.Open id head) (Unserved Stopped)) = dropped ≡ true
+IsFounded names dropped _ = Unit {0}
+
+abbrev pub AreFounded : (List ℕ → ℕ → Type 0) → Bool → List Step → Type 0
+AreFounded names dropped [] = Unit {0}
+AreFounded names dropped (step ∷ before) = IsFounded names dropped step × AreFounded names dropped before
 
 -- ---- the end of the input
 
