@@ -1,7 +1,8 @@
 -- The end of a connection: what became of it, where its reader meets its writer.
-use Rattle.std.proofs.Common.{◌≡◌, ◌≢◌, ◌∙◌, ◌⊎◌, ◌++◌, ◌∷◌, ◌≤◌, ℕ, Bool, true, false, List, [], All, Option, Some, ap, refl, sym, subst}
+use Rattle.std.proofs.Common.{◌≡◌, ◌≢◌, ◌∙◌, ◌⊎◌, ◌++◌, ◌∷◌, ◌≤◌, ℕ, Bool, true, false, List, [], All, Option, Some, ap, length, refl, sym, subst}
+use Rattle.std.specs.Io.KnownBytes.{IsAtEnd}
 use Rattle.std.specs.Prelude.{IfSome}
-use Rattle.std.proofs.lemmas.List.{map-append}
+use Rattle.std.proofs.lemmas.List.{length-map, map-append}
 use mathlib.Core.List.{IsPrefix}
 use Rattle.callparts.specs.declared.call_account.CallAccount.{CallAccount}
 use Rattle.callparts.specs.declared.order.Opening.{Opening}
@@ -28,7 +29,7 @@ use Rattle.writerloop.specs.Written.{HasSent, HasWritten}
 use Rattle.writerloop.proofs.EndSteps.{told-on}
 use Rattle.connection.specs.declared.orders.Orders.{Orders}
 use Rattle.connection.specs.declared.orders.Route.{Ghosts}
-use Rattle.connection.specs.Heard.{AreCarried, Grows, HasEnded, HasRead, Hears}
+use Rattle.connection.specs.Heard.{AreCarried, Grows, HasEnded, HasRead, Hears, IsOfInput}
 use Rattle.connection.specs.Puts.{IsOwn, put_of, put_orders}
 use Rattle.connection.specs.Rest.{CarriesOpen, CarriesRest}
 use Rattle.connection.specs.Sent.{CarriesWhatWasSent}
@@ -38,6 +39,7 @@ use Rattle.connection.proofs.Joining.{all_sent, handed-carried, open-carried, ow
 use Rattle.connection.proofs.Reports.{accounts-more, are-served, drained-is}
 use Rattle.connection.proofs.Serving.{are-left, blamed-or, carries-told, given-first, number-stands, resets-none, took-apart, took-own}
 use Rattle.connection.proofs.StreamErrors.{never-internal-of}
+use Rattle.connection.proofs.Tallies.{calls-more}
 
 some-is : {one other : Ending} → Some one ≡ Some other → one ≡ other
 some-is same = cc
@@ -90,13 +92,27 @@ module _ {A B C J M N V W : Type 0} {book : Naming J} {route : Ghosts N} (known 
       let closed = ended.1.ordered some.2 in
       open-carried rest sent.senders.handed closed.dropped orders.unput (all-back IsOwn closed.front closed.dropped closed.own) closed.kept
 
-  -- so it is served, whatever was heard
-  pub ended-served : (read ending : Ending) (calls : V) (bytes : List ℕ) (told : List Step) (read_failed : Bool) → Meets read ending written faultless orders.has_dropped front.0
+  -- there is an account for each call that was heard to be admitted
+  pub ended-accounted : (calls : V) (told : List Step)
       → ((sent : List Sent) (told : List Step) → AreCarried sent home → CarriesRest sent rest → IfSome orders.unput (CarriesOpen sent) → Reads known names (carried_in sent) told mid
       → AreAccounts known names (carried_in sent) told (reported told) (items calls))
-      → HasRead known names gave read bytes told reading old → amount ≤ counted_told (events_of told) → (read ≡ ReadFailed → read_failed ≡ true)
-      → IsServed items contents failed known names bytes before read_failed ending calls device
-  ended-served read ending calls bytes told read_failed is settled has within unread =
+      → Reads known names (carried_in gave) told reading → length (reported told) ≤ length (items calls)
+  ended-accounted calls told settled reads =
+      let ended = ends gave told there reads in
+      let steps = ended.0 ++ told in
+      let aside = rest-carried rest sent.senders.handed orders.unput sent.given took sent.orders_are sent.senders.all owns in
+      let accounts = settled gave steps back aside unput ended.1.reads in
+      let same : length (items calls) ≡ length (reported steps) =
+      sym (length-map (items calls) (λ (account : CallAccount). account.id)) ∙ ap (λ (ids : List ℕ). length ids) accounts.streams in
+      subst (λ (n : ℕ). length (reported told) ≤ n) (sym same) (calls-more ended.0 told)
+
+  -- so it is served, whatever was heard
+  pub ended-served : (read ending : Ending) (calls : V) (bytes : List ℕ) (left : Option (List ℕ)) (told : List Step) (read_failed : Bool) → Meets read ending written faultless orders.has_dropped front.0
+      → ((sent : List Sent) (told : List Step) → AreCarried sent home → CarriesRest sent rest → IfSome orders.unput (CarriesOpen sent) → Reads known names (carried_in sent) told mid
+      → AreAccounts known names (carried_in sent) told (reported told) (items calls))
+      → HasRead known names gave read bytes told reading old → amount ≤ counted_told (events_of told) → (read ≡ ReadFailed → read_failed ≡ true) → (IsOfInput read → IsAtEnd left)
+      → IsServed items contents failed known names bytes left before read_failed ending calls device
+  ended-served read ending calls bytes left told read_failed is settled has within unread over =
       let ended = ends gave told there has.reads in
       let steps = ended.0 ++ told in
       let rising = ended.1.reads.calls.rising in
@@ -114,7 +130,7 @@ module _ {A B C J M N V W : Type 0} {book : Naming J} {route : Ghosts N} (known 
       let none = resets-none steps (put_orders orders) (orders_of sent.given) (orders_of (order_in rest.aside) ++ orders_of front.0) (closed-put (orders_by steps ++ InputEnded ∷ []) orders shut)
       (given-first sent.given (order_in rest.aside) took front.0 (put_of orders) sent.orders_are front.1)
       (λ id was. never-internal-of steps told id events has.some was) in
-      are-served known names items contents failed bytes before amount read_failed read ending gave told ended.0 reading mid old orders calls device has ended.1 is.input is.dropped unread within put
+      are-served known names items contents failed bytes left before amount read_failed read ending gave told ended.0 reading mid old orders calls device has ended.1 is.input is.dropped unread over within put
       (accounts-more known names (carried_in gave) (CarriesWhatWasSent put.run) (carries-told steps rising orders shut took front put.run rest sent.senders.handed sent.written.some tells) steps (reported steps) (items calls) accounts)
       (are-left steps rising orders shut took front known names put.run rest sent.given sent.orders_are sent.senders none (reported steps) (items calls) accounts)
       (λ code failing. blamed-or read written code (is.blamed code failing) (λ told-so. sent.blames code told-so))

@@ -1,6 +1,7 @@
 pub mod CreditSteps
 pub mod Tallies
 pub mod Opens
+pub mod Founded
 pub mod Heard
 pub mod Resting
 pub mod Follow

@@ -1,9 +1,10 @@
 //! Laws of what becomes of a connection, by the fields of its record (`IsServed`). None of them does anything.
 
 ghost use mathlib.Core.List.{IsPrefix};
-ghost use Rattle.std.specs.Prelude.{◌≡◌, ◌⊎◌, ◌<◌, ◌++◌, ◌∷◌, ℕ, List, [], false, map, true};
+ghost use Rattle.std.specs.Prelude.{◌≡◌, ◌≢◌, ◌⊎◌, ◌<◌, ◌++◌, ◌∷◌, ℕ, Bool, List, [], false, map, true};
 ghost use Rattle.std.specs.List.{list_any};
 ghost use Rattle.account.specs.Accounts.{Begins};
+ghost use Rattle.callhead.specs.declared.head.CallHead.{CallHead as Head};
 ghost use Rattle.callparts.specs.declared.call_account.CallAccount.{CallAccount};
 ghost use Rattle.callparts.specs.declared.report.Ending.{Ending as Ended};
 ghost use Rattle.h2frame.specs.declared.error_code.ErrorCode.{ErrorCode as Code};
@@ -18,8 +19,8 @@ ghost use Rattle.outwriter.specs.Runs.{IsLawful, told as duties_told};
 ghost use Rattle.outwriter.specs.Steps.{Order, Step as RunStep, frames_of};
 ghost use Rattle.readerloop.specs.Calls.{is_admitted};
 ghost use Rattle.readerloop.specs.Orders.{orders_by};
-ghost use Rattle.readerloop.specs.Reports.{AreHeard};
-ghost use Rattle.readerloop.specs.Steps.{IsRising, Step, events_of, reported};
+ghost use Rattle.readerloop.specs.Reports.{AreCalm, AreHeard};
+ghost use Rattle.readerloop.specs.Steps.{IsRising, Step, WasUnserved, events_of, reported};
 ghost use Rattle.writerloop.specs.Left.{left_in};
 ghost use Rattle.writerloop.specs.Orders.{IsAmong, Obeys};
 ghost use Rattle.session.specs.declared.event.InEvent.{InEvent as InEventOf};
@@ -30,9 +31,11 @@ ghost use Rattle.h2frame.specs.FrameList.{Entry};
 ghost use Rattle.connection.specs.Causes.{HasCauseOf, HasResetCause, IsOverWindow, IsRefusal, WasCut, WasTaken, WasTurnedAway, WasWritten};
 ghost use Rattle.connection.specs.Codes.{MayHaveCode};
 ghost use Rattle.connection.specs.Left.{AreLeft};
-ghost use Rattle.connection.specs.Limits.{AreJustified, EndsLast, IsOneTooMany, WasCutLast, WasDrained};
+ghost use Rattle.connection.specs.Limits.{AreFounded, AreJustified, EndsLast, IsOneTooMany, WasCutLast, WasDrained};
 ghost use Rattle.connection.specs.Heard.{HasPut};
 ghost use Rattle.connection.specs.News.{acknowledgements, answers_to, news_in, news_told, taken_by};
+
+use callparts::Answering;
 
 /// Each reset that is to be written was ordered for its cause, by what was heard: RFC 9113, section 5.4.2.
 pub fn ordered_resets()
@@ -58,12 +61,21 @@ pub fn written_resets()
 {}
 
 /// What is told on a stream whose call no worker serves: nothing, one RST_STREAM, or one header block that ends it, with the
-/// fields of its refusal.
-pub fn streams_without_a_call()
-    ensures { (told : List Step) (put : List Order) (run : List RunStep) →
+/// fields of its refusal. It is refused as one of an unknown method only where no method has its path.
+pub fn streams_without_a_call<M: Answering>()
+    ensures { (dropped : Bool) (told : List Step) (put : List Order) (run : List RunStep) →
+        AreFounded M.names dropped told →
         HasPut (orders_by told ++ InputEnded ∷ []) put → Obeys true put run → TellOthers run →
         (id : ℕ) → is_admitted id told ≡ false →
-        (part : List Mark) × IsPart id run part × IsRefusal id told part }
+        (part : List Mark) × IsPart id run part × IsRefusal M.names id told part }
+{}
+
+/// Where all was ordered, and no step ended the connection, each call that was admitted is served by a worker.
+pub fn handed_calls<M: Answering>()
+    ensures { (dropped : Bool) (told : List Step) (put : List Order) →
+        AreCalm told → (dropped ≡ true → put ≢ orders_by told ++ InputEnded ∷ Close ∷ []) →
+        AreFounded M.names dropped told → put ≡ orders_by told ++ InputEnded ∷ Close ∷ [] →
+        (id : ℕ) (head : Head) → WasUnserved id head told → ⊥ }
 {}
 
 /// The SETTINGS, PINGs and credit that the writer took begin those of the peer, in order.

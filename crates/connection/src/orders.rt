@@ -50,7 +50,7 @@ pub(crate) struct Orders<A: Ledger, B: Ledger, C: Ledger, J: Naming, N: Route> {
     pub(crate) shared: Arc<Shared<A, B, C>>,
     /// Whether there are orders, or credit that no call rings for, for which the writer wasn't rung yet.
     pub(crate) are_unrung: bool,
-    /// Whether orders were dropped, since the writer had stopped.
+    /// Whether orders are dropped, since the writer has stopped.
     pub(crate) has_dropped: bool,
     /// Of those that were dropped the one that opens a call, with its sender. Behind it no call begins.
     pub(crate) unput: Option<Order<J>>,

@@ -3,7 +3,7 @@
 ghost use mathlib.Core.List.{IsPrefix};
 ghost use Rattle.callhead.specs.declared.head.CallHead.{CallHead as Head};
 ghost use Rattle.std.specs.Prelude.{◌≡◌, ◌<◌, ◌≤◌, ◌++◌, ◌∷◌, ℕ, List, [], None, Some, Ok, IfOk, IfSome, OnErr, OnOk, false, true, length, vec_capacity, vec_len};
-ghost use Rattle.std.specs.Io.KnownBytes.{Consumes};
+ghost use Rattle.std.specs.Io.KnownBytes.{Consumes, IsAtEnd};
 ghost use Rattle.lane.specs.Ring.{in_name, out_name, put_in, taken};
 ghost use Rattle.callparts.specs.Blocks.{items_of};
 ghost use Rattle.callparts.specs.Workers.{IsKnown};
@@ -12,15 +12,14 @@ ghost use Rattle.handlers.specs.Listed.{listed};
 ghost use Rattle.session.specs.CoreStates.{Reached};
 ghost use Rattle.session.specs.declared.event.InEvent.{InEvent as Event};
 ghost use Rattle.session.specs.declared.event.InEvent.TheVariants as events;
-ghost use Rattle.session.specs.FlowBytes.{counted_told};
 ghost use Rattle.readerloop.specs.Calls.{AreNames, IsFirstWith, Sent, carried_in};
 ghost use Rattle.readerloop.specs.Kept.{unsettled};
 ghost use Rattle.readerloop.specs.Readings.{IsNext, KeepsNext, Reads, goaway_in, order_in};
 ghost use Rattle.readerloop.specs.Reports.{AreAccounts};
 ghost use Rattle.readerloop.specs.Seats.{HasPlacesAt};
-ghost use Rattle.readerloop.specs.Steps.{Lacks, Step, events_of, reported};
-ghost use Rattle.connection.specs.Heard.{Acts, AreCarried, Collects, CutsSome, Grows, HasEnded, HasRead, KeptFor, ReadsTo, ReadsWith};
-ghost use Rattle.connection.specs.Limits.{MayTurnAway, Tally, one_more};
+ghost use Rattle.readerloop.specs.Steps.{Lacks, Step, reported};
+ghost use Rattle.connection.specs.Heard.{Acts, AreCarried, Collects, CutsSome, Grows, HasEnded, HasRead, IsOfInput, KeptFor, ReadsTo, ReadsWith};
+ghost use Rattle.connection.specs.Limits.{Covers, MayTurnAway, Tally, one_more};
 ghost use Rattle.outwriter.specs.declared.control.Control.TheVariants as orders;
 ghost use Rattle.connection.specs.Puts.{IsOwn, IsSame, put_of};
 ghost use Rattle.connection.specs.Rest.{CarriesOpen, CarriesRest};
@@ -62,7 +61,10 @@ const FIRST_PIECE: usize = 1_024;
 const LARGE_PIECE: usize = 8_192;
 
 /// The room for the next read: the first piece, until there is a whole one.
-fn room<'x>(first: &'x mut [u8], whole: &'x mut [u8]) -> &'x mut [u8] {
+fn room<'x>(first: &'x mut [u8], whole: &'x mut [u8]) -> &'x mut [u8]
+    requires first { 0 < length first.old }
+    ensures some { 0 < length result.now }
+{
     if whole.is_empty() { first } else { whole }
 }
 
@@ -159,17 +161,22 @@ where
         requires named { AreNames
             (IsFirstWith (λ m. (⟦<dyn Method as Method>⟧ m.vtable).name m.value)
             (listed methods.now.value)) M.names }
+        requires unnamed { AreNames M.names
+            (IsFirstWith (λ m. (⟦<dyn Method as Method>⟧ m.vtable).name m.value)
+            (listed methods.now.value)) }
         requires uncounted { (intake.old.calls ≡ 0) × (intake.old.came ≡ 0) }
         ensures grows { Grows self.old.reading self.new.reading }
         ensures heard { (sent : List Sent) → AreCarried sent (taken self.new.reading.home)
             → KeptFor M.known M.names sent [] self.old.reading self.old.orders
             → (came : List ℕ) × Consumes (I.remaining input.old) (I.remaining input.new) came
             × ((told : List Step) × HasRead M.known M.names sent result came told
-            self.new.reading self.new.orders
-            × (intake.new.came ≤ counted_told (events_of told))) }
+            self.new.reading self.new.orders × Covers told intake.new) }
         ensures failed { (sent : List Sent) → AreCarried sent (taken self.new.reading.home)
             → KeptFor M.known M.names sent [] self.old.reading self.old.orders
             → result ≡ ending.ReadFailed → I.failed input.new ≡ true }
+        ensures over { (sent : List Sent) → AreCarried sent (taken self.new.reading.home)
+            → KeptFor M.known M.names sent [] self.old.reading self.old.orders
+            → IsOfInput result → IsAtEnd (I.remaining input.new) }
     {
         let mut core = InCore::new(self.alloc);
         let mut first_piece = [0u8; FIRST_PIECE];
@@ -177,7 +184,8 @@ where
         let rt = self.rt;
         'pieces: for _ in rt.forever() {
             if self.orders.shared.has_stopped() {
-                return self.reading.ending();
+                // (the writer says why)
+                return Ending::WriteFailed;
             }
             let piece = room(&mut first_piece, &mut whole_piece);
             let Ok(count) = input.read(piece) else {
@@ -458,13 +466,16 @@ where
         requires named { AreNames
             (IsFirstWith (λ m. (⟦<dyn Method as Method>⟧ m.vtable).name m.value)
             (listed methods.now.value)) M.names }
+        requires unnamed { AreNames M.names
+            (IsFirstWith (λ m. (⟦<dyn Method as Method>⟧ m.vtable).name m.value)
+            (listed methods.now.value)) }
         ensures grows { Grows self.old.reading self.new.reading }
         ensures on { IfOk result (λ end. (bytes : List ℕ) (before : List Event)
             → Reached bytes before core.old
             → (given : List Event) × Reached (bytes ++ piece.now) (before ++ given) core.new
             × ReadsWith M.known M.names intake.old intake.new given end
             self.old.reading self.old.orders self.new.reading self.new.orders) }
-        ensures uncounted { OnErr result (intake.new.came ≡ intake.old.came) }
+        ensures uncounted { OnErr result (intake.new ≡ intake.old) }
         ensures same { OnErr result ((self.new.reading ≡ self.old.reading)
             × (self.new.orders ≡ self.old.orders)) }
     {
@@ -506,6 +517,9 @@ where
         requires named { AreNames
             (IsFirstWith (λ m. (⟦<dyn Method as Method>⟧ m.vtable).name m.value)
             (listed methods.now.value)) M.names }
+        requires unnamed { AreNames M.names
+            (IsFirstWith (λ m. (⟦<dyn Method as Method>⟧ m.vtable).name m.value)
+            (listed methods.now.value)) }
         ensures reads { ReadsWith M.known M.names intake.old intake.new events.items result
             self.old.reading self.old.orders self.new.reading self.new.orders }
     {
@@ -530,6 +544,9 @@ where
         requires named { AreNames
             (IsFirstWith (λ m. (⟦<dyn Method as Method>⟧ m.vtable).name m.value)
             (listed methods.now.value)) M.names }
+        requires unnamed { AreNames M.names
+            (IsFirstWith (λ m. (⟦<dyn Method as Method>⟧ m.vtable).name m.value)
+            (listed methods.now.value)) }
         ensures reads { ReadsWith M.known M.names intake.old intake.new (event ∷ []) result
             self.old.reading self.old.orders self.new.reading self.new.orders }
     {
@@ -641,6 +658,9 @@ where
         requires named { AreNames
             (IsFirstWith (λ m. (⟦<dyn Method as Method>⟧ m.vtable).name m.value)
             (listed methods.now.value)) M.names }
+        requires unnamed { AreNames M.names
+            (IsFirstWith (λ m. (⟦<dyn Method as Method>⟧ m.vtable).name m.value)
+            (listed methods.now.value)) }
         ensures reads { ReadsWith M.known M.names intake.old intake.new
             (events.Open id head ∷ []) result
             self.old.reading self.old.orders self.new.reading self.new.orders }
@@ -738,6 +758,7 @@ where
                     return self.lose(id, method);
                 }
             } else if self.orders.shared.has_stopped() {
+                self.orders.has_dropped = true;
                 return self.pass_over(id, method);
             } else {
                 self.wait(mark);
@@ -820,9 +841,10 @@ where
         self.act(decided)
     }
 
-    /// A call of this method was admitted, and the writer has stopped.
+    /// A call of this method was admitted, and the writer has stopped: orders are dropped.
     fn pass_over(&mut self, id: StreamId, method: usize) -> Option<Ending>
         requires next { IsNext id self.old.reading }
+        requires dropped { self.old.orders.has_dropped ≡ true }
         ensures reads { (head : Head) (tally : Tally) → M.names head.path method
             → ReadsWith M.known M.names tally (one_more tally) (events.Open id head ∷ []) result
             self.old.reading self.old.orders self.new.reading self.new.orders }

@@ -1,20 +1,20 @@
 //! One connection from its first byte to its last.
 
 ghost use mathlib.Core.List.{IsPrefix};
-ghost use Rattle.std.specs.Prelude.{◌≡◌, ◌≢◌, ◌⊎◌, ◌<◌, ◌≤◌, ◌++◌, ℕ, Bool, List, [], Option, Some, IfErr, IfOk, IfSome, false, true};
-ghost use Rattle.std.specs.Io.KnownBytes.{Consumes};
+ghost use Rattle.std.specs.Prelude.{◌≡◌, ◌≢◌, ◌⊎◌, ◌<◌, ◌≤◌, ◌++◌, ℕ, Bool, List, [], Option, Some, IfErr, IfOk, IfSome, false, length, true};
+ghost use Rattle.std.specs.Io.KnownBytes.{Consumes, IsAtEnd};
 ghost use Rattle.callparts.specs.Blocks.{items_of};
 ghost use Rattle.callparts.specs.Workers.{IsWithin, answers_by};
 ghost use Rattle.callparts.specs.declared.report.Ending.TheVariants as ending;
 ghost use Rattle.handlers.specs.Listed.{listed};
 ghost use Rattle.h2frame.specs.declared.error_code.ErrorCode.{ErrorCode as Code};
 ghost use Rattle.lane.specs.Ring.{in_name, out_name, put_in, taken};
-ghost use Rattle.session.specs.FlowBytes.{counted_told};
 ghost use Rattle.readerloop.specs.Calls.{AreNames, IsFirstWith, Sent, carried_in};
 ghost use Rattle.readerloop.specs.Readings.{Reads};
 ghost use Rattle.readerloop.specs.Reports.{AreAccounts, is_heard_out};
-ghost use Rattle.readerloop.specs.Steps.{Step, events_of, reported};
-ghost use Rattle.connection.specs.Heard.{AreCarried, HasRead, Hears, KeptFor};
+ghost use Rattle.readerloop.specs.Steps.{Step, reported};
+ghost use Rattle.connection.specs.Heard.{AreCarried, HasRead, Hears, IsOfInput, KeptFor};
+ghost use Rattle.connection.specs.Limits.{Covers};
 ghost use Rattle.connection.specs.Puts.{AreFirst};
 ghost use Rattle.connection.specs.Rest.{CarriesOpen, CarriesRest};
 ghost use Rattle.connection.specs.Served.{IsServed};
@@ -73,8 +73,8 @@ where
         (answers_by (λ method. answers (method.vtable, method.value)) (listed methods.value))
         (IsFirstWith (λ method. (⟦<dyn Method as Method>⟧ method.vtable).name method.value)
         (listed methods.value))
-        came (O.contents output) (I.failed input.new) result.report.ending result.report.calls
-        result.output }
+        came (I.remaining input.new) (O.contents output) (I.failed input.new)
+        result.report.ending result.report.calls result.output }
 {
     let register = NewRegister::new();
     serve_named::<A, B, C, Brand, Brand, I, O, G, R>(
@@ -101,8 +101,8 @@ where
         (answers_by (λ method. answers (method.vtable, method.value)) (listed methods.value))
         (IsFirstWith (λ method. (⟦<dyn Method as Method>⟧ method.vtable).name method.value)
         (listed methods.value))
-        came (O.contents output) (I.failed input.new) result.report.ending result.report.calls
-        result.output }
+        came (I.remaining input.new) (O.contents output) (I.failed input.new)
+        result.report.ending result.report.calls result.output }
 {
     let blanks = (Blank::new(1), Blank::new(1), Blank::new(1));
     serve_seated::<Brand, Brand, Brand, I, O, G, R>(rt, alloc, blanks, input, output, methods, gate)
@@ -134,8 +134,8 @@ where
         (answers_by (λ method. answers (method.vtable, method.value)) (listed methods.value))
         (IsFirstWith (λ method. (⟦<dyn Method as Method>⟧ method.vtable).name method.value)
         (listed methods.value))
-        came (O.contents output) (I.failed input.new) result.report.ending result.report.calls
-        result.output }
+        came (I.remaining input.new) (O.contents output) (I.failed input.new)
+        result.report.ending result.report.calls result.output }
 {
     let Ok((_drainer, seat)) = Drainer::<A, B, C>::new(alloc, blanks) else {
         return unserved(alloc, output);
@@ -240,11 +240,14 @@ where
     requires named { AreNames
         (IsFirstWith (λ method. (⟦<dyn Method as Method>⟧ method.vtable).name method.value)
         (listed methods.value)) M.names }
+    requires unnamed { AreNames M.names
+        (IsFirstWith (λ method. (⟦<dyn Method as Method>⟧ method.vtable).name method.value)
+        (listed methods.value)) }
     requires book { register.seen.book ≡ J.book }
     ensures served { (came : List ℕ) × Consumes (I.remaining input.old) (I.remaining input.new) came
         × IsServed (λ calls. items_of calls.full calls.last) O.contents O.failed M.known M.names
-        came (O.contents output) (I.failed input.new) result.report.ending result.report.calls
-        result.output }
+        came (I.remaining input.new) (O.contents output) (I.failed input.new)
+        result.report.ending result.report.calls result.output }
 {
     let Ok(rings) = Rings::open(alloc) else {
         let _ends = register.named::<J>();
@@ -286,6 +289,9 @@ where
     requires named { AreNames
         (IsFirstWith (λ method. (⟦<dyn Method as Method>⟧ method.vtable).name method.value)
         (listed methods.value)) M.names }
+    requires unnamed { AreNames M.names
+        (IsFirstWith (λ method. (⟦<dyn Method as Method>⟧ method.vtable).name method.value)
+        (listed methods.value)) }
     requires rings { (N.ring ≡ Some (in_name rings.orders.0))
         × (in_name rings.orders.0 ≡ out_name rings.orders.1)
         × (in_name rings.senders.0 ≡ out_name rings.senders.1) }
@@ -294,8 +300,8 @@ where
     requires book { register.seen.book ≡ J.book }
     ensures served { (came : List ℕ) × Consumes (I.remaining input.old) (I.remaining input.new) came
         × IsServed (λ calls. items_of calls.full calls.last) O.contents O.failed M.known M.names
-        came (O.contents output) (I.failed input.new) result.report.ending result.report.calls
-        result.output }
+        came (I.remaining input.new) (O.contents output) (I.failed input.new)
+        result.report.ending result.report.calls result.output }
 {
     let begun = match begin::<A, B, C, J, M, N, O, G, R>(
         rt, alloc, seat, rings, register, output, gate,
@@ -372,9 +378,10 @@ where
         ≡ Some (out_name begun.writing.promise.orders.value)) }
     ensures way { IfOk result (λ begun. out_name begun.reader.reading.home
         ≡ in_name begun.writing.promise.home.value) }
-    ensures served { IfErr result (λ served. (read_failed : Bool) → IsServed
+    ensures served { IfErr result (λ served. (rest : Option (List ℕ)) (read_failed : Bool)
+        → IsServed
         (λ calls. items_of calls.full calls.last) O.contents O.failed M.known M.names
-        [] (O.contents output) read_failed served.report.ending served.report.calls
+        [] rest (O.contents output) read_failed served.report.ending served.report.calls
         served.output) }
 {
     let (register, front) = register.named::<J>();
@@ -448,15 +455,18 @@ where
     requires route { N.ring ≡ Some (out_name writing.promise.orders.value) }
     requires way { out_name reader.reading.home ≡ in_name writing.promise.home.value }
     requires heard { Hears M.known M.names reader.reading reader.orders }
-    // For what was sent, as far as it came home by then, whatever was heard: so it is served.
+    // For what was sent, as far as it came home by then, whatever was heard: so it is served. The report has an account for each
+    // call that was admitted.
     ensures served { (sent : List Sent) × AreCarried sent (taken reader.reading.home)
-        × ((came : List ℕ) (told : List Step) (read_failed : Bool)
+        × ((came : List ℕ) (rest : Option (List ℕ)) (told : List Step) (read_failed : Bool)
         → HasRead M.known M.names sent read came told reader.reading reader.orders
-        → intake.came ≤ counted_told (events_of told)
+        → Covers told intake
         → (read ≡ ending.ReadFailed → read_failed ≡ true)
+        → (IsOfInput read → IsAtEnd rest)
         → IsServed (λ calls. items_of calls.full calls.last) O.contents O.failed M.known M.names
-        came (O.contents writing.promise.device.value) read_failed result.report.ending
-        result.report.calls result.output) }
+        came rest (O.contents writing.promise.device.value) read_failed result.report.ending
+        result.report.calls result.output
+        × (intake.calls ≤ length (items_of result.report.calls.full result.report.calls.last))) }
 {
     let mut reader = reader;
     reader.end();
@@ -574,8 +584,8 @@ where
     }
 }
 
-/// How a connection ended, by what the reader and the writer see. What a writer, or a reader, doesn't end with
-/// counts as want of memory.
+/// How a connection ended, by what the reader and the writer see. A reader that saw its writer stopped ends with `WriteFailed`, and
+/// the writer says why. What a writer doesn't end with counts as want of memory.
 fn of_both(read: Ending, written: Option<Ending>) -> Ending
     ensures memory { written ≡ Some ending.OutOfMemory → result ≡ ending.OutOfMemory }
     ensures failed { written ≡ Some ending.WriteFailed → result ≢ ending.OutOfMemory

@@ -1,10 +1,10 @@
-use Rattle.std.proofs.Common.{◌∙◌, arith, ap, sym, Some}
+use Rattle.std.proofs.Common.{◌∙◌, arith, ap, le_trans, sym, Some}
 use mathlib.Core.List.{IsPrefix}
 use Rattle.callparts.specs.Blocks.{items_of}
 use Rattle.callparts.specs.declared.accounts.Accounts.{Accounts}
 use Rattle.lane.specs.Ring.{taken}
 use Rattle.connection.specs.Puts.{put_of}
-use Rattle.connection.proofs.Ends.{ended-served, gave, gave-there}
+use Rattle.connection.proofs.Ends.{ended-accounted, ended-served, gave, gave-there}
 use Rattle.connection.proofs.Reports.{served-by}
 use Rattle.connection.proofs.serve.end.Goals as goal
 
@@ -36,20 +36,24 @@ returns g c =
       served = (
         gave known names (λ (calls : Accounts). items_of calls.full calls.last) contents failed reading mid old orders c.end.ensures.grows c.end.ensures.ended c.requires.heard before amount took written.rest written.ending written.is_faultless written.device sent is.came front,
         gave-there known names (λ (calls : Accounts). items_of calls.full calls.last) contents failed reading mid old orders c.end.ensures.grows c.end.ensures.ended c.requires.heard before amount took written.rest written.ending written.is_faultless written.device sent is.came front,
-        λ came told read_failed has within unread.
-            served-by known names (λ (calls : Accounts). items_of calls.full calls.last) contents failed came before read_failed report.ending report.calls written.device c.meet_writer.result.output is.output
-            (ended-served known names (λ (calls : Accounts). items_of calls.full calls.last) contents failed reading mid old orders c.end.ensures.grows c.end.ensures.ended c.requires.heard before amount took written.rest written.ending written.is_faultless written.device sent is.came front
-            c.args.read report.ending report.calls came told read_failed
-            (record {
-              none = is.obeyed.2;
-              memory = is.memory;
-              broken = is.broken;
-              marked = is.marked;
-              dropped = is.dropped;
-              faultless = is.faultless;
-              input = is.input;
-              blamed = is.blamed;
-            })
-            is.accounts has (omega (arith, c.audit.ensures.within, within)) unread),
+        λ came rest told read_failed has covers unread over. (
+          served-by known names (λ (calls : Accounts). items_of calls.full calls.last) contents failed came rest before read_failed report.ending report.calls written.device c.meet_writer.result.output is.output
+              (ended-served known names (λ (calls : Accounts). items_of calls.full calls.last) contents failed reading mid old orders c.end.ensures.grows c.end.ensures.ended c.requires.heard before amount took written.rest written.ending written.is_faultless written.device sent is.came front
+              c.args.read report.ending report.calls came rest told read_failed
+              (record {
+                none = is.obeyed.2;
+                memory = is.memory;
+                broken = is.broken;
+                marked = is.marked;
+                dropped = is.dropped;
+                faultless = is.faultless;
+                input = is.input;
+                blamed = is.blamed;
+              })
+              is.accounts has (omega (arith, c.audit.ensures.within, covers.came)) unread over),
+          le_trans covers.calls
+              (ended-accounted known names (λ (calls : Accounts). items_of calls.full calls.last) contents failed reading mid old orders c.end.ensures.grows c.end.ensures.ended c.requires.heard before amount took written.rest written.ending written.is_faultless written.device sent is.came front
+              report.calls told is.accounts has.reads),
+        ),
       );
     }

@@ -1,7 +1,9 @@
-use Rattle.std.proofs.Common.{[], ◌∷◌, ◌++◌}
-use Rattle.outwriter.specs.declared.control.Control.TheVariants.{InputEnded}
+use Rattle.std.proofs.Common.{◌≡◌, ◌∙◌, [], ◌∷◌, ◌++◌, ap, refl, sym}
+use Rattle.lane.specs.Ring.{put_in}
+use Rattle.outwriter.specs.declared.control.Control.TheVariants.{InputEnded, Close}
 use Rattle.readerloop.specs.Orders.{orders_by}
-use Rattle.connection.proofs.Heard.{closed-behind, collects-seats, collects-then, grows-home, grows-then, ordered-put, ordered-same, same-of}
+use Rattle.connection.specs.Puts.{put_of}
+use Rattle.connection.proofs.Heard.{closed-behind, collects-seats, collects-then, grows-home, grows-then, ordered-put, ordered-same, put-lacks, puts-kept, same-of}
 use Rattle.connection.proofs.reader.Reader.end.Goals as goal
 
 pub returns-clause-grows : goal.returns-clause-grows
@@ -14,11 +16,16 @@ pub returns-clause-ended : goal.returns-clause-ended
 returns-clause-ended g c = λ sent told carried reads.
     let cuts = c.cut_all.ensures.cuts.1 sent told reads in
     let rest = collects-then _ _ _ (collects-seats _ _ c.ring_noted.ensures.rest)
-    (collects-then _ _ _ (collects-seats _ _ c.end.ensures.rest) (collects-then _ _ _ (collects-seats _ _ c.join_all.ensures.reading) c.close.ensures.collects)) in (
+    (collects-then _ _ _ (collects-seats _ _ c.end.ensures.rest) (collects-then _ _ _ (collects-seats _ _ c.join_all.ensures.reading) c.close.ensures.collects)) in
+    let same : c.close.new.self.orders.has_dropped ≡ c.put.new.self.has_dropped =
+    c.close.ensures.dropped ∙ (ap (λ orders. orders.has_dropped) c.join_all.ensures.orders ∙ c.ring.ensures.dropped) in
+    let placed : put_of c.close.new.self.orders ≡ put_of c.put.new.self ++ Close ∷ [] =
+    c.close.ensures.put ∙ ap (λ os. os ++ Close ∷ []) (ap put_of c.join_all.ensures.orders ∙ ap (λ outbox. put_in outbox.ring) c.ring.ensures.outbox) in (
       cuts.0,
       record {
         silent = cuts.1.silent;
         calm = cuts.1.calm;
+        undrained = cuts.1.undrained refl;
         reads = rest.keeps sent (cuts.0 ++ told) carried cuts.1.reads;
         ordered = λ ordered.
             let all = orders_by (cuts.0 ++ told) ++ InputEnded ∷ [] in
@@ -26,5 +33,8 @@ returns-clause-ended g c = λ sent told carried reads.
             (ordered-same all c.ring.new.self c.join_all.new.self.orders (same-of c.ring.new.self c.join_all.new.self.orders c.join_all.ensures.orders)
             (ordered-same all c.put.new.self c.ring.new.self (c.ring.ensures.outbox, c.ring.ensures.dropped, c.ring.ensures.unput)
             (ordered-put (orders_by (cuts.0 ++ told)) _ c.cut_all.new.self.orders c.put.new.self c.put.ensures.puts tt (cuts.1.ordered ordered))));
+        drops = λ was. same ∙ puts-kept _ c.cut_all.new.self.orders c.put.new.self c.put.ensures.puts (cuts.1.drops was);
+        lacks = λ ordered dropped.
+            put-lacks (orders_by (cuts.0 ++ told)) _ c.cut_all.new.self.orders c.put.new.self c.close.new.self.orders c.put.ensures.puts placed (cuts.1.ordered ordered) (sym same ∙ dropped);
       },
     )

@@ -1,10 +1,12 @@
-use Rattle.std.proofs.Common.{◌≡◌, ◌∙◌, ◌≤◌, ℕ, List, [], ◌∷◌, ◌++◌, Result, Ok, Err, OnErr, ap, append-nil, arith, refl, subst, sym, take}
+use Rattle.std.proofs.Common.{◌≡◌, ◌∙◌, ◌≤◌, ℕ, List, [], ◌∷◌, ◌++◌, Result, Ok, Err, OnErr, ap, append-nil, arith, refl, subst, sym, take, true≢false}
+use Rattle.callparts.specs.declared.report.Ending.TheVariants.{OutOfMemory, WriteFailed}
 use Rattle.session.specs.declared.event.InEvent.{InEvent}
-use Rattle.session.specs.FlowBytes.{counted_told}
 use Rattle.readerloop.specs.Steps.{Lacks, Step, events_of}
 use Rattle.readerloop.proofs.LetGo.{events-append}
 use Rattle.readerloop.proofs.Resets.{calm-more}
-use Rattle.connection.proofs.Heard.{carried-before, consumes-none, consumes-then, failed-read, grows-home, grows-then, input-read, kept-as, kept-behind, kept-collected, none-more, none-read, not-by-fault, read-failed, some-read, some-sound, with-end}
+use Rattle.connection.specs.Limits.{Covers, Tally}
+use Rattle.connection.proofs.Tallies.{covers-more}
+use Rattle.connection.proofs.Heard.{carried-before, consumes-none, consumes-then, failed-read, grows-home, grows-then, input-out, input-read, kept-as, kept-behind, kept-collected, none-more, none-read, not-by-fault, not-drained, not-of-read, read-failed, some-harsh, some-read, some-sound, stopped-read, with-end}
 use Rattle.connection.proofs.reader.Reader.read.Goals as goal
 
 is-err : {A E P : Type 0} (result : Result A E) → ((a : A) → result ≡ Ok a → ⊥) → OnErr result P → P
@@ -27,7 +29,7 @@ pieces-init g c = (
 pub returns-in_default-clause-heard : goal.returns-in_default-clause-heard
 returns-in_default-clause-heard g c = λ sent carried none.
     let h = c.pieces.invariant.1 sent carried none in
-    (h.0 ++ [], consumes-then _ _ _ h.0 [] h.3 (read-failed _ _ _ _ c.in_default.not-Ok c.read.ensures.bytes), (h.2, failed-read sent h.1 h.2 h.0 (h.0 ++ []) _ _ _ (append-nil h.0) h.4 h.5 h.6 h.7, h.8.came))
+    (h.0 ++ [], consumes-then _ _ _ h.0 [] h.3 (read-failed _ _ _ _ c.in_default.not-Ok c.read.ensures.bytes), (h.2, failed-read sent h.1 h.2 h.0 (h.0 ++ []) _ _ _ (append-nil h.0) h.4 h.5 h.6 h.7, h.8))
 
 pub returns-in_default-clause-grows : goal.returns-in_default-clause-grows
 returns-in_default-clause-grows g c = c.pieces.invariant.0
@@ -35,7 +37,7 @@ returns-in_default-clause-grows g c = c.pieces.invariant.0
 pub returns-then-has_stopped-clause-heard : goal.returns-then-has_stopped-clause-heard
 returns-then-has_stopped-clause-heard g c = λ sent carried none.
     let h = c.pieces.invariant.1 sent carried none in
-    (h.0, h.3, (h.2, input-read sent _ h.1 h.2 h.0 h.0 _ _ _ refl h.4 h.5 h.6 h.7 c.ending.ensures.input c.ending.ensures.goaway c.ending.ensures.drained, h.8.came))
+    (h.0, h.3, (h.2, stopped-read sent h.1 h.2 h.0 h.0 _ _ _ refl h.4 h.5 h.6 h.7, h.8))
 
 pub returns-then-has_stopped-clause-grows : goal.returns-then-has_stopped-clause-grows
 returns-then-has_stopped-clause-grows g c = c.pieces.invariant.0
@@ -45,13 +47,13 @@ returns-then-count-eq0-clause-heard g c = λ sent carried none.
     let h = c.pieces.invariant.1 sent (carried-before sent c.pieces.self.reading c.heed_drain.new.self.reading (grows-home c.pieces.self.reading c.heed_drain.new.self.reading c.heed_drain.ensures.cuts.0) carried) none in
     let came = h.0 ++ take c.in-Ok.count c.read.new.buf in
     let b = kept-behind sent _ h.2 _ _ _ _ c.heed_drain.ensures.cuts h.7 h.8 h.6 in
-    let ending = c.ending-then-count-eq0.ensures in (
+    let ending = c.ending.ensures in (
       came,
       consumes-then _ _ _ h.0 _ h.3 c.in-Ok.ensures.bytes.0,
       (
         b.0 ++ h.2,
-        input-read sent _ h.1 (b.0 ++ h.2) h.0 came _ _ _ (none-more h.0 c.read.new.buf c.in-Ok.count c.if-count-eq0.true) h.4 (b.1 ∙ h.5) b.2 b.3 ending.input ending.goaway ending.drained,
-        b.4.came,
+        input-read sent _ h.1 (b.0 ++ h.2) h.0 came _ _ _ (none-more h.0 c.read.new.buf c.in-Ok.count c.if-count-eq0.true) h.4 (b.1 ∙ h.5) b.2 b.3 ending.input ending.goaway ending.drained ending.draining,
+        b.4,
       ),
     )
 
@@ -73,8 +75,8 @@ returns-then-heed_drain-clause-heard g c = λ sent carried none.
       consumes-then _ _ _ h.0 _ h.3 c.in-Ok.ensures.bytes.0,
       (
         b.0 ++ (more.0 ++ h.2),
-        input-read sent _ (h.1 ++ on.0) (b.0 ++ (more.0 ++ h.2)) came came _ _ _ refl on.1 (b.1 ∙ all-told h.2 more.0 h.1 on.0 h.5 (more.1.all c.in-Ok-None.field-0-is)) b.2 b.3 ending.input ending.goaway ending.drained,
-        b.4.came,
+        input-read sent _ (h.1 ++ on.0) (b.0 ++ (more.0 ++ h.2)) came came _ _ _ refl on.1 (b.1 ∙ all-told h.2 more.0 h.1 on.0 h.5 (more.1.all c.in-Ok-None.field-0-is)) b.2 b.3 ending.input ending.goaway ending.drained ending.draining,
+        b.4,
       ),
     )
 
@@ -130,7 +132,7 @@ returns-in-Err-clause-heard g c = λ sent carried none.
       (
         Lacks ∷ h.2,
         none-read sent h.1 h.2 h.0 _ _ _ _ h.4 h.5 (c.lack.ensures.kept sent h.2 (kept-as sent h.2 _ _ _ _ c.in-Err.ensures.same.0 c.in-Err.ensures.same.1 kept)),
-        subst (λ (n : ℕ). n ≤ counted_told (events_of h.2)) (sym c.in-Err.ensures.uncounted) h.8.came,
+        subst (λ (tally : Tally). Covers (Lacks ∷ h.2) tally) (sym c.in-Err.ensures.uncounted) (covers-more _ (Lacks ∷ []) h.2 h.8),
       ),
     )
 
@@ -142,13 +144,33 @@ pub returns-in_default-clause-failed : goal.returns-in_default-clause-failed
 returns-in_default-clause-failed g c = λ sent carried none failed. is-err _ c.in_default.not-Ok c.read.ensures.marked
 
 pub returns-then-has_stopped-clause-failed : goal.returns-then-has_stopped-clause-failed
-returns-then-has_stopped-clause-failed g c = λ sent carried none failed. absurd (not-by-fault _ c.ending.ensures.input failed)
+returns-then-has_stopped-clause-failed g c = λ sent carried none failed. absurd cc
 
 pub returns-then-count-eq0-clause-failed : goal.returns-then-count-eq0-clause-failed
-returns-then-count-eq0-clause-failed g c = λ sent carried none failed. absurd (not-by-fault _ c.ending-then-count-eq0.ensures.input failed)
+returns-then-count-eq0-clause-failed g c = λ sent carried none failed. absurd (not-by-fault _ c.ending.ensures.input failed)
 
 pub returns-then-heed_drain-clause-failed : goal.returns-then-heed_drain-clause-failed
 returns-then-heed_drain-clause-failed g c = λ sent carried none failed. absurd (not-by-fault _ c.ending-then-heed_drain.ensures.input failed)
+
+pub returns-in_default-clause-over : goal.returns-in_default-clause-over
+returns-in_default-clause-over g c = λ sent carried none input. absurd (not-of-read input)
+
+pub returns-then-has_stopped-clause-over : goal.returns-then-has_stopped-clause-over
+returns-then-has_stopped-clause-over g c = λ sent carried none input. absurd (true≢false (sym (input-out WriteFailed input)))
+
+pub returns-then-heed_drain-clause-over : goal.returns-then-heed_drain-clause-over
+returns-then-heed_drain-clause-over g c = λ sent carried none input. absurd (not-drained _ (c.ending-then-heed_drain.ensures.draining (c.heed_drain-in-pieces.ensures.draining c.if-heed_drain.true)) input)
+
+pub returns-in-Err-clause-over : goal.returns-in-Err-clause-over
+returns-in-Err-clause-over g c = λ sent carried none input. absurd (true≢false (sym (input-out OutOfMemory input)))
+
+pub returns-in-Ok-Some-clause-over : goal.returns-in-Ok-Some-clause-over
+returns-in-Ok-Some-clause-over g c = λ sent carried none input.
+    let before = carried-before sent _ _ c.take.ensures.grows carried in
+    let h = c.pieces.invariant.1 sent (carried-before sent _ _ c.collect.ensures.collects.grows before) none in
+    let kept = kept-collected sent h.2 _ _ _ _ c.collect.ensures.collects before c.collect.ensures.orders h.7 in
+    let on = c.in-Ok-Some.ensures.on h.0 h.1 h.4 in
+    absurd (some-harsh sent _ _ c.in-Ok-Some.ending on.0 h.2 _ _ _ _ carried (with-end _ _ _ _ _ _ _ _ _ c.in-Ok-Some.field-0-is on.2) kept h.8 input)
 
 pub returns-in-Ok-Some-clause-failed : goal.returns-in-Ok-Some-clause-failed
 returns-in-Ok-Some-clause-failed g c = λ sent carried none failed.
