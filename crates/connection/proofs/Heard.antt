@@ -278,10 +278,6 @@ pub input-out : (end : Ending) → IsOfInput end → is_heard_out end ≡ true
 input-out end (inl is) = ap (λ (e : Ending). is_heard_out e) is
 input-out end (inr is) = ap (λ (e : Ending). is_heard_out e) is
 
-pub not-of-read : IsOfInput ReadFailed → ⊥
-not-of-read (inl is) = cc
-not-of-read (inr is) = cc
-
 pub not-drained : (end : Ending) → end ≡ Drained → IsOfInput end → ⊥
 not-drained end drained (inl is) = cc
 not-drained end drained (inr is) = cc
@@ -806,12 +802,20 @@ module _ {A B C J M N : Type 0} {book : Naming J} {route : Ghosts N} {known : �
       → events_of told ≡ before → AreCalm told → KeptFor known names sent told reading orders → HasRead known names sent ReadFailed given told reading orders
   failed-read sent before told bytes given core reading orders same reached is calm kept =
       all-read sent ReadFailed before told bytes given core reading orders same reached is calm kept (λ gone. cc) (λ drains. cc) (λ input. absurd (not-of-read input)) (λ code failed. cc)
+    where
+      not-of-read : IsOfInput ReadFailed → ⊥
+      not-of-read (inl other) = cc
+      not-of-read (inr other) = cc
 
   -- and then the writing side had stopped
   pub stopped-read : (sent : List Sent) (before : List InEvent) (told : List Step) (bytes given : List ℕ) (core : Core) (reading : Reading J M book) (orders : Orders A B C J N book route) → given ≡ bytes → Reached bytes before core
       → events_of told ≡ before → AreCalm told → KeptFor known names sent told reading orders → HasRead known names sent WriteFailed given told reading orders
   stopped-read sent before told bytes given core reading orders same reached is calm kept =
-      all-read sent WriteFailed before told bytes given core reading orders same reached is calm kept (λ gone. cc) (λ drains. cc) (λ input. absurd (true≢false (sym (input-out WriteFailed input)))) (λ code failed. cc)
+      all-read sent WriteFailed before told bytes given core reading orders same reached is calm kept (λ gone. cc) (λ drains. cc) (λ input. absurd (not-of-write input)) (λ code failed. cc)
+    where
+      not-of-write : IsOfInput WriteFailed → ⊥
+      not-of-write (inl other) = cc
+      not-of-write (inr other) = cc
 
   -- some were, and one of them ended the connection
   pub some-read : (sent : List Sent) (tally tally_new : Tally) (end : Ending) (given before : List InEvent) (told : List Step) (bytes : List ℕ) (core : Core) (reading reading_new : Reading J M book) (orders orders_new : Orders A B C J N book route)

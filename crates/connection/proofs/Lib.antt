@@ -1,10 +1,10 @@
 pub mod CreditSteps
 pub mod Tallies
 pub mod Opens
-pub mod Founded
 pub mod Heard
 pub mod Resting
 pub mod Follow
+pub mod Founded
 pub mod RunOrders
 pub mod OpenedOnce
 pub mod Whole

@@ -1,12 +1,13 @@
-use Rattle.std.proofs.Common.{◌≡◌, ◌∙◌, ◌≤◌, ℕ, List, [], ◌∷◌, ◌++◌, Result, Ok, Err, OnErr, ap, append-nil, arith, refl, subst, sym, take, true≢false}
-use Rattle.callparts.specs.declared.report.Ending.TheVariants.{OutOfMemory, WriteFailed}
+use Rattle.std.proofs.Common.{◌≡◌, ◌∙◌, ◌≤◌, inl, inr, ℕ, List, [], ◌∷◌, ◌++◌, Result, Ok, Err, OnErr, ap, append-nil, arith, refl, subst, sym, take, true≢false}
+use Rattle.callparts.specs.declared.report.Ending.TheVariants.{OutOfMemory, ReadFailed, WriteFailed}
 use Rattle.session.specs.declared.event.InEvent.{InEvent}
 use Rattle.readerloop.specs.Steps.{Lacks, Step, events_of}
 use Rattle.readerloop.proofs.LetGo.{events-append}
 use Rattle.readerloop.proofs.Resets.{calm-more}
+use Rattle.connection.specs.Heard.{IsOfInput}
 use Rattle.connection.specs.Limits.{Covers, Tally}
 use Rattle.connection.proofs.Tallies.{covers-more}
-use Rattle.connection.proofs.Heard.{carried-before, consumes-none, consumes-then, failed-read, grows-home, grows-then, input-out, input-read, kept-as, kept-behind, kept-collected, none-more, none-read, not-by-fault, not-drained, not-of-read, read-failed, some-harsh, some-read, some-sound, stopped-read, with-end}
+use Rattle.connection.proofs.Heard.{carried-before, consumes-none, consumes-then, failed-read, grows-home, grows-then, input-out, input-read, kept-as, kept-behind, kept-collected, none-more, none-read, not-by-fault, not-drained, read-failed, some-harsh, some-read, some-sound, stopped-read, with-end}
 use Rattle.connection.proofs.reader.Reader.read.Goals as goal
 
 is-err : {A E P : Type 0} (result : Result A E) → ((a : A) → result ≡ Ok a → ⊥) → OnErr result P → P
@@ -16,6 +17,10 @@ is-err (Err fault) not on = on
 -- behind what was told before come these events
 all-told : (told more : List Step) (before given : List InEvent) → events_of told ≡ before → events_of more ≡ given → events_of (more ++ told) ≡ before ++ given
 all-told told more before given is all = events-append more told ∙ (ap (λ (es : List InEvent). es ++ events_of more) is ∙ ap (λ (es : List InEvent). before ++ es) all)
+
+not-of-read : IsOfInput ReadFailed → ⊥
+not-of-read (inl is) = cc
+not-of-read (inr is) = cc
 
 none-above : (n : ℕ) → n ≡ 0 → n ≤ 0
 none-above n none = omega (arith, none)
