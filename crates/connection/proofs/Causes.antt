@@ -7,7 +7,7 @@ use Rattle.std.proofs.lemmas.List.{append_assoc}
 use Rattle.std.proofs.lemmas.List.Folds.{list_any-append}
 use Rattle.callhead.specs.declared.fault.HeadFault.{HeadFault}
 use Rattle.callhead.specs.declared.head.CallHead.{CallHead}
-use Rattle.callhead.specs.StatusFields.{refusal_of}
+use Rattle.callhead.specs.StatusFields.{refusal_of, unknown_method}
 use Rattle.connbook.specs.declared.answers.AdmitFault.TheVariants as refused
 use Rattle.connbook.specs.declared.answers.Receipt.TheVariants.{Feed, Discard, CallWindow, Overrun}
 use Rattle.writerloop.specs.OwnOrders.{own_order}
