@@ -7,7 +7,7 @@ use Rattle.std.proofs.lemmas.List.{append_assoc}
 use Rattle.std.proofs.lemmas.List.Folds.{list_any-append}
 use Rattle.callhead.specs.declared.fault.HeadFault.{HeadFault}
 use Rattle.callhead.specs.declared.head.CallHead.{CallHead}
-use Rattle.callhead.specs.StatusFields.{refusal_of}
+use Rattle.callhead.specs.StatusFields.{refusal_of, unknown_method}
 use Rattle.connbook.specs.declared.answers.AdmitFault.TheVariants as refused
 use Rattle.connbook.specs.declared.answers.Receipt.TheVariants.{Feed, Discard, CallWindow, Overrun}
 use Rattle.writerloop.specs.OwnOrders.{own_order}
@@ -33,7 +33,9 @@ use Rattle.readerloop.specs.Orders.{begun, came, came_loose, is_fed, last_stream
 use Rattle.readerloop.specs.Steps.{Fate, Plain, Admitted, Unserved, NoWorker, Stopped, Unknown, TurnedAway, Received, Missed, Lacking, Step, Told, CutOff, Drains, Lacks, is_draining, WasTold, admitted, admitted_by, events_of, once}
 use Rattle.writerloop.specs.Orders.{IsAmong, Obeys}
 use Rattle.connection.specs.Causes.{HasCauseOf, HasOwnCause, HasResetCause, IsRefusal, IsRefusedWith, WasHeard, WasTaken, WasWritten}
+use Rattle.connection.specs.Limits.{AreFounded}
 use Rattle.connection.specs.Heard.{HasPut}
+use Rattle.connection.proofs.Founded.{founded-at}
 use Rattle.connection.proofs.RunOrders.{Each, EachTaken, IsOfOwn, each-among, each-append, each-more, each-put, obeys-each, taken-one}
 
 -- ---- what an order is for
@@ -59,9 +61,14 @@ caused-more P Q O N R S resets opens refuses (Goaway last cause) is = tt
 caused-more P Q O N R S resets opens refuses InputEnded is = tt
 caused-more P Q O N R S resets opens refuses Close is = tt
 
+-- the stream began with a head that is refused with these fields, or with one that was told to be of an unknown method
+abbrev pub IsRefusedBy : ℕ → List Field → List Step → Type 0
+IsRefusedBy id fields told = ((fault : HeadFault) × WasTold (events.BadHead id fault) told × (refusal_of fault ≡ Some fields))
+    ⊎ ((head : CallHead) × (before : List Step) × WasHeard (Told (events.Open id head) Unknown) before told × (fields ≡ unknown_method))
+
 -- it has its cause among the steps
 abbrev pub IsCaused : List Step → Order → Type 0
-IsCaused told order = CausedBy (λ id code. HasResetCause code id told) (λ id. is_admitted id told ≡ true) (λ id fields. IsRefusedWith id fields told) order
+IsCaused told order = CausedBy (λ id code. HasResetCause code id told) (λ id. is_admitted id told ≡ true) (λ id fields. IsRefusedBy id fields told) order
 
 abbrev pub AreCaused : List Step → List Order → Type 0
 AreCaused told orders = Each (IsCaused told) orders
@@ -135,7 +142,7 @@ admitted-more : (step : Step) (told : List Step) (id : ℕ) → is_admitted id t
 admitted-more step told id known =
     list_any-append (nat_eq id) (admitted told) (once (admitted_by step)) ∙ ap (λ (b : Bool). b || list_any (nat_eq id) (once (admitted_by step))) known
 
-refused-more : (step : Step) (told : List Step) (id : ℕ) (fields : List Field) → IsRefusedWith id fields told → IsRefusedWith id fields (step ∷ told)
+refused-more : (step : Step) (told : List Step) (id : ℕ) (fields : List Field) → IsRefusedBy id fields told → IsRefusedBy id fields (step ∷ told)
 refused-more step told id fields (inl was) = inl (was.0, told-more step (events.BadHead id was.0) told was.1, was.2)
 refused-more step told id fields (inr was) = inr (was.0, was.1, heard-more step (Told (events.Open id was.0) Unknown) was.1 told was.2, was.3)
 
@@ -255,7 +262,7 @@ ordered-resets told put id code has among = each-among (IsCaused told) (Reset id
 
 module _ (told : List Step) (put : List Order) (run : List RunStep) where
   abbrev pub IsCausedIn : Order → Type 0
-  IsCausedIn order = CausedBy (λ id code. HasCauseOf code id told put run) (λ id. is_admitted id told ≡ true) (λ id fields. IsRefusedWith id fields told) order
+  IsCausedIn order = CausedBy (λ id code. HasCauseOf code id told put run) (λ id. is_admitted id told ≡ true) (λ id fields. IsRefusedBy id fields told) order
 
   own-answer : (last id : ℕ) → HasCauseOf error.FlowControlError id told put run → IsCausedIn (own_order last id)
   own-answer last id has = by (id == 0)
@@ -373,17 +380,29 @@ written-resets told put run has obeys lawful frame was is = written-one _ _ _ ru
 
 -- ---- what is told on a stream without a call
 
-of-refusal : (told : List Step) (put : List Order) (run : List RunStep) → EachTaken (IsCausedIn told put run) run → (id : ℕ) (part : List Mark) → IsOther id run part → IsRefusal id told part
-of-refusal told put run all id part (inl none) = inl none
-of-refusal told put run all id part (inr (inl reset)) = inr (inl reset)
-of-refusal told put run all id part (inr (inr fields)) = inr (inr (fields.0, refused-one _ _ _ id fields.0 run all fields.1, fields.2))
+of-unknown : (names : List ℕ → ℕ → Type 0) (stopped : Bool) (told : List Step) → AreFounded names stopped told → (id : ℕ) (fields : List Field) → IsRefusedBy id fields told → IsRefusedWith names id fields told
+of-unknown names stopped told are id fields (inl was) = inl was
+of-unknown names stopped told are id fields (inr was) = inr (
+  was.0,
+  was.1,
+  was.2,
+  founded-at names stopped was.2.0 (Told (events.Open id was.0) Unknown) was.1 (subst (λ (steps : List Step). AreFounded names stopped steps) was.2.1 are),
+  was.3,
+)
 
-pub streams-without-a-call : (told : List Step) (put : List Order) (run : List RunStep) → HasPut (orders_by told ++ InputEnded ∷ []) put → Obeys true put run → TellOthers run
-    → (id : ℕ) → is_admitted id told ≡ false → (part : List Mark) × IsPart id run part × IsRefusal id told part
-streams-without-a-call told put run has obeys others id unknown =
+of-refusal : (names : List ℕ → ℕ → Type 0) (stopped : Bool) (told : List Step) (put : List Order) (run : List RunStep) → AreFounded names stopped told → EachTaken (IsCausedIn told put run) run → (id : ℕ) (part : List Mark)
+    → IsOther id run part → IsRefusal names id told part
+of-refusal names stopped told put run are all id part (inl none) = inl none
+of-refusal names stopped told put run are all id part (inr (inl reset)) = inr (inl reset)
+of-refusal names stopped told put run are all id part (inr (inr fields)) =
+    inr (inr (fields.0, of-unknown names stopped told are id fields.0 (refused-one _ _ _ id fields.0 run all fields.1), fields.2))
+
+pub streams-without-a-call : (names : List ℕ → ℕ → Type 0) (stopped : Bool) (told : List Step) (put : List Order) (run : List RunStep) → AreFounded names stopped told → HasPut (orders_by told ++ InputEnded ∷ []) put → Obeys true put run
+    → TellOthers run → (id : ℕ) → is_admitted id told ≡ false → (part : List Mark) × IsPart id run part × IsRefusal names id told part
+streams-without-a-call names stopped told put run are has obeys others id unknown =
     let all = run-caused told put run has obeys in
     let found = others id (unopened (is_opened id run) refl) in
-    (found.0, found.1, of-refusal told put run all id found.0 found.2)
+    (found.0, found.1, of-refusal names stopped told put run are all id found.0 found.2)
   where
     unopened : (b : Bool) → is_opened id run ≡ b → is_opened id run ≡ false
     unopened true is = absurd (true≢false (sym (opened-one _ _ _ id run (run-caused told put run has obeys) is) ∙ unknown))

@@ -139,3 +139,7 @@ pub lacked-by : (written : Option WriterEnding) (has_dropped : Bool) → ended_b
 lacked-by written true = refl
 lacked-by None false = refl
 lacked-by (Some end) false = refl
+
+pub untold : (written : Option WriterEnding) → ending_told written ≡ None → written ≡ None
+untold None is = refl
+untold (Some end) is = absurd cc

@@ -1,7 +1,8 @@
 -- The end of a connection: what became of it, where its reader meets its writer.
-use Rattle.std.proofs.Common.{◌≡◌, ◌≢◌, ◌∙◌, ◌++◌, ◌∷◌, ◌≤◌, ℕ, Bool, true, false, true≢false, List, [], All, Option, Some, ap, append-nil, refl, sym, subst}
+use Rattle.std.proofs.Common.{◌≡◌, ◌≢◌, ◌∙◌, ◌++◌, ◌∷◌, ◌≤◌, ℕ, Bool, true, false, true≢false, List, [], All, Option, None, Some, ap, append-nil, length, refl, sym, subst}
+use Rattle.std.specs.Io.KnownBytes.{IsAtEnd}
 use Rattle.std.specs.Prelude.{IfSome}
-use Rattle.std.proofs.lemmas.List.{append_assoc, map-append}
+use Rattle.std.proofs.lemmas.List.{append_assoc, length-map, map-append}
 use mathlib.Core.List.{IsPrefix}
 use Rattle.callparts.specs.declared.call_account.CallAccount.{CallAccount}
 use Rattle.callparts.specs.declared.order.Opening.{Opening}
@@ -32,7 +33,7 @@ use Rattle.writerloop.proofs.EndSteps.{told-on}
 use Rattle.writerloop.proofs.OrderSteps.{obeys-more}
 use Rattle.connection.specs.declared.orders.Orders.{Orders}
 use Rattle.connection.specs.declared.orders.Route.{Ghosts}
-use Rattle.connection.specs.Heard.{AreCarried, Grows, HasEnded, HasRead, Hears}
+use Rattle.connection.specs.Heard.{AreCarried, Grows, HasEnded, HasRead, Hears, IsOfInput}
 use Rattle.connection.specs.Puts.{IsOwn, put_of, put_orders}
 use Rattle.connection.specs.Rest.{CarriesOpen, CarriesRest}
 use Rattle.connection.specs.Sent.{CarriesWhatWasSent}
@@ -41,9 +42,10 @@ use Rattle.connection.proofs.Closing.{none-failed, none-left, took-close}
 use Rattle.connection.proofs.Endings.{Meets}
 use Rattle.connection.proofs.Heard.{all-back, carried-before, carried-front, closed-put, closed-whole, silent-more}
 use Rattle.connection.proofs.Joining.{all_sent, handed-carried, open-carried, own-carried, own_sent, rest-carried}
-use Rattle.connection.proofs.Reports.{accounts-more, are-served, drained-is}
+use Rattle.connection.proofs.Reports.{accounts-more, are-served, drained-is, un-true}
 use Rattle.connection.proofs.Serving.{are-left, blamed-or, carries-told, given-first, number-stands, resets-none, took-apart, took-own}
 use Rattle.connection.proofs.StreamErrors.{never-internal-of}
+use Rattle.connection.proofs.Tallies.{calls-more}
 
 some-is : {one other : Ending} → Some one ≡ Some other → one ≡ other
 some-is same = cc
@@ -97,14 +99,29 @@ module _ {A B C J M N V W : Type 0} {book : Naming J} {route : Ghosts N} (known 
       let closed = ended.1.ordered some.2 in
       open-carried rest sent.senders.handed closed.dropped orders.unput (all-back IsOwn closed.front closed.dropped closed.own) closed.kept
 
+  -- there is an account for each call that was heard to be admitted
+  pub ended-accounted : (calls : V) (told : List Step)
+      → ((sent : List Sent) (told : List Step) → AreCarried sent home → CarriesRest sent rest → IfSome orders.unput (CarriesOpen sent) → Reads known names (carried_in sent) told mid
+      → AreAccounts known names (carried_in sent) told (reported told) (items calls))
+      → Reads known names (carried_in gave) told reading → length (reported told) ≤ length (items calls)
+  ended-accounted calls told settled reads =
+      let ended = ends gave told there reads in
+      let steps = ended.0 ++ told in
+      let aside = rest-carried rest sent.senders.handed orders.unput sent.given took sent.orders_are sent.senders.all owns in
+      let accounts = settled gave steps back aside unput ended.1.reads in
+      let same : length (items calls) ≡ length (reported steps) =
+      sym (length-map (items calls) (λ (account : CallAccount). account.id)) ∙ ap (λ (ids : List ℕ). length ids) accounts.streams in
+      subst (λ (n : ℕ). length (reported told) ≤ n) (sym same) (calls-more ended.0 told)
+
   -- so it is served, whatever was heard
-  pub ended-served : (read ending : Ending) (calls : V) (bytes : List ℕ) (told : List Step) (read_failed : Bool)
+  pub ended-served : (read ending : Ending) (calls : V) (bytes : List ℕ) (input : Option (List ℕ)) (told : List Step) (read_failed : Bool)
       → ((unbroken : read ≢ WriteFailed) → Meets read ending written orders.has_dropped)
       → ((sent : List Sent) (told : List Step) → AreCarried sent home → CarriesRest sent rest → IfSome orders.unput (CarriesOpen sent) → Reads known names (carried_in sent) told mid
       → AreAccounts known names (carried_in sent) told (reported told) (items calls))
       → HasRead known names gave read bytes told reading old → amount ≤ counted_told (events_of told) → (read ≡ ReadFailed → read_failed ≡ true)
-      → IsServed items contents failed known names bytes before read_failed ending calls device
-  ended-served read ending calls bytes told read_failed meets settled has within unread =
+      → (IsOfInput read → old.has_stopped ≡ false → IsAtEnd input) → (orders.has_stopped ≡ true → written ≡ None → orders.has_dropped ≡ true)
+      → IsServed items contents failed known names bytes input before read_failed ending calls device
+  ended-served read ending calls bytes input told read_failed meets settled has within unread over halted =
       let is = meets has.unbroken in
       let ended = ends gave told there has.reads in
       let steps = ended.0 ++ told in
@@ -141,8 +158,8 @@ module _ {A B C J M N V W : Type 0} {book : Naming J} {route : Ghosts N} (known 
       (λ lacked. ap Some (is.memory lacked)) (λ broke spared. ap Some (is.broken broke (λ lacked. spared (ap Some lacked)))) (λ marked. is.marked (some-is marked))
       left (sym all) none sent.written clean in
       let resets = resets-none steps (put_orders orders) given left (closed-put (orders_by steps ++ InputEnded ∷ []) orders shut) all (λ id was. never-internal-of steps told id events has.some was) in
-      are-served known names items contents failed bytes before amount read_failed read ending gave told ended.0 reading mid old orders calls device has ended.1 is.input
-      (λ spared broke calm. is.dropped spared) unread within put
+      are-served known names items contents failed bytes input before amount read_failed read ending gave told ended.0 reading mid old orders calls device has ended.1 is.input
+      (λ spared broke calm. is.dropped spared) unread over (λ stopped. un-true (is_heard_out ending) (λ out. true≢false (sym (halted stopped (is.whole out)) ∙ is.dropped (λ lacked. (heard-spared ending out).0 (ap Some lacked))))) within put
       (accounts-more known names (carried_in gave) (CarriesWhatWasSent put.run) (carries-told steps rising orders shut took front put.run rest sent.senders.handed (subst (λ (os : List Order). Obeys true os sent.written.run) (sym (ap (λ os. orders_of os) sent.orders_are ∙ map-append (λ one. order_of one) sent.given (order_in rest.aside))) (obeys-more given (orders_of (order_in rest.aside)) sent.written.run sent.written.some)) tells) steps (reported steps) (items calls) accounts)
       (are-left steps rising orders shut took front known names put.run rest sent.given sent.orders_are sent.senders resets (reported steps) (items calls) accounts)
       (λ code failing. blamed-or read written code (is.blamed code failing) (λ told-so. sent.blames code told-so))

@@ -1,9 +1,9 @@
 -- What the reading thread has heard, one after another.
-use Rattle.std.proofs.Common.{◌≡◌, ◌≢◌, ◌∙◌, ◌⊎◌, ◌≤◌, ◌<◌, inl, inr, ℕ, Bool, true, false, true≢false, List, [], ◌∷◌, ◌++◌, All, Option, None, Some, ap, append-nil, arith, refl, subst, sym, map, take}
-use Rattle.std.proofs.lemmas.List.{append_assoc, map-append}
+use Rattle.std.proofs.Common.{◌≡◌, ◌≢◌, ◌∙◌, ◌⊎◌, ◌≤◌, ◌<◌, ◌+◌, inl, inr, ℕ, Bool, true, false, true≢false, List, [], ◌∷◌, ◌++◌, All, Option, None, Some, ap, append-nil, arith, length, length-append, refl, subst, sym, map, take}
+use Rattle.std.proofs.lemmas.List.{append_assoc, length-map, map-append}
 use Rattle.std.proofs.lemmas.List.Elements.{All-cons, All-head, All-nil, All-push, All-tail, Contains-append_left, Contains-append_right}
 use Rattle.std.specs.Io.KnownBytes.{Consumes, Keeps, ReadConsumes}
-use Rattle.std.specs.Prelude.{Contains, IfSome, Result, Ok, Err, is_some}
+use Rattle.std.specs.Prelude.{◌||◌, Contains, IfSome, Result, Ok, Err, is_some}
 use mathlib.Core.List.{IsPrefix}
 use Rattle.callhead.specs.declared.head.CallHead.{CallHead}
 use Rattle.callparts.specs.declared.order.Opening.{Opening}
@@ -23,7 +23,6 @@ use Rattle.session.specs.declared.event.InEvent.{InEvent}
 use Rattle.session.specs.declared.event.InEvent.TheVariants as events
 use Rattle.session.specs.CoreStates.{Core, Reached}
 use Rattle.session.specs.Events.{Events}
-use Rattle.session.specs.FlowBytes.{counted_told}
 use Rattle.session.proofs.EventLaws.{reached_events}
 use Rattle.session.proofs.OneEvents.{events_go_on, events_one}
 use Rattle.readerloop.specs.declared.decided.Cut.{Cut}
@@ -33,16 +32,17 @@ use Rattle.readerloop.specs.Calls.{HasReturned, Sent, carried_in}
 use Rattle.readerloop.specs.Orders.{ends_at, orders_at, orders_by}
 use Rattle.readerloop.specs.Readings.{Awaits, CollectsTo, Decides, DecidesOn, IsNext, KeepsNext, Reads, ReadsOn, Stands, Stays, goaway_in, order_in, orders_in}
 use Rattle.readerloop.specs.Reports.{AreCalm, AreHeard, IsFront, is_heard_out}
-use Rattle.readerloop.specs.Steps.{CutOff, Drains, Lacks, Fate, Step, Told, WasTold, admitted_by, events_of, is_draining}
+use Rattle.readerloop.specs.Steps.{CutOff, Drains, Lacks, Fate, Step, Told, WasTold, admitted_by, events_of, is_drain, is_draining}
 use Rattle.readerloop.proofs.LetGo.{events-append}
 use Rattle.readerloop.proofs.Resets.{calm-more, ends-harsh}
 use Rattle.connection.specs.declared.orders.Orders.{Orders}
 use Rattle.connection.specs.declared.orders.Outbox.{Outbox}
 use Rattle.connection.specs.declared.orders.Route.{Ghosts}
-use Rattle.connection.specs.Heard.{Acts, AreCarried, Collects, CutsSome, Grows, HasPut, HasRead, IsEndedBy, KeptFor, ReadsTo, ReadsWith}
-use Rattle.connection.specs.Limits.{AreGoing, Covers, IsJustified, Tally}
+use Rattle.connection.specs.Heard.{Acts, AreCarried, Collects, CutsSome, Grows, HasPut, HasRead, IsEndedBy, IsOfInput, KeptFor, ReadsTo, ReadsWith}
+use Rattle.connection.specs.Limits.{AreGoing, Covers, IsFounded, IsJustified, Tally}
 use Rattle.connection.specs.Puts.{Closed, IsKept, IsOwn, IsSame, Ordered, Puts, PutsAll, put_of, put_orders}
 use Rattle.connection.proofs.Endings.{ends-unbroken}
+use Rattle.connection.proofs.Founded.{all-founded, cuts-founded, one-founded}
 use Rattle.connection.proofs.Opens.{plain-own}
 use Rattle.connection.proofs.Tallies.{covers-more, covers-none, cuts-justified, going-more}
 
@@ -117,6 +117,7 @@ module _ {A B C J N : Type 0} {book : Naming J} {route : Ghosts N} where
     ap (λ (o : Orders A B C J N book route). o.has_dropped) is,
     ap (λ (o : Orders A B C J N book route). o.unput) is,
     ap (λ (o : Orders A B C J N book route). o.backlog) is,
+    ap (λ (o : Orders A B C J N book route). o.has_stopped) is,
   )
 
   -- the same was put
@@ -154,16 +155,20 @@ module _ {A B C J N : Type 0} {book : Naming J} {route : Ghosts N} where
       subst (λ (orders : Orders A B C J N book route). Ordered (all ++ []) orders) (sym same) (subst (λ (os : List Order). Ordered os old) (sym (append-nil all)) ordered)
   ordered-some all (Some order) old new puts own ordered = ordered-put all order old new puts own ordered
 
-  pub ordered-same : (all : List Order) (old new : Orders A B C J N book route) → IsSame old new → Ordered all old → Ordered all new
-  ordered-same all old new same ordered =
-      let is : put_of new ≡ put_of old = put-same old new same.0 same.3 in
+  -- the same orders, where the writer was seen to have stopped since
+  pub ordered-stopped : (all : List Order) (old new : Orders A B C J N book route) → new.outbox ≡ old.outbox → new.has_dropped ≡ old.has_dropped → new.unput ≡ old.unput → new.backlog ≡ old.backlog → Ordered all old → Ordered all new
+  ordered-stopped all old new outbox drops unput backlog ordered =
+      let is : put_of new ≡ put_of old = put-same old new outbox backlog in
       record {
         dropped = ordered.dropped;
         parts = ap (λ (os : List (Control (Opening J book))). map_of (os ++ ordered.dropped)) is ∙ ordered.parts;
         own = subst (λ (os : List (Control (Opening J book))). All IsOwn (os ++ ordered.dropped)) (sym is) ordered.own;
-        kept = subst (λ (found : Option (Control (Opening J book))). IfSome found (Contains ordered.dropped)) (sym same.2) ordered.kept;
-        whole = λ none. ordered.whole (sym same.1 ∙ none);
+        kept = subst (λ (found : Option (Control (Opening J book))). IfSome found (Contains ordered.dropped)) (sym unput) ordered.kept;
+        whole = λ none. ordered.whole (sym drops ∙ none);
       }
+
+  pub ordered-same : (all : List Order) (old new : Orders A B C J N book route) → IsSame old new → Ordered all old → Ordered all new
+  ordered-same all old new same ordered = ordered-stopped all old new same.0 same.1 same.2 same.3 ordered
 
   -- behind these orders that no more come
   pub closed-behind : (all : List Order) (old new : Orders A B C J N book route) → put_of new ≡ put_of old ++ orders.Close ∷ [] → new.has_dropped ≡ old.has_dropped → new.unput ≡ old.unput → Ordered all old → Closed all new
@@ -197,6 +202,25 @@ module _ {A B C J N : Type 0} {book : Naming J} {route : Ghosts N} where
 
 pub silent-more : (more told : List Step) → events_of more ≡ [] → events_of (more ++ told) ≡ events_of told
 silent-more more told silent = events-append more told ∙ (ap (λ (es : List InEvent). events_of told ++ es) silent ∙ append-nil (events_of told))
+
+or-both : (a b : Bool) → a ≡ false → b ≡ false → (a || b) ≡ false
+or-both true b one other = absurd (true≢false one)
+or-both false b one other = other
+
+or-first : (a b : Bool) → (a || b) ≡ false → a ≡ false
+or-first true b is = absurd (true≢false is)
+or-first false b is = refl
+
+or-second : (a b : Bool) → (a || b) ≡ false → b ≡ false
+or-second true b is = absurd (true≢false is)
+or-second false b is = is
+
+-- neither with these steps nor before them the server drained
+pub undrained-more : (more told : List Step) → is_draining more ≡ false → is_draining told ≡ false → is_draining (more ++ told) ≡ false
+undrained-more [] told first none = none
+undrained-more (step ∷ more) told first none =
+    or-both (is_drain step) (is_draining (more ++ told)) (or-first (is_drain step) (is_draining more) first)
+    (undrained-more more told (or-second (is_drain step) (is_draining more) first) none)
 
 -- ---- how a step ended the connection
 
@@ -236,6 +260,18 @@ pub not-by-writing : (end : Ending) → EndsInput end → end ≢ WriteFailed
 not-by-writing end (inl is) other = cc
 not-by-writing end (inr (inl is)) other = cc
 not-by-writing end (inr (inr is)) other = cc
+
+pub input-out : (end : Ending) → IsOfInput end → is_heard_out end ≡ true
+input-out end (inl is) = ap (λ (e : Ending). is_heard_out e) is
+input-out end (inr is) = ap (λ (e : Ending). is_heard_out e) is
+
+pub not-drained : (end : Ending) → end ≡ Drained → IsOfInput end → ⊥
+not-drained end drained (inl is) = cc
+not-drained end drained (inr is) = cc
+
+undrained-so : (end : Ending) (draining told : Bool) → draining ≡ told → (draining ≡ true → end ≡ Drained) → IsOfInput end → told ≡ false
+undrained-so end true told same drains input = absurd (not-drained end (drains refl) input)
+undrained-so end false told same drains input = sym same
 
 pub not-by-error : (end : Ending) → EndsInput end → (code : ErrorCode) → end ≢ ProtocolError code
 not-by-error end (inl is) code other = cc
@@ -350,10 +386,10 @@ module _ {J M : Type 0} {book : Naming J} {known : ℕ → List (List ℕ) → B
 module _ {A B C J M N : Type 0} {book : Naming J} {route : Ghosts N} {known : ℕ → List (List ℕ) → Bool → Answer → Type 0} {names : List ℕ → ℕ → Type 0} where
   -- what was decided is done: two orders, and the half
   pub acts-done : (decided : Decided J book) (first : Option (Control (Opening J book))) (reading reading_new : Reading J M book) (old mid new : Orders A B C J N book route) → order_in first ≡ goaway_in decided.goaway → IfSome first IsOwn
-      → PutsAll first old mid → PutsAll decided.order mid new
+      → PutsAll first old mid → PutsAll decided.order mid new → (old.has_stopped ≡ true → new.has_stopped ≡ true)
       → ((sent : List Sent) (told : List Step) (step : Step) → Decides known names (carried_in sent) told step decided reading → Reads known names (carried_in sent) (step ∷ told) reading_new) → reading_new.home ≡ reading.home
       → Acts known names decided reading old reading_new new
-  acts-done decided first reading reading_new old mid new goes one before behind reads same = record {
+  acts-done decided first reading reading_new old mid new goes one before behind stops reads same = record {
     home = same;
     reads = reads;
     ordered = λ sent told step decides own ordered.
@@ -361,12 +397,13 @@ module _ {A B C J M N : Type 0} {book : Naming J} {route : Ghosts N} {known : �
         (append_assoc (orders_by told) (order_in first) (order_in decided.order)
         ∙ (ap (λ (os : List Order). orders_by told ++ (os ++ order_in decided.order)) goes ∙ ap (λ (os : List Order). orders_by told ++ os) decides.orders))
         (ordered-some (orders_by told ++ order_in first) decided.order mid new behind own (ordered-some (orders_by told) first old mid before one ordered));
+    stops = stops;
   }
 
   -- ---- cuts
 
   pub cuts-none : (ended : Bool) (reading : Reading J M book) (orders : Orders A B C J N book route) → CutsSome known names ended reading orders reading orders
-  cuts-none ended reading orders = (refl, λ sent told reads. ([], record { silent = refl; calm = tt; going = λ is. tt; reads = reads; ordered = λ ordered. ordered }))
+  cuts-none ended reading orders = (refl, λ sent told reads. ([], record { silent = refl; calm = tt; going = λ is. tt; undrained = λ is. refl; reads = reads; ordered = λ ordered. ordered; stops = λ was. was }))
 
   pub cuts-then : (ended : Bool) (one two three : Reading J M book) (old mid new : Orders A B C J N book route) → CutsSome known names ended one old two mid → CutsSome known names ended two mid three new → CutsSome known names ended one old three new
   cuts-then ended one two three old mid new first second = (
@@ -380,8 +417,10 @@ module _ {A B C J M N : Type 0} {book : Naming J} {route : Ghosts N} {known : �
             silent = silent-more b.0 a.0 b.1.silent ∙ a.1.silent;
             calm = calm-more b.0 a.0 b.1.calm a.1.calm;
             going = λ is. going-more b.0 a.0 (b.1.going is) (a.1.going is);
+            undrained = λ is. undrained-more b.0 a.0 (b.1.undrained is) (a.1.undrained is);
             reads = subst (λ (steps : List Step). Reads known names (carried_in sent) steps three) same b.1.reads;
             ordered = λ ordered. subst (λ (steps : List Step). Ordered (orders_by steps) new) same (b.1.ordered (a.1.ordered ordered));
+            stops = λ was. b.1.stops (a.1.stops was);
           },
         ),
   )
@@ -397,8 +436,10 @@ module _ {A B C J M N : Type 0} {book : Naming J} {route : Ghosts N} {known : �
             silent = refl;
             calm = (refl, tt);
             going = going;
+            undrained = λ is. refl;
             reads = acts.reads sent told (CutOff id) decision;
             ordered = λ ordered. acts.ordered sent told (CutOff id) decision (plain-own told (CutOff id) decided refl decision.orders) ordered;
+            stops = acts.stops;
           },
         ),
   )
@@ -415,8 +456,10 @@ module _ {A B C J M N : Type 0} {book : Naming J} {route : Ghosts N} {known : �
             silent = refl;
             calm = (refl, tt);
             going = λ is. tt;
+            undrained = λ is. absurd (true≢false (sym is));
             reads = acts.reads sent told Drains decision;
             ordered = λ ordered. acts.ordered sent told Drains decision (plain-own told Drains decided refl decision.orders) ordered;
+            stops = acts.stops;
           },
         ),
   )
@@ -427,7 +470,15 @@ module _ {A B C J M N : Type 0} {book : Naming J} {route : Ghosts N} {known : �
     home,
     λ sent told reads. (
       [],
-      record { silent = refl; calm = tt; going = λ is. tt; reads = stays sent told reads; ordered = λ ordered. ordered-same (orders_by told) old new same ordered },
+      record {
+        silent = refl;
+        calm = tt;
+        going = λ is. tt;
+        undrained = λ is. refl;
+        reads = stays sent told reads;
+        ordered = λ ordered. ordered-same (orders_by told) old new same ordered;
+        stops = λ was. same.4 ∙ was;
+      },
     ),
   )
 
@@ -443,8 +494,8 @@ module _ {A B C J M N : Type 0} {book : Naming J} {route : Ghosts N} {known : �
       → ((sent : List Sent) (told : List Step) → Reads known names (carried_in sent) told one → Covers told tally → IsJustified (Told event fate) told) → ((told : List Step) → Covers told tally → Covers (Told event fate ∷ told) tally_new)
       → end ≡ decided.ends → two.home ≡ one.home → DecidesOn known names (Told event fate) decided one two
       → ((told : List Step) → orders_in decided ≡ orders_at told (Told event fate) → IfSome decided.order IsOwn)
-      → Acts known names decided two old three new → ReadsWith known names tally tally_new (event ∷ []) end one old three new
-  with-one tally tally_new event fate decided end one two three old new justified covered is home decides own acts = (
+      → Acts known names decided two old three new → IsFounded names old.has_stopped (Told event fate) → ReadsWith known names tally tally_new (event ∷ []) end one old three new
+  with-one tally tally_new event fate decided end one two three old new justified covered is home decides own acts founded = (
     grows-home one three (acts.home ∙ home),
     λ sent carried told kept covers.
         let decision = decides sent told kept.reads in (
@@ -458,6 +509,10 @@ module _ {A B C J M N : Type 0} {book : Naming J} {route : Ghosts N} {known : �
               reads = acts.reads sent told (Told event fate) decision;
               ordered = acts.ordered sent told (Told event fate) decision (own told decision.orders) kept.ordered;
               justified = (justified sent told kept.reads covers, kept.justified);
+              founded = (
+                one-founded names old.has_stopped new.has_stopped acts.stops (Told event fate) founded,
+                all-founded names old.has_stopped new.has_stopped acts.stops told kept.founded,
+              );
               going = kept.going;
             };
           },
@@ -468,11 +523,11 @@ module _ {A B C J M N : Type 0} {book : Naming J} {route : Ghosts N} {known : �
   -- whatever was counted
   pub to-one : (event : InEvent) (fate : Fate) (decided : Decided J book) (end : Option Ending) (one two three : Reading J M book) (old new : Orders A B C J N book route)
       → ((told : List Step) → IsJustified (Told event fate) told) → end ≡ decided.ends → two.home ≡ one.home → admitted_by (Told event fate) ≡ None
-      → DecidesOn known names (Told event fate) decided one two → Acts known names decided two old three new → ReadsTo known names (event ∷ []) end one old three new
-  to-one event fate decided end one two three old new justified is home plain decides acts =
+      → DecidesOn known names (Told event fate) decided one two → Acts known names decided two old three new → IsFounded names old.has_stopped (Told event fate) → ReadsTo known names (event ∷ []) end one old three new
+  to-one event fate decided end one two three old new justified is home plain decides acts founded =
       let none : Tally = record { calls = 0; came = 0 } in
       let all = with-one none none event fate decided end one two three old new (λ sent steps reads covers. justified steps) (λ steps covers. covers-none (Told event fate ∷ steps)) is home decides
-      (λ told orders. plain-own told (Told event fate) decided plain orders) acts in (
+      (λ told orders. plain-own told (Told event fate) decided plain orders) acts founded in (
         all.0,
         λ sent carried told kept.
             let found = all.1 sent carried told kept (covers-none told) in
@@ -495,8 +550,9 @@ module _ {A B C J M N : Type 0} {book : Naming J} {route : Ghosts N} {known : �
 
   -- one that leads to no order
   pub to-silent : (event : InEvent) (fate : Fate) (one two : Reading J M book) (old new : Orders A B C J N book route) → ((told : List Step) → orders_at told (Told event fate) ≡ []) → ends_at (Told event fate) ≡ None
-      → ((told : List Step) → IsJustified (Told event fate) told) → two.home ≡ one.home → ReadsOn known names (Told event fate) one two → IsSame old new → ReadsTo known names (event ∷ []) None one old two new
-  to-silent event fate one two old new silent calm justified home reads same = (
+      → ((told : List Step) → IsJustified (Told event fate) told) → two.home ≡ one.home → ReadsOn known names (Told event fate) one two → IsSame old new → IsFounded names old.has_stopped (Told event fate)
+      → ReadsTo known names (event ∷ []) None one old two new
+  to-silent event fate one two old new silent calm justified home reads same founded = (
     grows-home one two home,
     λ sent carried told kept. (
       Told event fate ∷ [],
@@ -510,6 +566,10 @@ module _ {A B C J M N : Type 0} {book : Naming J} {route : Ghosts N} {known : �
           ordered = subst (λ (os : List Order). Ordered os new) (sym (ap (λ (os : List Order). orders_by told ++ os) (silent told) ∙ append-nil (orders_by told)))
               (ordered-same (orders_by told) old new same kept.ordered);
           justified = (justified told, kept.justified);
+          founded = (
+            one-founded names old.has_stopped new.has_stopped (λ was. same.4 ∙ was) (Told event fate) founded,
+            all-founded names old.has_stopped new.has_stopped (λ was. same.4 ∙ was) told kept.founded,
+          );
           going = kept.going;
         };
       },
@@ -526,8 +586,28 @@ module _ {A B C J M N : Type 0} {book : Naming J} {route : Ghosts N} {known : �
           reads = collects.keeps sent told (carried-before sent two three reads.0 carried) kept.reads;
           ordered = ordered-same (orders_by told) old mid same kept.ordered;
           justified = kept.justified;
+          founded = all-founded names old.has_stopped mid.has_stopped (λ was. same.4 ∙ was) told kept.founded;
           going = kept.going;
         }),
+  )
+
+  -- nothing was heard before it, and the writer was seen to have stopped
+  pub kept-stopped : (sent : List Sent) (told : List Step) (reading : Reading J M book) (old mid : Orders A B C J N book route) → mid.outbox ≡ old.outbox → mid.has_dropped ≡ old.has_dropped → mid.unput ≡ old.unput → mid.backlog ≡ old.backlog
+      → mid.has_stopped ≡ true → KeptFor known names sent told reading old → KeptFor known names sent told reading mid
+  kept-stopped sent told reading old mid outbox drops unput backlog stopped kept = record {
+    reads = kept.reads;
+    ordered = ordered-stopped (orders_by told) old mid outbox drops unput backlog kept.ordered;
+    justified = kept.justified;
+    founded = all-founded names old.has_stopped mid.has_stopped (λ was. stopped) told kept.founded;
+    going = kept.going;
+  }
+
+  pub with-stopped : (tally tally_new : Tally) (given : List InEvent) (end : Option Ending) (one two : Reading J M book) (old mid new : Orders A B C J N book route) → mid.outbox ≡ old.outbox → mid.has_dropped ≡ old.has_dropped
+      → mid.unput ≡ old.unput → mid.backlog ≡ old.backlog → mid.has_stopped ≡ true
+      → ReadsWith known names tally tally_new given end one mid two new → ReadsWith known names tally tally_new given end one old two new
+  with-stopped tally tally_new given end one two old mid new outbox drops unput backlog stopped reads = (
+    reads.0,
+    λ sent carried told kept. reads.1 sent carried told (kept-stopped sent told one old mid outbox drops unput backlog stopped kept),
   )
 
   -- nothing was put before it
@@ -553,6 +633,7 @@ module _ {A B C J M N : Type 0} {book : Naming J} {route : Ghosts N} {known : �
               reads = reads-seats sent (a.0 ++ told) two three is a.1.kept.reads;
               ordered = ordered-same (orders_by (a.0 ++ told)) mid new same a.1.kept.ordered;
               justified = a.1.kept.justified;
+              founded = all-founded names mid.has_stopped new.has_stopped (λ was. same.4 ∙ was) (a.0 ++ told) a.1.kept.founded;
               going = a.1.kept.going;
             };
           },
@@ -589,6 +670,7 @@ module _ {A B C J M N : Type 0} {book : Naming J} {route : Ghosts N} {known : �
           reads = a.1.reads;
           ordered = a.1.ordered kept.ordered;
           justified = cuts-justified a.0 told a.1.silent kept.justified;
+          founded = cuts-founded names mid.has_stopped a.0 told a.1.silent (all-founded names old.has_stopped mid.has_stopped a.1.stops told kept.founded);
           going = going-more a.0 told (a.1.going refl) kept.going;
         })
         (covers-more tally a.0 told covers) in
@@ -669,6 +751,7 @@ module _ {A B C J M N : Type 0} {book : Naming J} {route : Ghosts N} {known : �
           reads = a.1.reads;
           ordered = a.1.ordered kept.ordered;
           justified = cuts-justified a.0 told a.1.silent kept.justified;
+          founded = cuts-founded names new.has_stopped a.0 told a.1.silent (all-founded names old.has_stopped new.has_stopped a.1.stops told kept.founded);
           going = going-more a.0 told (a.1.going refl) kept.going;
         },
         covers-more tally a.0 told covers,
@@ -676,11 +759,12 @@ module _ {A B C J M N : Type 0} {book : Naming J} {route : Ghosts N} {known : �
 
   -- all events of these bytes were heard
   pub all-read : (sent : List Sent) (end : Ending) (before : List InEvent) (told : List Step) (bytes given : List ℕ) (core : Core) (reading : Reading J M book) (orders : Orders A B C J N book route) → given ≡ bytes → Reached bytes before core
-      → events_of told ≡ before → AreCalm told → KeptFor known names sent told reading orders → (end ≡ PeerGoaway → WasTold events.PeerGoaway told) → (end ≡ Drained → is_draining told ≡ true) → ((code : ErrorCode) → end ≢ ProtocolError code)
-      → end ≢ WriteFailed → HasRead known names sent end given told reading orders
-  all-read sent end before told bytes given core reading orders same reached is calm kept goaway drained unfailed unbroken = record {
+      → events_of told ≡ before → AreCalm told → KeptFor known names sent told reading orders → (end ≡ PeerGoaway → WasTold events.PeerGoaway told) → (end ≡ Drained → is_draining told ≡ true) → (IsOfInput end → is_draining told ≡ false)
+      → ((code : ErrorCode) → end ≢ ProtocolError code) → end ≢ WriteFailed → HasRead known names sent end given told reading orders
+  all-read sent end before told bytes given core reading orders same reached is calm kept goaway drained undrained unfailed unbroken = record {
     reads = kept.reads;
     justified = kept.justified;
+    founded = kept.founded;
     going = kept.going;
     heard = subst (λ (bs : List ℕ). AreHeard end bs (events_of told)) (sym same) (record {
       front = front-some bytes (events_of told) before core reached ([], append-nil (events_of told) ∙ is);
@@ -691,6 +775,7 @@ module _ {A B C J M N : Type 0} {book : Naming J} {route : Ghosts N} {known : �
     ordered = kept.ordered;
     goaway = goaway;
     drained = drained;
+    undrained = undrained;
     failed = λ code failed. absurd (unfailed code failed);
     unbroken = unbroken;
   }
@@ -699,19 +784,25 @@ module _ {A B C J M N : Type 0} {book : Naming J} {route : Ghosts N} {known : �
   pub input-read : (sent : List Sent) (end : Ending) (before : List InEvent) (told : List Step) (bytes given : List ℕ) (core : Core) (reading : Reading J M book) (orders : Orders A B C J N book route) → given ≡ bytes → Reached bytes before core
       → events_of told ≡ before → AreCalm told → KeptFor known names sent told reading orders → EndsInput end
       → (end ≡ PeerGoaway → (s : List Sent) (steps : List Step) → Reads known names (carried_in s) steps reading → WasTold events.PeerGoaway steps)
-      → (end ≡ Drained → (s : List Sent) (steps : List Step) → Reads known names (carried_in s) steps reading → is_draining steps ≡ true) → HasRead known names sent end given told reading orders
-  input-read sent end before told bytes given core reading orders same reached is calm kept input goaway drained =
-      all-read sent end before told bytes given core reading orders same reached is calm kept (λ gone. goaway gone sent told kept.reads) (λ drains. drained drains sent told kept.reads) (not-by-error end input) (not-by-writing end input)
+      → (end ≡ Drained → (s : List Sent) (steps : List Step) → Reads known names (carried_in s) steps reading → is_draining steps ≡ true) → (reading.is_draining ≡ true → end ≡ Drained)
+      → HasRead known names sent end given told reading orders
+  input-read sent end before told bytes given core reading orders same reached is calm kept input goaway drained draining =
+      all-read sent end before told bytes given core reading orders same reached is calm kept (λ gone. goaway gone sent told kept.reads) (λ drains. drained drains sent told kept.reads)
+      (undrained-so end reading.is_draining (is_draining told) kept.reads.drains draining) (not-by-error end input) (not-by-writing end input)
 
   pub failed-read : (sent : List Sent) (before : List InEvent) (told : List Step) (bytes given : List ℕ) (core : Core) (reading : Reading J M book) (orders : Orders A B C J N book route) → given ≡ bytes → Reached bytes before core
       → events_of told ≡ before → AreCalm told → KeptFor known names sent told reading orders → HasRead known names sent ReadFailed given told reading orders
   failed-read sent before told bytes given core reading orders same reached is calm kept =
-      all-read sent ReadFailed before told bytes given core reading orders same reached is calm kept (λ gone. cc) (λ drains. cc) (λ code failed. cc) (λ broke. cc)
+      all-read sent ReadFailed before told bytes given core reading orders same reached is calm kept (λ gone. cc) (λ drains. cc) (λ input. absurd (not-of-read input)) (λ code failed. cc) (λ broke. cc)
+    where
+      not-of-read : IsOfInput ReadFailed → ⊥
+      not-of-read (inl other) = cc
+      not-of-read (inr other) = cc
 
   -- some were, and one of them ended the connection
   pub some-read : (sent : List Sent) (tally tally_new : Tally) (end : Ending) (given before : List InEvent) (told : List Step) (bytes : List ℕ) (core : Core) (reading reading_new : Reading J M book) (orders orders_new : Orders A B C J N book route)
       → AreCarried sent (taken reading_new.home) → Reached bytes (before ++ given) core → events_of told ≡ before → ReadsWith known names tally tally_new given (Some end) reading orders reading_new orders_new
-      → KeptFor known names sent told reading orders → Covers told tally → (all : List Step) × HasRead known names sent end bytes all reading_new orders_new × (tally_new.came ≤ counted_told (events_of all))
+      → KeptFor known names sent told reading orders → Covers told tally → (all : List Step) × HasRead known names sent end bytes all reading_new orders_new × Covers all tally_new
   some-read sent tally tally_new end given before told bytes core reading reading_new orders orders_new carried reached is reads kept covers =
       let more = reads.1 sent carried told kept covers in
       let not : is_heard_out end ≡ true → ⊥ = λ out. true≢false (sym out ∙ ended-harsh end more.0 more.1.ended) in (
@@ -719,6 +810,7 @@ module _ {A B C J M N : Type 0} {book : Naming J} {route : Ghosts N} {known : �
         record {
           reads = more.1.kept.reads;
           justified = more.1.kept.justified;
+          founded = more.1.kept.founded;
           going = more.1.kept.going;
           heard = record {
             front = front-some bytes (events_of (more.0 ++ told)) (before ++ given) core reached (
@@ -742,10 +834,11 @@ module _ {A B C J M N : Type 0} {book : Naming J} {route : Ghosts N} {known : �
           ordered = more.1.kept.ordered;
           goaway = λ gone. absurd (not (ap (λ (e : Ending). is_heard_out e) gone));
           drained = λ drains. absurd (not (ap (λ (e : Ending). is_heard_out e) drains));
+          undrained = λ input. absurd (not (input-out end input));
           failed = λ code is_so. subst (λ (e : Ending). IsEndedBy e (more.0 ++ told)) is_so (ended-front end more.0 told more.1.ended);
           unbroken = ended-unbroken end more.0 more.1.ended;
         },
-        more.2.came,
+        more.2,
       )
 
   pub some-sound : (sent : List Sent) (tally tally_new : Tally) (end : Ending) (given : List InEvent) (told : List Step) (reading reading_new : Reading J M book) (orders orders_new : Orders A B C J N book route)
@@ -753,6 +846,12 @@ module _ {A B C J M N : Type 0} {book : Naming J} {route : Ghosts N} {known : �
   some-sound sent tally tally_new end given told reading reading_new orders orders_new carried reads kept covers is =
       let more = reads.1 sent carried told kept covers in
       true≢false (sym (ap (λ (e : Ending). is_heard_out e) is) ∙ ended-harsh end more.0 more.1.ended)
+
+  pub some-harsh : (sent : List Sent) (tally tally_new : Tally) (end : Ending) (given : List InEvent) (told : List Step) (reading reading_new : Reading J M book) (orders orders_new : Orders A B C J N book route)
+      → AreCarried sent (taken reading_new.home) → ReadsWith known names tally tally_new given (Some end) reading orders reading_new orders_new → KeptFor known names sent told reading orders → Covers told tally → IsOfInput end → ⊥
+  some-harsh sent tally tally_new end given told reading reading_new orders orders_new carried reads kept covers is =
+      let more = reads.1 sent carried told kept covers in
+      true≢false (sym (input-out end is) ∙ ended-harsh end more.0 more.1.ended)
 
   -- the connection ends for want of memory
   pub kept-lack : (sent : List Sent) (told : List Step) (decided : Decided J book) (one two three : Reading J M book) (old new : Orders A B C J N book route) → DecidesOn known names Lacks decided one two → Acts known names decided two old three new
@@ -763,6 +862,7 @@ module _ {A B C J M N : Type 0} {book : Naming J} {route : Ghosts N} {known : �
         reads = acts.reads sent told Lacks decision;
         ordered = acts.ordered sent told Lacks decision (plain-own told Lacks decided refl decision.orders) kept.ordered;
         justified = (tt, kept.justified);
+        founded = (tt, all-founded names old.has_stopped new.has_stopped acts.stops told kept.founded);
         going = kept.going;
       }
 
@@ -776,7 +876,7 @@ module _ {A B C J M N : Type 0} {book : Naming J} {route : Ghosts N} {known : �
       → KeptFor known names sent told one old → KeptFor known names sent told two new
   kept-collected sent told one two old new collects carried same kept =
       subst (λ (orders : Orders A B C J N book route). KeptFor known names sent told two orders) (sym same)
-      (record { reads = collects.keeps sent told carried kept.reads; ordered = kept.ordered; justified = kept.justified; going = kept.going })
+      (record { reads = collects.keeps sent told carried kept.reads; ordered = kept.ordered; justified = kept.justified; founded = kept.founded; going = kept.going })
 
   -- none of the last bytes were heard
   pub none-read : (sent : List Sent) (before : List InEvent) (told : List Step) (bytes more : List ℕ) (core : Core) (reading : Reading J M book) (orders : Orders A B C J N book route)
@@ -784,6 +884,7 @@ module _ {A B C J M N : Type 0} {book : Naming J} {route : Ghosts N} {known : �
   none-read sent before told bytes more core reading orders reached is kept = record {
     reads = kept.reads;
     justified = kept.justified;
+    founded = kept.founded;
     going = kept.going;
     heard = record { front = subst (λ (es : List InEvent). IsFront (bytes ++ more) es) (sym is) (front-before bytes more before core reached); whole = λ ended. absurd cc };
     some = (bytes, before, reached_events bytes before core reached, ([], append-nil (events_of told) ∙ is));
@@ -791,6 +892,7 @@ module _ {A B C J M N : Type 0} {book : Naming J} {route : Ghosts N} {known : �
     ordered = kept.ordered;
     goaway = λ gone. absurd cc;
     drained = λ drains. absurd cc;
+    undrained = λ input. absurd (true≢false (sym (input-out OutOfMemory input)));
     failed = λ code failed. absurd cc;
     unbroken = λ broke. cc;
   }
@@ -826,4 +928,4 @@ ordered-none {J = J} {book = book} orders none unput =
 
 pub kept-none : {A B C J M N : Type 0} {book : Naming J} {route : Ghosts N} {known : ℕ → List (List ℕ) → Bool → Answer → Type 0} {names : List ℕ → ℕ → Type 0} (sent : List Sent) (reading : Reading J M book) (orders : Orders A B C J N book route)
     → Reads known names (carried_in sent) [] reading → put_of orders ≡ [] → orders.unput ≡ None → KeptFor known names sent [] reading orders
-kept-none sent reading orders reads none unput = record { reads = reads; ordered = ordered-none orders none unput; justified = tt; going = tt }
+kept-none sent reading orders reads none unput = record { reads = reads; ordered = ordered-none orders none unput; justified = tt; founded = tt; going = tt }

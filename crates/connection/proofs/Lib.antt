@@ -7,6 +7,7 @@ pub mod Opens
 pub mod Heard
 pub mod Resting
 pub mod Follow
+pub mod Founded
 pub mod RunOrders
 pub mod OpenedOnce
 pub mod Whole

@@ -2,7 +2,7 @@
 use Rattle.std.proofs.Common.{◌≡◌, ◌≢◌, ◌∙◌, ◌⊎◌, ◌≤◌, arith, inl, inr, ℕ, Bool, true, false, true≢false, List, [], ◌∷◌, ◌++◌, Option, None, Some, ap, append-nil, refl, subst, sym}
 use Rattle.std.proofs.lemmas.List.{append_assoc}
 use Rattle.std.specs.Prelude.{◌||◌, All, Contains, map}
-use Rattle.std.specs.Io.KnownBytes.{Appends}
+use Rattle.std.specs.Io.KnownBytes.{Appends, IsAtEnd}
 use Rattle.std.proofs.lemmas.List.Elements.{All-nil, All-weaker}
 use Rattle.account.specs.declared.call.OutItem.{OutItem}
 use Rattle.callparts.specs.declared.call_account.CallAccount.{CallAccount}
@@ -28,14 +28,15 @@ use Rattle.writerloop.specs.Left.{left_in}
 use Rattle.writerloop.specs.Written.{HasWritten}
 use Rattle.connection.specs.declared.orders.Orders.{Orders}
 use Rattle.connection.specs.declared.orders.Route.{Ghosts}
-use Rattle.connection.specs.Heard.{HasEnded, HasPut, HasRead, IsEndedBy}
+use Rattle.connection.specs.Heard.{HasEnded, HasPut, HasRead, IsEndedBy, IsOfInput}
 use Rattle.connection.specs.Left.{AreLeft}
 use Rattle.connection.specs.Puts.{put_orders}
 use Rattle.connection.specs.Sent.{CarriesWhatWasSent}
 use Rattle.connection.specs.Served.{IsServed, is_drained}
 use Rattle.connection.proofs.Drained.{has-drained}
 use Rattle.connection.proofs.CreditSteps.{told-within}
-use Rattle.connection.proofs.Heard.{closed-put, closed-whole, ended-more, silent-more}
+use Rattle.connection.proofs.Founded.{all-founded, cuts-founded}
+use Rattle.connection.proofs.Heard.{closed-put, closed-whole, ended-more, input-out, silent-more, undrained-more}
 use Rattle.connection.proofs.Tallies.{cuts-justified}
 
 -- what is so unless an error ended the connection
@@ -112,21 +113,27 @@ module _ (answers : ℕ → List (List ℕ) → Bool → Answer → Type 0) (nam
     streams = are.streams;
   }
 
+pub un-true : (b : Bool) → (b ≡ true → ⊥) → b ≡ false
+un-true true not = absurd (not refl)
+un-true false not = refl
+
 module _ (known : ℕ → List (List ℕ) → Bool → Answer → Type 0) (names : List ℕ → ℕ → Type 0) {V W : Type 0} (items : V → List CallAccount) (contents : W → Option (List ℕ)) (failed : W → Bool) where
   -- behind what was read the calls were cut, of which no event tells
-  pub are-served : {A B C J M N : Type 0} {book : Naming J} {route : Ghosts N} (came : List ℕ) (before : Option (List ℕ)) (granted : ℕ) (read_failed : Bool) (read ending : Ending) (sent : List Sent) (told cuts : List Step)
+  pub are-served : {A B C J M N : Type 0} {book : Naming J} {route : Ghosts N} (came : List ℕ) (rest before : Option (List ℕ)) (granted : ℕ) (read_failed : Bool) (read ending : Ending) (sent : List Sent) (told cuts : List Step)
       (reading reading_new : Reading J M book) (old new : Orders A B C J N book route) (calls : V) (device : W) → HasRead known names sent read came told reading old
       → HasEnded known names sent told cuts reading_new old new → (is_heard_out ending ≡ true → ending ≡ read)
-      → (ending ≢ OutOfMemory → ending ≢ WriteFailed → ((code : ErrorCode) → ending ≢ ProtocolError code) → new.has_dropped ≡ false) → (read ≡ ReadFailed → read_failed ≡ true)
-      → granted ≤ counted_told (events_of told)
+      → (ending ≢ OutOfMemory → ending ≢ WriteFailed → ((code : ErrorCode) → ending ≢ ProtocolError code) → new.has_dropped ≡ false) → (read ≡ ReadFailed → read_failed ≡ true) → (IsOfInput read → old.has_stopped ≡ false → IsAtEnd rest)
+      → (new.has_stopped ≡ true → is_heard_out ending ≡ false) → granted ≤ counted_told (events_of told)
       → (written : HasWritten contents failed before granted (put_orders new) (Some ending) (is_drained ending) device)
       → AreAccounts known names (CarriesWhatWasSent written.run) (cuts ++ told) (reported (cuts ++ told)) (items calls) → AreLeft (left_in written.run) (items calls)
       → ((code : ErrorCode) → ending ≡ ProtocolError code → (read ≡ ProtocolError code) ⊎ ((code ≡ FlowControlError) × WouldOverflow 0 written.run))
-      → IsServed items contents failed known names came before read_failed ending calls device
-  are-served came before granted read_failed read ending sent told cuts reading reading_new old new calls device has ended input undropped unread within written accounts left blamed =
+      → IsServed items contents failed known names came rest before read_failed ending calls device
+  are-served came rest before granted read_failed read ending sent told cuts reading reading_new old new calls device has ended input undropped unread over halts within written accounts left blamed =
       let is : events_of (cuts ++ told) ≡ events_of told = silent-more cuts told ended.silent in
       let also : is_heard_out ending ≡ true → is_heard_out read ≡ true = λ out. subst (λ (e : Ending). is_heard_out e ≡ true) (input out) out in
       let closed = ended.ordered has.ordered in
+      let of-input : IsOfInput ending → IsOfInput read = λ by. subst (λ (e : Ending). IsOfInput e) (input (input-out ending by)) by in
+      let going : IsOfInput ending → old.has_stopped ≡ false = λ by. un-true old.has_stopped (λ stopped. true≢false (sym (input-out ending by) ∙ halts (ended.stops stopped))) in
       let whole : is_heard_out ending ≡ true → put_orders new ≡ orders_by (cuts ++ told) ++ ending_orders =
       λ out. calm-so ending _ out (λ spares sends calm.
       closed-whole (orders_by (cuts ++ told) ++ orders.InputEnded ∷ []) new closed (undropped spares sends calm) ∙ append_assoc (orders_by (cuts ++ told)) (orders.InputEnded ∷ []) (orders.Close ∷ [])) in
@@ -140,6 +147,9 @@ module _ (known : ℕ → List (List ℕ) → Bool → Answer → Type 0) (names
         rising = ended.reads.calls.rising;
         calm = λ out. calm-more cuts told ended.calm (has.calm (also out));
         justified = cuts-justified cuts told ended.silent has.justified;
+        stopped = new.has_stopped;
+        halted = halts;
+        founded = cuts-founded names new.has_stopped cuts told ended.silent (all-founded names old.has_stopped new.has_stopped ended.stops told has.founded);
         closed = ended.reads.calls.closed;
         ended = record { cuts = cuts; heard = told; parts = refl; silent = ended.silent; going = has.going };
         ordered = closed-put (orders_by (cuts ++ told) ++ orders.InputEnded ∷ []) new closed;
@@ -160,6 +170,8 @@ module _ (known : ℕ → List (List ℕ) → Bool → Answer → Type 0) (names
             (written.each (drained-spared ending is) (drained-sent ending is)) written.lawful (written.over (drained-spared ending is) (drained-sent ending is)).answered
             (written.sound (ap is_drained is));
         cause = record {
+          over = λ by. over (of-input by) (going by);
+          undrained = λ by. undrained-more cuts told ended.undrained (has.undrained (of-input by));
           drains = λ is. draining-more cuts told (has.drained (sym (input (drained-out ending is)) ∙ is));
           unsent = λ sent. written.marked (ap Some sent);
           unread = λ fails. unread (sym (input (ap (λ (e : Ending). is_heard_out e) fails)) ∙ fails);
@@ -171,10 +183,10 @@ module _ (known : ℕ → List (List ℕ) → Bool → Answer → Type 0) (names
       }
 
   -- the device by another name
-  pub served-by : (came : List ℕ) (before : Option (List ℕ)) (read_failed : Bool) (end : Ending) (calls : V) (one other : W) → other ≡ one
-      → IsServed items contents failed known names came before read_failed end calls one → IsServed items contents failed known names came before read_failed end calls other
-  served-by came before read_failed end calls one other is served =
-      subst (λ (device : W). IsServed items contents failed known names came before read_failed end calls device) (sym is) served
+  pub served-by : (came : List ℕ) (rest before : Option (List ℕ)) (read_failed : Bool) (end : Ending) (calls : V) (one other : W) → other ≡ one
+      → IsServed items contents failed known names came rest before read_failed end calls one → IsServed items contents failed known names came rest before read_failed end calls other
+  served-by came rest before read_failed end calls one other is served =
+      subst (λ (device : W). IsServed items contents failed known names came rest before read_failed end calls device) (sym is) served
 
   none-accounts : (carries : ℕ → List OutItem → Type 0) (calls : V) → items calls ≡ [] → AreAccounts known names carries [] [] (items calls)
   none-accounts carries calls is = record {
@@ -183,10 +195,10 @@ module _ (known : ℕ → List (List ℕ) → Bool → Answer → Type 0) (names
   }
 
   -- no memory was there, and nothing was read
-  pub none-served : (before : Option (List ℕ)) (granted : ℕ) (read_failed : Bool) (ending : Ending) (put : List Order) (calls : V) (device : W) → ending ≡ OutOfMemory
+  pub none-served : (rest before : Option (List ℕ)) (granted : ℕ) (read_failed : Bool) (ending : Ending) (put : List Order) (calls : V) (device : W) → ending ≡ OutOfMemory
       → items calls ≡ [] → HasPut (orders.InputEnded ∷ []) put → granted ≤ 0 → HasWritten contents failed before granted put (Some ending) (is_drained ending) device
-      → IsServed items contents failed known names [] before read_failed ending calls device
-  none-served before granted read_failed ending put calls device lacked none ordered within written =
+      → IsServed items contents failed known names [] rest before read_failed ending calls device
+  none-served rest before granted read_failed ending put calls device lacked none ordered within written =
       let not : is_heard_out ending ≡ true → ⊥ = λ out. true≢false (sym out ∙ ap (λ (e : Ending). is_heard_out e) lacked) in
       record {
         told = [];
@@ -195,6 +207,9 @@ module _ (known : ℕ → List (List ℕ) → Bool → Answer → Type 0) (names
         rising = tt;
         calm = λ out. tt;
         justified = tt;
+        stopped = false;
+        halted = λ is. absurd (true≢false (sym is));
+        founded = tt;
         closed = tt;
         ended = record { cuts = []; heard = []; parts = refl; silent = refl; going = tt };
         ordered = ordered;
@@ -206,7 +221,15 @@ module _ (known : ℕ → List (List ℕ) → Bool → Answer → Type 0) (names
         rows = none-accounts (CarriesWhatWasSent written.run) calls none;
         left = subst (λ (accounts : List CallAccount). AreLeft (left_in written.run) accounts) (sym none) (All-nil (λ (account : CallAccount). Contains (left_in written.run) account.id → account.status ≡ None));
         drained = λ is. absurd (not (drained-out ending is));
-        cause = record { drains = λ is. absurd (not (drained-out ending is)); unread = λ is. absurd cc; unsent = λ sent. absurd cc; goaway = λ is. absurd cc; failed = λ code is. absurd cc };
+        cause = record {
+          over = λ by. absurd (not (input-out ending by));
+          undrained = λ by. refl;
+          drains = λ is. absurd (not (drained-out ending is));
+          unread = λ is. absurd cc;
+          unsent = λ sent. absurd cc;
+          goaway = λ is. absurd cc;
+          failed = λ code is. absurd cc;
+        };
       }
 
   appends-none : (now : Option (List ℕ)) → Appends now now []
@@ -230,8 +253,8 @@ module _ (known : ℕ → List (List ℕ) → Bool → Answer → Type 0) (names
   }
 
   -- the device is as it was
-  pub unbegun : (read_failed : Bool) (ending : Ending) (calls : V) (old device : W) → ending ≡ OutOfMemory → device ≡ old → items calls ≡ []
-      → IsServed items contents failed known names [] (contents old) read_failed ending calls device
-  unbegun read_failed ending calls old device lacked same none =
-      none-served (contents old) 0 read_failed ending (orders.Close ∷ []) calls device lacked none (record { front = []; begins = (orders.InputEnded ∷ [], refl); closed = refl }) (omega arith)
+  pub unbegun : (rest : Option (List ℕ)) (read_failed : Bool) (ending : Ending) (calls : V) (old device : W) → ending ≡ OutOfMemory → device ≡ old → items calls ≡ []
+      → IsServed items contents failed known names [] rest (contents old) read_failed ending calls device
+  unbegun rest read_failed ending calls old device lacked same none =
+      none-served rest (contents old) 0 read_failed ending (orders.Close ∷ []) calls device lacked none (record { front = []; begins = (orders.InputEnded ∷ [], refl); closed = refl }) (omega arith)
       (subst (λ (d : W). HasWritten contents failed (contents d) 0 (orders.Close ∷ []) (Some ending) (is_drained ending) device) same (none-written device ending lacked))

@@ -41,7 +41,7 @@ came-more (CutOff id ∷ more) told = came-more more told
 came-more (Drains ∷ more) told = came-more more told
 came-more (Lacks ∷ more) told = came-more more told
 
-calls-more : (more told : List Step) → length (reported told) ≤ length (reported (more ++ told))
+pub calls-more : (more told : List Step) → length (reported told) ≤ length (reported (more ++ told))
 calls-more [] told = omega arith
 calls-more (step ∷ more) told = le_trans (calls-more more told) (more-ids (reported (more ++ told)) (once (reported_by step)))
 

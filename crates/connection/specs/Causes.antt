@@ -116,13 +116,13 @@ WasWritten frame (Returned id items ∷ before) = WasWritten frame before
 -- ---- streams without a call
 
 -- The stream began with a head that is refused with these fields, or with the head of a call whose
--- path names no method.
-abbrev pub IsRefusedWith : ℕ → List Field → List Step → Type 0
-IsRefusedWith id fields told = ((fault : HeadFault) × WasTold (events.BadHead id fault) told × (refusal_of fault ≡ Some fields))
-    ⊎ ((head : CallHead) × (before : List Step) × WasHeard (Told (events.Open id head) Unknown) before told × (fields ≡ unknown_method))
+-- path no method has.
+abbrev pub IsRefusedWith : (List ℕ → ℕ → Type 0) → ℕ → List Field → List Step → Type 0
+IsRefusedWith names id fields told = ((fault : HeadFault) × WasTold (events.BadHead id fault) told × (refusal_of fault ≡ Some fields))
+    ⊎ ((head : CallHead) × (before : List Step) × WasHeard (Told (events.Open id head) Unknown) before told × ((index : ℕ) → names head.path index → ⊥) × (fields ≡ unknown_method))
 
 -- The frames of the stream are none, an RST_STREAM, or one header block with the fields of its
 -- refusal, which ends the stream.
-abbrev pub IsRefusal : ℕ → List Step → List Mark → Type 0
-IsRefusal id told part = (part ≡ [])
-    ⊎ (((code : ℕ) × (part ≡ Reset code ∷ [])) ⊎ ((fields : List Field) × IsRefusedWith id fields told × (part ≡ Fields fields ∷ End ∷ [])))
+abbrev pub IsRefusal : (List ℕ → ℕ → Type 0) → ℕ → List Step → List Mark → Type 0
+IsRefusal names id told part = (part ≡ [])
+    ⊎ (((code : ℕ) × (part ≡ Reset code ∷ [])) ⊎ ((fields : List Field) × IsRefusedWith names id fields told × (part ≡ Fields fields ∷ End ∷ [])))

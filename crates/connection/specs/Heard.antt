@@ -5,7 +5,7 @@ use Rattle.lane.specs.Ring.{out_name, taken}
 use Rattle.callparts.specs.declared.order.Returning.{Returning}
 use Rattle.callparts.specs.declared.register.Naming.{Ghosts as Naming}
 use Rattle.callparts.specs.declared.report.Ending.{Ending}
-use Rattle.callparts.specs.declared.report.Ending.TheVariants.{Drained, PeerGoaway, ProtocolError, WriteFailed}
+use Rattle.callparts.specs.declared.report.Ending.TheVariants.{Drained, InputEnded as InputOver, PeerGoaway, ProtocolError, WriteFailed}
 use Rattle.h2frame.specs.declared.error_code.ErrorCode.{ErrorCode}
 use Rattle.handlers.specs.declared.step.Step.{Step as Answer}
 use Rattle.outwriter.specs.Steps.{Order}
@@ -22,13 +22,17 @@ use Rattle.readerloop.specs.Reports.{AreCalm, AreHeard, is_heard_out}
 use Rattle.readerloop.specs.Steps.{Step, WasTold, events_of, is_draining}
 use Rattle.connection.specs.declared.orders.Orders.{Orders}
 use Rattle.connection.specs.declared.orders.Route.{Ghosts}
-use Rattle.connection.specs.Limits.{AreGoing, AreJustified, Covers, Tally}
+use Rattle.connection.specs.Limits.{AreFounded, AreGoing, AreJustified, Covers, Tally}
 use Rattle.connection.specs.Puts.{Closed, IsOwn, Ordered}
 
 -- one of these steps ended the connection so
 abbrev pub IsEndedBy : Ending → List Step → Type 0
 IsEndedBy ending [] = ⊥
 IsEndedBy ending (step ∷ before) = (ends_at step ≡ Some ending) ⊎ IsEndedBy ending before
+
+-- The connection ended with its input, before or after a GOAWAY of the peer.
+abbrev pub IsOfInput : Ending → Type 0
+IsOfInput end = (end ≡ InputOver) ⊎ (end ≡ PeerGoaway)
 
 -- A beginning of these orders was put, and then that no more come.
 pub record HasPut (all put : List Order) : Type 0 where
@@ -64,6 +68,7 @@ module _ {A B C J M N : Type 0} {book : Naming J} {route : Ghosts N} (known : �
     pub reads : Reads known names (carried_in sent) told reading
     pub ordered : Ordered (orders_by told) orders
     pub justified : AreJustified told
+    pub founded : AreFounded names orders.has_stopped told
     pub going : AreGoing told
 
   -- what was decided of a step is done
@@ -73,15 +78,18 @@ module _ {A B C J M N : Type 0} {book : Naming J} {route : Ghosts N} (known : �
         → Reads known names (carried_in sent) (step ∷ told) reading_new
     pub ordered : (sent : List Sent) (told : List Step) (step : Step) → Decides known names (carried_in sent) told step decided reading → IfSome decided.order IsOwn
         → Ordered (orders_by told) orders → Ordered (orders_by (step ∷ told)) orders_new
+    pub stops : orders.has_stopped ≡ true → orders_new.has_stopped ≡ true
 
-  -- These steps are no events, and none ends the connection: by them calls were cut, only where the
-  -- input has ended, or the server drains.
+  -- These steps are no events, and none ends the connection. They cut calls only where the input has
+  -- ended, and the server drains only where it has not.
   pub record Cuts (ended : Bool) (sent : List Sent) (told cuts : List Step) (reading_new : Reading J M book) (orders orders_new : Orders A B C J N book route) : Type 0 where
     pub silent : events_of cuts ≡ []
     pub calm : AreCalm cuts
     pub going : ended ≡ false → AreGoing cuts
+    pub undrained : ended ≡ true → is_draining cuts ≡ false
     pub reads : Reads known names (carried_in sent) (cuts ++ told) reading_new
     pub ordered : Ordered (orders_by told) orders → Ordered (orders_by (cuts ++ told)) orders_new
+    pub stops : orders.has_stopped ≡ true → orders_new.has_stopped ≡ true
 
   abbrev pub CutsSome : Bool → Reading J M book → Orders A B C J N book route → Reading J M book → Orders A B C J N book route → Type 0
   CutsSome ended reading orders reading_new orders_new =
@@ -118,6 +126,7 @@ module _ {A B C J M N : Type 0} {book : Naming J} {route : Ghosts N} (known : �
   pub record HasRead (sent : List Sent) (end : Ending) (came : List ℕ) (told : List Step) (reading : Reading J M book) (orders : Orders A B C J N book route) : Type 0 where
     pub reads : Reads known names (carried_in sent) told reading
     pub justified : AreJustified told
+    pub founded : AreFounded names orders.has_stopped told
     pub going : AreGoing told
     pub heard : AreHeard end came (events_of told)
     pub some : (bytes : List ℕ) × (given : List InEvent) × Events bytes given × IsPrefix (events_of told) given
@@ -125,6 +134,7 @@ module _ {A B C J M N : Type 0} {book : Naming J} {route : Ghosts N} (known : �
     pub ordered : Ordered (orders_by told) orders
     pub goaway : end ≡ PeerGoaway → WasTold events.PeerGoaway told
     pub drained : end ≡ Drained → is_draining told ≡ true
+    pub undrained : IsOfInput end → is_draining told ≡ false
     pub failed : (code : ErrorCode) → end ≡ ProtocolError code → IsEndedBy (ProtocolError code) told
     pub unbroken : end ≢ WriteFailed
 
@@ -138,5 +148,7 @@ module _ {A B C J M N : Type 0} {book : Naming J} {route : Ghosts N} (known : �
   pub record HasEnded (sent : List Sent) (told cuts : List Step) (reading : Reading J M book) (orders orders_new : Orders A B C J N book route) : Type 0 where
     pub silent : events_of cuts ≡ []
     pub calm : AreCalm cuts
+    pub undrained : is_draining cuts ≡ false
     pub reads : Reads known names (carried_in sent) (cuts ++ told) reading
     pub ordered : Ordered (orders_by told) orders → Closed (orders_by (cuts ++ told) ++ InputEnded ∷ []) orders_new
+    pub stops : orders.has_stopped ≡ true → orders_new.has_stopped ≡ true

@@ -11,7 +11,7 @@ use Rattle.session.specs.declared.event.InEvent.{InEvent}
 use Rattle.session.specs.declared.event.InEvent.TheVariants as events
 use Rattle.session.specs.FlowBytes.{counted_by, counted_told}
 use Rattle.readerloop.specs.Orders.{IsDue}
-use Rattle.readerloop.specs.Steps.{Received, Missed, Lacking, TurnedAway, Step, Told, CutOff, Drains, Lacks, events_of, is_draining, reported}
+use Rattle.readerloop.specs.Steps.{Received, Missed, Lacking, Stopped, TurnedAway, Unknown, Unserved, Step, Told, CutOff, Drains, Lacks, events_of, is_draining, reported}
 
 -- A call may be turned away after 64 or more were admitted, where the server drains, for want of
 -- memory, or since its id doesn't rise.
@@ -45,6 +45,20 @@ IsJustified _ before = Unit {0}
 abbrev pub AreJustified : List Step → Type 0
 AreJustified [] = Unit {0}
 AreJustified (step ∷ before) = IsJustified step before × AreJustified before
+
+-- ---- calls that are refused, or passed over
+
+-- A call is refused as one of an unknown method only where no index has its path. A call that was
+-- admitted is left without a worker, because the writer has stopped, only where the writer was seen
+-- to have stopped.
+abbrev pub IsFounded : (List ℕ → ℕ → Type 0) → Bool → Step → Type 0
+IsFounded names stopped (Told (events.Open id head) Unknown) = (index : ℕ) → names head.path index → ⊥
+IsFounded names stopped (Told (events.Open id head) (Unserved Stopped)) = stopped ≡ true
+IsFounded names stopped _ = Unit {0}
+
+abbrev pub AreFounded : (List ℕ → ℕ → Type 0) → Bool → List Step → Type 0
+AreFounded names stopped [] = Unit {0}
+AreFounded names stopped (step ∷ before) = IsFounded names stopped step × AreFounded names stopped before
 
 -- ---- the end of the input
 

@@ -42,7 +42,7 @@ module _ {A B C J N : Type 0} {book : Naming J} {route : Ghosts N} where
 
   -- nothing was put
   abbrev pub IsSame : Orders A B C J N book route → Orders A B C J N book route → Type 0
-  IsSame old new = (new.outbox ≡ old.outbox) × (new.has_dropped ≡ old.has_dropped) × (new.unput ≡ old.unput) × (new.backlog ≡ old.backlog)
+  IsSame old new = (new.outbox ≡ old.outbox) × (new.has_dropped ≡ old.has_dropped) × (new.unput ≡ old.unput) × (new.backlog ≡ old.backlog) × (new.has_stopped ≡ old.has_stopped)
 
   -- What was put begins these orders, and is all of them where none was dropped. The order that is
   -- kept aside is one of those that were dropped.

@@ -1,6 +1,7 @@
 -- What became of a connection, over one list of what was heard, one list of what was ordered, and
 -- one run of its writer.
 use Rattle.std.specs.Prelude.{◌≡◌, ◌⊎◌, ◌≤◌, ℕ, Bool, true, false, List, [], ◌∷◌, ◌++◌, Option, Some}
+use Rattle.std.specs.Io.KnownBytes.{IsAtEnd}
 use Rattle.callparts.specs.declared.call_account.CallAccount.{CallAccount}
 use Rattle.callparts.specs.declared.report.Ending.{Ending}
 use Rattle.callparts.specs.declared.report.Ending.TheVariants.{Drained, PeerGoaway, ProtocolError, ReadFailed, WriteFailed}
@@ -21,16 +22,19 @@ use Rattle.readerloop.specs.Steps.{AdmitsNoMore, IsRising, Step, WasTold, events
 use Rattle.writerloop.specs.Blamed.{WouldOverflow}
 use Rattle.writerloop.specs.Left.{left_in}
 use Rattle.writerloop.specs.Written.{HasWritten}
-use Rattle.connection.specs.Heard.{HasPut, IsEndedBy}
+use Rattle.connection.specs.Heard.{HasPut, IsEndedBy, IsOfInput}
 use Rattle.connection.specs.Left.{AreLeft}
 use Rattle.connection.specs.Sent.{CarriesWhatWasSent}
-use Rattle.connection.specs.Limits.{AreJustified, EndsLast}
+use Rattle.connection.specs.Limits.{AreFounded, AreJustified, EndsLast}
 
--- An ending has its cause: a read or a write failed; the peer sent GOAWAY; the server drained; or a
--- step that was heard ended the connection with this error, or the writer did, because a control of
--- the peer that its run took would make the connection's window too large, or an initial size some
--- stream's (RFC 9113, sections 5.4.1, 6.8, 6.9.1 and 6.9.2).
-pub record HasCause (end : Ending) (told : List Step) (run : List RunStep) (read_failed write_failed : Bool) : Type 0 where
+-- An ending has its cause: the input was at its end, and the server didn't drain; a read or a write
+-- failed; the peer sent GOAWAY; the server drained; or a step that was heard ended the connection
+-- with this error, or the writer did, because a control of the peer that its run took would make
+-- the connection's window too large, or an initial size some stream's (RFC 9113, sections 5.4.1,
+-- 6.8, 6.9.1 and 6.9.2).
+pub record HasCause (end : Ending) (told : List Step) (run : List RunStep) (rest : Option (List ℕ)) (read_failed write_failed : Bool) : Type 0 where
+  pub over : IsOfInput end → IsAtEnd rest
+  pub undrained : IsOfInput end → is_draining told ≡ false
   pub unread : end ≡ ReadFailed → read_failed ≡ true
   pub unsent : end ≡ WriteFailed → write_failed ≡ true
   pub goaway : end ≡ PeerGoaway → WasTold events.PeerGoaway told
@@ -44,9 +48,10 @@ is_drained _ = false
 
 module _ {W V : Type 0} (items : V → List CallAccount) (contents : W → Option (List ℕ)) (failed : W → Bool)
     (answers : ℕ → List (List ℕ) → Bool → Answer → Type 0) (names : List ℕ → ℕ → Type 0) where
-  -- A connection was served: the bytes that came, what the device had before and has now, whether a
-  -- read failed, how the connection ended, and the accounts of its calls.
-  pub record IsServed (came : List ℕ) (before : Option (List ℕ)) (read_failed : Bool) (end : Ending) (calls : V) (device : W) : Type 0 where
+  -- A connection was served: the bytes that came, the bytes that the input still has, what the
+  -- output had before and has now, whether a read failed, how the connection ended, and the accounts
+  -- of its calls.
+  pub record IsServed (came : List ℕ) (rest before : Option (List ℕ)) (read_failed : Bool) (end : Ending) (calls : V) (device : W) : Type 0 where
     -- what was heard, and what was ordered
     pub told : List Step
     pub put : List Order
@@ -59,6 +64,14 @@ module _ {W V : Type 0} (items : V → List CallAccount) (contents : W → Optio
     -- late only after a drain; DATA were refused only after 65,535 bytes, and missed only where
     -- they were due
     pub justified : AreJustified told
+    -- whether the reader saw that the writer had stopped: then the writer, or want of memory, ended
+    -- the connection
+    pub stopped : Bool
+    pub halted : stopped ≡ true → is_heard_out end ≡ false
+    -- a call was refused as one of an unknown method only where no method has its path, and one that
+    -- was admitted was left without a worker only because the writer had stopped, or for want of
+    -- memory
+    pub founded : AreFounded names stopped told
     -- after a drain no call was admitted
     pub closed : AdmitsNoMore told
     -- calls were cut only after the last event
@@ -85,4 +98,4 @@ module _ {W V : Type 0} (items : V → List CallAccount) (contents : W → Optio
     -- where the server drained, the last GOAWAY that was written has no error, and names the
     -- greatest stream of an account, 0 for none (section 6.8)
     pub drained : end ≡ Drained → HasDrained (greatest (reported told)) written.run
-    pub cause : HasCause end told written.run read_failed (failed device)
+    pub cause : HasCause end told written.run rest read_failed (failed device)

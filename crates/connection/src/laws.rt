@@ -2,9 +2,10 @@
 //! nothing.
 
 ghost use mathlib.Core.List.{IsPrefix};
-ghost use Rattle.std.specs.Prelude.{◌≡◌, ◌⊎◌, ◌<◌, ◌++◌, ◌∷◌, ℕ, List, [], false, map, true};
+ghost use Rattle.std.specs.Prelude.{◌≡◌, ◌⊎◌, ◌<◌, ◌++◌, ◌∷◌, ℕ, Bool, List, [], false, map, true};
 ghost use Rattle.std.specs.List.{list_any};
 ghost use Rattle.account.specs.Accounts.{Begins};
+ghost use Rattle.callhead.specs.declared.head.CallHead.{CallHead as Head};
 ghost use Rattle.callparts.specs.declared.call_account.CallAccount.{CallAccount};
 ghost use Rattle.callparts.specs.declared.report.Ending.{Ending as Ended};
 ghost use Rattle.h2frame.specs.declared.error_code.ErrorCode.{ErrorCode as Code};
@@ -19,8 +20,8 @@ ghost use Rattle.outwriter.specs.Runs.{IsLawful, told as duties_told};
 ghost use Rattle.outwriter.specs.Steps.{Order, Step as RunStep, frames_of};
 ghost use Rattle.readerloop.specs.Calls.{is_admitted};
 ghost use Rattle.readerloop.specs.Orders.{orders_by};
-ghost use Rattle.readerloop.specs.Reports.{AreHeard};
-ghost use Rattle.readerloop.specs.Steps.{IsRising, Step, events_of, reported};
+ghost use Rattle.readerloop.specs.Reports.{AreCalm, AreHeard, is_heard_out};
+ghost use Rattle.readerloop.specs.Steps.{IsRising, Step, WasUnserved, events_of, reported};
 ghost use Rattle.writerloop.specs.Left.{left_in};
 ghost use Rattle.writerloop.specs.Orders.{IsAmong, Obeys};
 ghost use Rattle.session.specs.declared.event.InEvent.{InEvent as InEventOf};
@@ -31,7 +32,7 @@ ghost use Rattle.h2frame.specs.FrameList.{Entry};
 ghost use Rattle.connection.specs.Causes.{HasCauseOf, HasResetCause, IsOverWindow, IsRefusal, WasCut, WasTaken, WasTurnedAway, WasWritten};
 ghost use Rattle.connection.specs.Codes.{MayHaveCode};
 ghost use Rattle.connection.specs.Left.{AreLeft};
-ghost use Rattle.connection.specs.Limits.{AreJustified, EndsLast, IsOneTooMany, WasCutLast, WasDrained};
+ghost use Rattle.connection.specs.Limits.{AreFounded, AreJustified, EndsLast, IsOneTooMany, WasCutLast, WasDrained};
 ghost use Rattle.connection.specs.Heard.{HasPut};
 ghost use Rattle.connection.specs.News.{acknowledgements, answers_to, news_in, news_told, taken_by};
 
@@ -62,12 +63,22 @@ pub fn written_resets()
 {}
 
 /// On a stream whose call no worker serves the server sends nothing, one RST_STREAM, or one header
-/// block that ends the stream, with the fields of its refusal.
-pub fn streams_without_a_call()
-    ensures { (told : List Step) (put : List Order) (run : List RunStep) →
+/// block that ends the stream, with the fields of its refusal. It refuses a call as one of an
+/// unknown method only where no method has its path.
+pub fn streams_without_a_call<M: Answering>()
+    ensures { (stopped : Bool) (told : List Step) (put : List Order) (run : List RunStep) →
+        AreFounded M.names stopped told →
         HasPut (orders_by told ++ InputEnded ∷ []) put → Obeys true put run → TellOthers run →
         (id : ℕ) → is_admitted id told ≡ false →
-        (part : List Mark) × IsPart id run part × IsRefusal id told part }
+        (part : List Mark) × IsPart id run part × IsRefusal M.names id told part }
+{}
+
+/// Where the connection ended as its reader saw, each call that was admitted was handed to a worker.
+pub fn handed_calls<M: Answering>()
+    ensures { (stopped : Bool) (end : Ended) (told : List Step) →
+        (is_heard_out end ≡ true → AreCalm told) → (stopped ≡ true → is_heard_out end ≡ false) →
+        AreFounded M.names stopped told → is_heard_out end ≡ true →
+        (id : ℕ) (head : Head) → WasUnserved id head told → ⊥ }
 {}
 
 /// The SETTINGS, PINGs and credit that the writer took begin those of the peer, in order.

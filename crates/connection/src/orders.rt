@@ -54,9 +54,12 @@ pub(crate) struct Orders<A: Ledger, B: Ledger, C: Ledger, J: Naming, N: Route> {
     /// Whether there are orders, or credit that no call rings for, for which the writer wasn't rung
     /// yet.
     pub(crate) are_unrung: bool,
-    /// Orders behind those in the ring, which had no room for them when the writer had stopped. They are put before the last order.
+    /// Orders after those in the ring, which had no room for them when the writer had stopped. They
+    /// are put before the last order.
     pub(crate) backlog: VecDeque<Order<J>>,
-    /// Whether orders were dropped, since there was no memory for the backlog.
+    /// Whether the writer was seen to have stopped.
+    pub(crate) has_stopped: bool,
+    /// Whether orders were dropped, because there was no memory for the backlog.
     pub(crate) has_dropped: bool,
     /// The dropped order that opens a call, with its sender. After it no call begins.
     pub(crate) unput: Option<Order<J>>,
@@ -75,6 +78,7 @@ impl<A: Ledger, B: Ledger, C: Ledger, J: Naming, N: Route> Orders<A, B, C, J, N>
     ) -> Orders<A, B, C, J, N>
         requires route { N.ring ≡ Some (in_name ring) }
         ensures put { put_in ring ≡ [] → put_of result ≡ [] }
+        ensures going { result.has_stopped ≡ false }
         ensures dropped { result.has_dropped ≡ false }
         ensures unput { result.unput ≡ None }
     {
@@ -86,6 +90,7 @@ impl<A: Ledger, B: Ledger, C: Ledger, J: Naming, N: Route> Orders<A, B, C, J, N>
             shared,
             are_unrung: false,
             backlog: VecDeque::new(alloc),
+            has_stopped: false,
             has_dropped: false,
             unput: None,
         }
@@ -95,6 +100,7 @@ impl<A: Ledger, B: Ledger, C: Ledger, J: Naming, N: Route> Orders<A, B, C, J, N>
     /// memory for that it is dropped, and so are all behind it.
     pub(crate) fn put<R: Wait>(&mut self, rt: &R, order: Order<J>)
         ensures puts { Puts order self.old self.new }
+        ensures stops { self.old.has_stopped ≡ true → self.new.has_stopped ≡ true }
     {
         if self.has_dropped {
             self.lay_aside(order);
@@ -112,6 +118,7 @@ impl<A: Ledger, B: Ledger, C: Ledger, J: Naming, N: Route> Orders<A, B, C, J, N>
         requires whole { self.old.has_dropped ≡ false }
         requires none_left { self.old.backlog.items ≡ [] }
         ensures puts { Puts order self.old self.new }
+        ensures stops { self.old.has_stopped ≡ true → self.new.has_stopped ≡ true }
     {
         let mut order = order;
         self.are_unrung = true;
@@ -123,6 +130,7 @@ impl<A: Ledger, B: Ledger, C: Ledger, J: Naming, N: Route> Orders<A, B, C, J, N>
             order = fault.into_item();
             self.shared.writer.ring();
             if self.shared.has_stopped() {
+                self.has_stopped = true;
                 self.defer(order);
                 return;
             }
@@ -136,15 +144,11 @@ impl<A: Ledger, B: Ledger, C: Ledger, J: Naming, N: Route> Orders<A, B, C, J, N>
     /// Puts the order, if there is one.
     pub(crate) fn put_some<R: Wait>(&mut self, rt: &R, order: Option<Order<J>>)
         ensures puts { PutsAll order self.old self.new }
+        ensures stops { self.old.has_stopped ≡ true → self.new.has_stopped ≡ true }
     {
         if let Some(order) = order {
             self.put(rt, order);
         }
-    }
-
-    /// Whether no call can begin: the writer has stopped, and the orders for it wait or were dropped.
-    pub(crate) fn are_behind(&self) -> bool {
-        self.has_dropped || self.has_backlog()
     }
 
     /// Whether orders are in the backlog.
@@ -158,6 +162,7 @@ impl<A: Ledger, B: Ledger, C: Ledger, J: Naming, N: Route> Orders<A, B, C, J, N>
     fn defer(&mut self, order: Order<J>)
         requires whole { self.old.has_dropped ≡ false }
         ensures puts { Puts order self.old self.new }
+        ensures stops { self.old.has_stopped ≡ true → self.new.has_stopped ≡ true }
     {
         match self.backlog.reserve(1) {
             Ok(()) => self.backlog.push_back_reserved(order),
@@ -168,6 +173,7 @@ impl<A: Ledger, B: Ledger, C: Ledger, J: Naming, N: Route> Orders<A, B, C, J, N>
     /// An order is dropped. One that opens a call is laid aside, with its sender.
     fn lay_aside(&mut self, order: Order<J>)
         ensures put { put_of self.new ≡ put_of self.old }
+        ensures stopped { self.new.has_stopped ≡ self.old.has_stopped }
         ensures dropped { self.new.has_dropped ≡ true }
         ensures kept { IsKept order self.old.unput self.new.unput }
     {
@@ -182,6 +188,7 @@ impl<A: Ledger, B: Ledger, C: Ledger, J: Naming, N: Route> Orders<A, B, C, J, N>
     pub(crate) fn close<R: Wait>(&mut self, rt: &R)
         ensures put { put_of self.new ≡ put_of self.old ++ orders.Close ∷ [] }
         ensures none_left { self.new.backlog.items ≡ [] }
+        ensures stopped { self.new.has_stopped ≡ self.old.has_stopped }
         ensures dropped { self.new.has_dropped ≡ self.old.has_dropped }
         ensures unput { self.new.unput ≡ self.old.unput }
     {
@@ -202,6 +209,7 @@ impl<A: Ledger, B: Ledger, C: Ledger, J: Naming, N: Route> Orders<A, B, C, J, N>
         ensures put { result ≡ true → put_of self.new ≡ put_of self.old ++ orders.Close ∷ [] }
         ensures none_left { result ≡ true → self.new.backlog.items ≡ [] }
         ensures full { result ≡ false → put_of self.new ≡ put_of self.old }
+        ensures stopped { self.new.has_stopped ≡ self.old.has_stopped }
         ensures dropped { self.new.has_dropped ≡ self.old.has_dropped }
         ensures unput { self.new.unput ≡ self.old.unput }
     {
@@ -216,6 +224,7 @@ impl<A: Ledger, B: Ledger, C: Ledger, J: Naming, N: Route> Orders<A, B, C, J, N>
         ensures put { result ≡ true → put_of self.new ≡ put_of self.old ++ orders.Close ∷ [] }
         ensures none_left { result ≡ true → self.new.backlog.items ≡ [] }
         ensures full { result ≡ false → put_of self.new ≡ put_of self.old }
+        ensures stopped { self.new.has_stopped ≡ self.old.has_stopped }
         ensures dropped { self.new.has_dropped ≡ self.old.has_dropped }
         ensures unput { self.new.unput ≡ self.old.unput }
     {
@@ -231,6 +240,7 @@ impl<A: Ledger, B: Ledger, C: Ledger, J: Naming, N: Route> Orders<A, B, C, J, N>
     /// Puts what of the backlog there is room for, in order.
     fn put_backlog(&mut self)
         ensures put { put_of self.new ≡ put_of self.old }
+        ensures stopped { self.new.has_stopped ≡ self.old.has_stopped }
         ensures dropped { self.new.has_dropped ≡ self.old.has_dropped }
         ensures unput { self.new.unput ≡ self.old.unput }
     {
@@ -246,6 +256,7 @@ impl<A: Ledger, B: Ledger, C: Ledger, J: Naming, N: Route> Orders<A, B, C, J, N>
     fn put_first(&mut self)
         requires room { HasRoom self.old.outbox.ring }
         ensures put { put_of self.new ≡ put_of self.old }
+        ensures stopped { self.new.has_stopped ≡ self.old.has_stopped }
         ensures dropped { self.new.has_dropped ≡ self.old.has_dropped }
         ensures unput { self.new.unput ≡ self.old.unput }
     {
@@ -257,6 +268,7 @@ impl<A: Ledger, B: Ledger, C: Ledger, J: Naming, N: Route> Orders<A, B, C, J, N>
     /// Rings the writer.
     pub(crate) fn ring(&mut self)
         ensures outbox { self.new.outbox ≡ self.old.outbox }
+        ensures stopped { self.new.has_stopped ≡ self.old.has_stopped }
         ensures dropped { self.new.has_dropped ≡ self.old.has_dropped }
         ensures unput { self.new.unput ≡ self.old.unput }
         ensures backlog { self.new.backlog ≡ self.old.backlog }

@@ -4,7 +4,7 @@
 ghost use mathlib.Core.List.{IsPrefix};
 ghost use Rattle.callhead.specs.declared.head.CallHead.{CallHead as Head};
 ghost use Rattle.std.specs.Prelude.{◌≡◌, ◌<◌, ◌≤◌, ◌++◌, ◌∷◌, ℕ, List, [], None, Some, Ok, IfOk, IfSome, OnErr, OnOk, false, true, length, vec_capacity, vec_len};
-ghost use Rattle.std.specs.Io.KnownBytes.{Consumes};
+ghost use Rattle.std.specs.Io.KnownBytes.{Consumes, IsAtEnd};
 ghost use Rattle.lane.specs.Ring.{in_name, out_name, put_in, taken};
 ghost use Rattle.callparts.specs.Blocks.{items_of};
 ghost use Rattle.callparts.specs.Workers.{IsKnown};
@@ -20,8 +20,8 @@ ghost use Rattle.readerloop.specs.Readings.{IsNext, KeepsNext, Reads, goaway_in,
 ghost use Rattle.readerloop.specs.Reports.{AreAccounts};
 ghost use Rattle.readerloop.specs.Seats.{HasPlacesAt};
 ghost use Rattle.readerloop.specs.Steps.{Lacks, Step, events_of, reported};
-ghost use Rattle.connection.specs.Heard.{Acts, AreCarried, Collects, CutsSome, Grows, HasEnded, HasRead, KeptFor, ReadsTo, ReadsWith};
-ghost use Rattle.connection.specs.Limits.{MayTurnAway, Tally, one_more};
+ghost use Rattle.connection.specs.Heard.{Acts, AreCarried, Collects, CutsSome, Grows, HasEnded, HasRead, IsOfInput, KeptFor, ReadsTo, ReadsWith};
+ghost use Rattle.connection.specs.Limits.{Covers, MayTurnAway, Tally, one_more};
 ghost use Rattle.outwriter.specs.declared.control.Control.TheVariants as orders;
 ghost use Rattle.connection.specs.Puts.{IsOwn, IsSame, put_of};
 ghost use Rattle.connection.specs.Rest.{CarriesOpen, CarriesRest};
@@ -65,7 +65,10 @@ const FIRST_PIECE: usize = 1_024;
 const LARGE_PIECE: usize = 8_192;
 
 /// The room for the next read: the first piece, until there is a whole one.
-fn room<'x>(first: &'x mut [u8], whole: &'x mut [u8]) -> &'x mut [u8] {
+fn room<'x>(first: &'x mut [u8], whole: &'x mut [u8]) -> &'x mut [u8]
+    requires first { 0 < length first.old }
+    ensures some { 0 < length result.now }
+{
     if whole.is_empty() { first } else { whole }
 }
 
@@ -164,17 +167,23 @@ where
         requires named { AreNames
             (IsFirstWith (λ m. (⟦<dyn Method as Method>⟧ m.vtable).name m.value)
             (listed methods.now.value)) M.names }
+        requires unnamed { AreNames M.names
+            (IsFirstWith (λ m. (⟦<dyn Method as Method>⟧ m.vtable).name m.value)
+            (listed methods.now.value)) }
         requires uncounted { (intake.old.calls ≡ 0) × (intake.old.came ≡ 0) }
         ensures grows { Grows self.old.reading self.new.reading }
         ensures heard { (sent : List Sent) → AreCarried sent (taken self.new.reading.home)
             → KeptFor M.known M.names sent [] self.old.reading self.old.orders
             → (came : List ℕ) × Consumes (I.remaining input.old) (I.remaining input.new) came
             × ((told : List Step) × HasRead M.known M.names sent result came told
-            self.new.reading self.new.orders
-            × (intake.new.came ≤ counted_told (events_of told))) }
+            self.new.reading self.new.orders × Covers told intake.new) }
         ensures failed { (sent : List Sent) → AreCarried sent (taken self.new.reading.home)
             → KeptFor M.known M.names sent [] self.old.reading self.old.orders
             → result ≡ ending.ReadFailed → I.failed input.new ≡ true }
+        ensures over { (sent : List Sent) → AreCarried sent (taken self.new.reading.home)
+            → KeptFor M.known M.names sent [] self.old.reading self.old.orders
+            → IsOfInput result → self.new.orders.has_stopped ≡ false
+            → IsAtEnd (I.remaining input.new) }
     {
         let mut core = InCore::new(self.alloc);
         let mut first_piece = [0u8; FIRST_PIECE];
@@ -182,6 +191,8 @@ where
         let rt = self.rt;
         'pieces: for _ in rt.forever() {
             if self.orders.shared.has_stopped() {
+                // (the writer says how the connection ended)
+                self.orders.has_stopped = true;
                 return self.reading.ending();
             }
             let piece = room(&mut first_piece, &mut whole_piece);
@@ -254,6 +265,7 @@ where
         ensures collects { Collects M.known M.names self.old.reading self.new.reading }
         ensures put { put_of self.new.orders ≡ put_of self.old.orders ++ orders.Close ∷ [] }
         ensures none_left { self.new.orders.backlog.items ≡ [] }
+        ensures stopped { self.new.orders.has_stopped ≡ self.old.orders.has_stopped }
         ensures dropped { self.new.orders.has_dropped ≡ self.old.orders.has_dropped }
         ensures unput { self.new.orders.unput ≡ self.old.orders.unput }
     {
@@ -286,6 +298,7 @@ where
             (items_of result.0.full result.0.last) }
         ensures outbox { result.1.outbox ≡ self.orders.outbox }
         ensures backlog { result.1.backlog ≡ self.orders.backlog }
+        ensures stopped { result.1.has_stopped ≡ self.orders.has_stopped }
         ensures dropped { result.1.has_dropped ≡ self.orders.has_dropped }
     {
         let mut reader = self;
@@ -311,6 +324,7 @@ where
             → Reads M.known M.names (carried_in sent) told self.new.reading }
         ensures outbox { self.new.orders.outbox ≡ self.old.orders.outbox }
         ensures backlog { self.new.orders.backlog ≡ self.old.orders.backlog }
+        ensures stopped { self.new.orders.has_stopped ≡ self.old.orders.has_stopped }
         ensures dropped { self.new.orders.has_dropped ≡ self.old.orders.has_dropped }
     {
         if let Some(Control::Open(_, opening)) = self.orders.unput.take() {
@@ -472,13 +486,16 @@ where
         requires named { AreNames
             (IsFirstWith (λ m. (⟦<dyn Method as Method>⟧ m.vtable).name m.value)
             (listed methods.now.value)) M.names }
+        requires unnamed { AreNames M.names
+            (IsFirstWith (λ m. (⟦<dyn Method as Method>⟧ m.vtable).name m.value)
+            (listed methods.now.value)) }
         ensures grows { Grows self.old.reading self.new.reading }
         ensures on { IfOk result (λ end. (bytes : List ℕ) (before : List Event)
             → Reached bytes before core.old
             → (given : List Event) × Reached (bytes ++ piece.now) (before ++ given) core.new
             × ReadsWith M.known M.names intake.old intake.new given end
             self.old.reading self.old.orders self.new.reading self.new.orders) }
-        ensures uncounted { OnErr result (intake.new.came ≡ intake.old.came) }
+        ensures uncounted { OnErr result (intake.new ≡ intake.old) }
         ensures same { OnErr result ((self.new.reading ≡ self.old.reading)
             × (self.new.orders ≡ self.old.orders)) }
     {
@@ -521,6 +538,9 @@ where
         requires named { AreNames
             (IsFirstWith (λ m. (⟦<dyn Method as Method>⟧ m.vtable).name m.value)
             (listed methods.now.value)) M.names }
+        requires unnamed { AreNames M.names
+            (IsFirstWith (λ m. (⟦<dyn Method as Method>⟧ m.vtable).name m.value)
+            (listed methods.now.value)) }
         ensures reads { ReadsWith M.known M.names intake.old intake.new events.items result
             self.old.reading self.old.orders self.new.reading self.new.orders }
     {
@@ -545,6 +565,9 @@ where
         requires named { AreNames
             (IsFirstWith (λ m. (⟦<dyn Method as Method>⟧ m.vtable).name m.value)
             (listed methods.now.value)) M.names }
+        requires unnamed { AreNames M.names
+            (IsFirstWith (λ m. (⟦<dyn Method as Method>⟧ m.vtable).name m.value)
+            (listed methods.now.value)) }
         ensures reads { ReadsWith M.known M.names intake.old intake.new (event ∷ []) result
             self.old.reading self.old.orders self.new.reading self.new.orders }
     {
@@ -658,6 +681,9 @@ where
         requires named { AreNames
             (IsFirstWith (λ m. (⟦<dyn Method as Method>⟧ m.vtable).name m.value)
             (listed methods.now.value)) M.names }
+        requires unnamed { AreNames M.names
+            (IsFirstWith (λ m. (⟦<dyn Method as Method>⟧ m.vtable).name m.value)
+            (listed methods.now.value)) }
         ensures reads { ReadsWith M.known M.names intake.old intake.new
             (events.Open id head ∷ []) result
             self.old.reading self.old.orders self.new.reading self.new.orders }
@@ -730,7 +756,7 @@ where
     }
 
     /// Has a worker answer a call that was admitted: one that is free, or a new one. Where there are as many as calls may be live, one of
-    /// them is at a call that is no longer live, and soon is free. Once orders wait in the backlog no call begins: the writer has stopped.
+    /// them is at a call that is no longer live, and soon is free. Once the writer was seen to have stopped no call begins.
     fn start(&mut self, request: Request, methods: &Arc<Methods>) -> Option<Ending>
         requires known { IsKnown M.known (λ m. answers (m.vtable, m.value))
             (listed methods.now.value) }
@@ -742,7 +768,7 @@ where
     {
         let rt = self.rt;
         let (id, method) = (request.id, request.index);
-        if self.orders.are_behind() {
+        if self.orders.has_stopped {
             return self.pass_over(id, method);
         }
         'looks: for _ in rt.forever() {
@@ -755,6 +781,7 @@ where
                     return self.lose(id, method);
                 }
             } else if self.orders.shared.has_stopped() {
+                self.orders.has_stopped = true;
                 return self.pass_over(id, method);
             } else {
                 self.wait(mark);
@@ -839,9 +866,10 @@ where
         self.act(decided)
     }
 
-    /// A call of this method was admitted, and the writer has stopped.
+    /// A call of this method was admitted, and the writer was seen to have stopped.
     fn pass_over(&mut self, id: StreamId, method: usize) -> Option<Ending>
         requires next { IsNext id self.old.reading }
+        requires stopped { self.old.orders.has_stopped ≡ true }
         ensures reads { (head : Head) (tally : Tally) → M.names head.path method
             → ReadsWith M.known M.names tally (one_more tally) (events.Open id head ∷ []) result
             self.old.reading self.old.orders self.new.reading self.new.orders }

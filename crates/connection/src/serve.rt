@@ -1,20 +1,20 @@
 //! One connection from its first byte to its last.
 
 ghost use mathlib.Core.List.{IsPrefix};
-ghost use Rattle.std.specs.Prelude.{◌≡◌, ◌<◌, ◌≤◌, ◌++◌, ℕ, Bool, List, [], Option, Some, IfErr, IfOk, IfSome, true};
-ghost use Rattle.std.specs.Io.KnownBytes.{Consumes};
+ghost use Rattle.std.specs.Prelude.{◌≡◌, ◌<◌, ◌≤◌, ◌++◌, ℕ, Bool, List, [], ⊥, Option, None, Some, IfErr, IfOk, IfSome, false, length, true};
+ghost use Rattle.std.specs.Io.KnownBytes.{Consumes, IsAtEnd};
 ghost use Rattle.callparts.specs.Blocks.{items_of};
 ghost use Rattle.callparts.specs.Workers.{IsWithin, answers_by};
 ghost use Rattle.callparts.specs.declared.report.Ending.TheVariants as ending;
 ghost use Rattle.handlers.specs.Listed.{listed};
 ghost use Rattle.lane.specs.Ring.{in_name, out_name, put_in, taken};
-ghost use Rattle.session.specs.FlowBytes.{counted_told};
 ghost use Rattle.readerloop.specs.Calls.{AreNames, IsFirstWith, Sent, carried_in};
 ghost use Rattle.readerloop.specs.Readings.{Reads};
 ghost use Rattle.readerloop.specs.Reports.{AreAccounts};
-ghost use Rattle.readerloop.specs.Steps.{Step, events_of, reported};
+ghost use Rattle.readerloop.specs.Steps.{Step, reported};
 ghost use Rattle.connection.specs.Endings.{ended_by, unless_lacked};
-ghost use Rattle.connection.specs.Heard.{AreCarried, HasRead, Hears, KeptFor};
+ghost use Rattle.connection.specs.Heard.{AreCarried, HasRead, Hears, IsOfInput, KeptFor};
+ghost use Rattle.connection.specs.Limits.{Covers};
 ghost use Rattle.connection.specs.Puts.{put_of};
 ghost use Rattle.connection.specs.Rest.{CarriesOpen, CarriesRest};
 ghost use Rattle.connection.specs.Served.{IsServed};
@@ -38,8 +38,9 @@ use std::alloc::{AllocError, Global};
 use std::marker::Brand;
 use std::sync::ledger::{Blank, Ledger};
 use std::sync::{Arc, Wait};
+use std::thread;
 use std::thread::Threads;
-use std::time::{Clock, Instant};
+use std::time::{Clock, Duration, Instant};
 use writerloop::{WriterEnding, Written};
 
 /// Serves one connection, and answers what became of it. The caller's thread reads, one more thread
@@ -75,8 +76,8 @@ where
         (answers_by (λ method. answers (method.vtable, method.value)) (listed methods.value))
         (IsFirstWith (λ method. (⟦<dyn Method as Method>⟧ method.vtable).name method.value)
         (listed methods.value))
-        came (O.contents output) (I.failed input.new) result.report.ending result.report.calls
-        result.output }
+        came (I.remaining input.new) (O.contents output) (I.failed input.new)
+        result.report.ending result.report.calls result.output }
 {
     let register = NewRegister::new();
     serve_named::<A, B, C, Brand, Brand, I, O, G, R>(
@@ -103,8 +104,8 @@ where
         (answers_by (λ method. answers (method.vtable, method.value)) (listed methods.value))
         (IsFirstWith (λ method. (⟦<dyn Method as Method>⟧ method.vtable).name method.value)
         (listed methods.value))
-        came (O.contents output) (I.failed input.new) result.report.ending result.report.calls
-        result.output }
+        came (I.remaining input.new) (O.contents output) (I.failed input.new)
+        result.report.ending result.report.calls result.output }
 {
     let blanks = (Blank::new(1), Blank::new(1), Blank::new(1));
     serve_seated::<Brand, Brand, Brand, I, O, G, R>(rt, alloc, blanks, input, output, methods, gate)
@@ -136,8 +137,8 @@ where
         (answers_by (λ method. answers (method.vtable, method.value)) (listed methods.value))
         (IsFirstWith (λ method. (⟦<dyn Method as Method>⟧ method.vtable).name method.value)
         (listed methods.value))
-        came (O.contents output) (I.failed input.new) result.report.ending result.report.calls
-        result.output }
+        came (I.remaining input.new) (O.contents output) (I.failed input.new)
+        result.report.ending result.report.calls result.output }
 {
     let Ok((_drainer, seat)) = Drainer::<A, B, C>::new(alloc, blanks) else {
         return unserved(alloc, output);
@@ -245,11 +246,14 @@ where
     requires named { AreNames
         (IsFirstWith (λ method. (⟦<dyn Method as Method>⟧ method.vtable).name method.value)
         (listed methods.value)) M.names }
+    requires unnamed { AreNames M.names
+        (IsFirstWith (λ method. (⟦<dyn Method as Method>⟧ method.vtable).name method.value)
+        (listed methods.value)) }
     requires book { register.seen.book ≡ J.book }
     ensures served { (came : List ℕ) × Consumes (I.remaining input.old) (I.remaining input.new) came
         × IsServed (λ calls. items_of calls.full calls.last) O.contents O.failed M.known M.names
-        came (O.contents output) (I.failed input.new) result.report.ending result.report.calls
-        result.output }
+        came (I.remaining input.new) (O.contents output) (I.failed input.new)
+        result.report.ending result.report.calls result.output }
 {
     let Ok(rings) = Rings::open(alloc) else {
         let _ends = register.named::<J>();
@@ -291,6 +295,9 @@ where
     requires named { AreNames
         (IsFirstWith (λ method. (⟦<dyn Method as Method>⟧ method.vtable).name method.value)
         (listed methods.value)) M.names }
+    requires unnamed { AreNames M.names
+        (IsFirstWith (λ method. (⟦<dyn Method as Method>⟧ method.vtable).name method.value)
+        (listed methods.value)) }
     requires rings { (N.ring ≡ Some (in_name rings.orders.0))
         × (in_name rings.orders.0 ≡ out_name rings.orders.1)
         × (in_name rings.senders.0 ≡ out_name rings.senders.1) }
@@ -299,8 +306,8 @@ where
     requires book { register.seen.book ≡ J.book }
     ensures served { (came : List ℕ) × Consumes (I.remaining input.old) (I.remaining input.new) came
         × IsServed (λ calls. items_of calls.full calls.last) O.contents O.failed M.known M.names
-        came (O.contents output) (I.failed input.new) result.report.ending result.report.calls
-        result.output }
+        came (I.remaining input.new) (O.contents output) (I.failed input.new)
+        result.report.ending result.report.calls result.output }
 {
     let begun = match begin::<A, B, C, J, M, N, O, G, R>(
         rt, alloc, seat, rings, register, output, gate,
@@ -378,9 +385,10 @@ where
         ≡ Some (out_name begun.writing.promise.orders.value)) }
     ensures way { IfOk result (λ begun. out_name begun.reader.reading.home
         ≡ in_name begun.writing.promise.home.value) }
-    ensures served { IfErr result (λ served. (read_failed : Bool) → IsServed
+    ensures served { IfErr result (λ served. (rest : Option (List ℕ)) (read_failed : Bool)
+        → IsServed
         (λ calls. items_of calls.full calls.last) O.contents O.failed M.known M.names
-        [] (O.contents output) read_failed served.report.ending served.report.calls
+        [] rest (O.contents output) read_failed served.report.ending served.report.calls
         served.output) }
 {
     let (register, front) = register.named::<J>();
@@ -426,7 +434,7 @@ where
             } = written;
             let calls = Accounts::new(alloc);
             let read = Ending::OutOfMemory;
-            Err(meet(read, ending, calls, orders, rx, device))
+            Err(meet(rt, read, ending, calls, orders, rx, device))
         }
     }
 }
@@ -453,26 +461,30 @@ where
     requires route { N.ring ≡ Some (out_name writing.promise.orders.value) }
     requires way { out_name reader.reading.home ≡ in_name writing.promise.home.value }
     requires heard { Hears M.known M.names reader.reading reader.orders }
-    // The connection is served, whatever was heard, for the senders that came back by then.
+    // The connection is served, whatever was heard, for the senders that came back by then. The
+    // report has an account for each call that was admitted.
     ensures served { (sent : List Sent) × AreCarried sent (taken reader.reading.home)
-        × ((came : List ℕ) (told : List Step) (read_failed : Bool)
+        × ((came : List ℕ) (rest : Option (List ℕ)) (told : List Step) (read_failed : Bool)
         → HasRead M.known M.names sent read came told reader.reading reader.orders
-        → intake.came ≤ counted_told (events_of told)
+        → Covers told intake
         → (read ≡ ending.ReadFailed → read_failed ≡ true)
+        → (IsOfInput read → reader.orders.has_stopped ≡ false → IsAtEnd rest)
         → IsServed (λ calls. items_of calls.full calls.last) O.contents O.failed M.known M.names
-        came (O.contents writing.promise.device.value) read_failed result.report.ending
-        result.report.calls result.output) }
+        came rest (O.contents writing.promise.device.value) read_failed result.report.ending
+        result.report.calls result.output
+        × (intake.calls ≤ length (items_of result.report.calls.full result.report.calls.last))) }
 {
     let mut reader = reader;
     reader.end();
     let Parted { written, told } = writing.join(&rt);
     intake.audit(&rt, told);
-    meet_writer(reader, written, read)
+    meet_writer(rt, reader, written, read)
 }
 
 /// What became of a connection: its reader meets its writer, and takes back the senders that the
 /// writer had.
 fn meet_writer<A, B, C, J, M, N, O, G, R>(
+    rt: R,
     reader: Reader<A, B, C, J, M, N, R, G>,
     written: Written<J, O>,
     read: Ending,
@@ -501,6 +513,8 @@ where
     ensures output { result.output ≡ written.device }
     ensures ending { result.report.ending
         ≡ ended_by read written.ending reader.orders.has_dropped }
+    ensures halted { reader.orders.has_stopped ≡ true → written.ending ≡ None
+        → reader.orders.has_dropped ≡ true }
 {
     let Written {
         ending,
@@ -509,11 +523,12 @@ where
         rest,
     } = written;
     let (calls, orders) = reader.meet(rest);
-    meet(read, ending, calls, orders, rx, device)
+    meet(rt, read, ending, calls, orders, rx, device)
 }
 
 /// What became of a connection, by what its reader and its writer each saw.
-fn meet<A, B, C, J, N, O>(
+fn meet<A, B, C, J, N, O, R>(
+    rt: R,
     read: Ending,
     written: Option<WriterEnding>,
     calls: Accounts,
@@ -528,6 +543,7 @@ where
     J: Naming,
     N: Route,
     O: ConnWrite + Send + Drop + 'static,
+    R: Wait + Clock,
     requires route { N.ring ≡ Some (out_name rx) }
     requires none_left { orders.backlog.items ≡ [] }
     // The orders that the run obeyed begin those that were put.
@@ -535,9 +551,13 @@ where
     ensures output { result.output ≡ output }
     ensures calls { result.report.calls ≡ calls }
     ensures ending { result.report.ending ≡ ended_by read written orders.has_dropped }
+    ensures halted { orders.has_stopped ≡ true → written ≡ None → orders.has_dropped ≡ true }
 {
-    let has_dropped = orders.has_dropped;
+    let (has_dropped, has_stopped) = (orders.has_dropped, orders.has_stopped);
     orders.meet(rx);
+    if has_stopped && !has_dropped && written.is_none() {
+        wait_for_ever(&rt);
+    }
     let ending = of_both(read, written, has_dropped);
     Served {
         report: ConnReport { calls, ending },
@@ -545,7 +565,19 @@ where
     }
 }
 
-/// How a connection ended, by what its reader saw, how its writer ended, and whether orders were dropped for want of memory.
+/// Waits for ever: the reader saw that the writer had stopped, and the writer didn't say why. That
+/// doesn't come, since a writer that stops says why; and no ending would be true.
+fn wait_for_ever<R: Wait + Clock>(rt: &R)
+    ensures never { ⊥ }
+{
+    'waits: for _ in rt.forever() {
+        thread::sleep(rt, Duration::from_secs(1));
+    }
+    unreachable!()
+}
+
+/// How a connection ended, by what its reader saw, how its writer ended, and whether orders were
+/// dropped for want of memory.
 fn of_both(read: Ending, written: Option<WriterEnding>, has_dropped: bool) -> Ending
     ensures { result ≡ ended_by read written has_dropped }
 {
@@ -558,7 +590,8 @@ fn of_both(read: Ending, written: Option<WriterEnding>, has_dropped: bool) -> En
     }
 }
 
-/// The same where the writer ended so, and the reader dropped none: want of memory comes first.
+/// How a connection ended whose writer ended so, and no order was dropped: want of memory comes
+/// first.
 fn by_writer(read: Ending, end: Ending) -> Ending
     ensures { result ≡ unless_lacked read end }
 {

@@ -34,13 +34,13 @@ returns-in-Ok-start-clause-kept g c = λ sent.
     (ap (λ orders. orders.unput) (c.new-in-Ok-start.ensures.orders ∙ c.in-Ok-start.ensures.same) ∙ c.new-orders.ensures.unput)
 
 pub returns-in_default-clause-served : goal.returns-in_default-clause-served
-returns-in_default-clause-served g c = λ read_failed.
+returns-in_default-clause-served g c = λ rest read_failed.
     let is = c.unserved.ensures in
-    unbegun _ _ (λ calls. items_of calls.full calls.last) g.O.ConnWrite.contents g.O.ConnWrite.failed read_failed c.unserved.result.report.ending c.unserved.result.report.calls c.args.output c.unserved.result.output
+    unbegun _ _ (λ calls. items_of calls.full calls.last) g.O.ConnWrite.contents g.O.ConnWrite.failed rest read_failed c.unserved.result.report.ending c.unserved.result.report.calls c.args.output c.unserved.result.output
     is.ending is.output is.calls
 
 pub returns-in-Err-clause-served : goal.returns-in-Err-clause-served
-returns-in-Err-clause-served g c = λ read_failed.
+returns-in-Err-clause-served g c = λ rest read_failed.
     let contents = g.O.ConnWrite.contents in
     let failed = g.O.ConnWrite.failed in
     let is = c.meet.ensures in
@@ -57,7 +57,7 @@ returns-in-Err-clause-served g c = λ read_failed.
     left (sym all) (λ other broke. spare c.meet.result.report.ending lacked other) sent.written (λ drained. absurd (not-drained c.meet.result.report.ending lacked (drained-is c.meet.result.report.ending drained))) in
     let ordered = closed-put (InputEnded ∷ []) c.start.new.orders
     (c.in-Err.ensures.put (ordered-none c.new-orders.result (c.new-orders.ensures.put c.requires.unused.0) c.new-orders.ensures.unput)) in
-    served-by _ _ (λ calls. items_of calls.full calls.last) contents failed _ _ _ _ _ _ _ is.output
-    (none-served _ _ (λ calls. items_of calls.full calls.last) contents failed (contents c.args.output) _ _ c.meet.result.report.ending _
+    served-by _ _ (λ calls. items_of calls.full calls.last) contents failed _ rest _ _ _ _ _ _ is.output
+    (none-served _ _ (λ calls. items_of calls.full calls.last) contents failed rest (contents c.args.output) _ _ c.meet.result.report.ending _
     c.meet.result.report.calls written.device lacked (ap (λ calls. items_of calls.full calls.last) is.calls ∙ c.new-calls.ensures) ordered
     (omega (arith, c.audit.ensures.within, c.new-intake.ensures.came, c.requires.came.2)) put)

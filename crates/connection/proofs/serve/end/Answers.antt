@@ -1,12 +1,12 @@
-use Rattle.std.proofs.Common.{◌≡◌, ◌≢◌, ◌∙◌, arith, ap, sym, subst, Some}
+use Rattle.std.proofs.Common.{◌≡◌, ◌≢◌, ◌∙◌, arith, ap, le_trans, sym, subst, Some}
 use Rattle.callparts.specs.Blocks.{items_of}
 use Rattle.callparts.specs.declared.accounts.Accounts.{Accounts}
 use Rattle.callparts.specs.declared.report.Ending.{Ending}
 use Rattle.callparts.specs.declared.report.Ending.TheVariants.{WriteFailed}
 use Rattle.lane.specs.Ring.{taken}
 use Rattle.writerloop.specs.Endings.{ending_told}
-use Rattle.connection.proofs.Endings.{Meets, meets}
-use Rattle.connection.proofs.Ends.{ended-served, gave, gave-there}
+use Rattle.connection.proofs.Endings.{Meets, meets, untold}
+use Rattle.connection.proofs.Ends.{ended-accounted, ended-served, gave, gave-there}
 use Rattle.connection.proofs.Reports.{served-by}
 use Rattle.connection.proofs.serve.end.Goals as goal
 
@@ -38,11 +38,15 @@ returns g c =
       served = (
         gave known names (λ (calls : Accounts). items_of calls.full calls.last) contents failed reading mid old orders c.end.ensures.grows c.end.ensures.ended c.requires.heard before amount took written.rest told written.device sent is.came is.obeyed,
         gave-there known names (λ (calls : Accounts). items_of calls.full calls.last) contents failed reading mid old orders c.end.ensures.grows c.end.ensures.ended c.requires.heard before amount took written.rest told written.device sent is.came is.obeyed,
-        λ came heard read_failed has within unread.
-            served-by known names (λ (calls : Accounts). items_of calls.full calls.last) contents failed came before read_failed report.ending report.calls written.device c.meet_writer.result.output is.output
-            (ended-served known names (λ (calls : Accounts). items_of calls.full calls.last) contents failed reading mid old orders c.end.ensures.grows c.end.ensures.ended c.requires.heard before amount took written.rest told written.device sent is.came is.obeyed
-            c.args.read report.ending report.calls came heard read_failed
-            (λ (unbroken : c.args.read ≢ WriteFailed). subst (λ (ending : Ending). Meets c.args.read ending told orders.has_dropped) (sym is.ending) (meets c.args.read written.ending orders.has_dropped unbroken))
-            is.accounts has (omega (arith, c.audit.ensures.within, within)) unread),
+        λ came rest heard read_failed has covers unread over. (
+          served-by known names (λ (calls : Accounts). items_of calls.full calls.last) contents failed came rest before read_failed report.ending report.calls written.device c.meet_writer.result.output is.output
+              (ended-served known names (λ (calls : Accounts). items_of calls.full calls.last) contents failed reading mid old orders c.end.ensures.grows c.end.ensures.ended c.requires.heard before amount took written.rest told written.device sent is.came is.obeyed
+              c.args.read report.ending report.calls came rest heard read_failed
+              (λ (unbroken : c.args.read ≢ WriteFailed). subst (λ (ending : Ending). Meets c.args.read ending told orders.has_dropped) (sym is.ending) (meets c.args.read written.ending orders.has_dropped unbroken))
+              is.accounts has (omega (arith, c.audit.ensures.within, covers.came)) unread over (λ stopped none. is.halted stopped (untold written.ending none))),
+          le_trans covers.calls
+              (ended-accounted known names (λ (calls : Accounts). items_of calls.full calls.last) contents failed reading mid old orders c.end.ensures.grows c.end.ensures.ended c.requires.heard before amount took written.rest told written.device sent is.came is.obeyed
+              report.calls heard is.accounts has.reads),
+        ),
       );
     }

@@ -19,3 +19,6 @@ returns-clause-accounts g c = λ sent told carried rest unput reads.
 
 pub returns-clause-ending : goal.returns-clause-ending
 returns-clause-ending g c = c.meet.ensures.ending ∙ ap (λ dropped. ended_by c.args.read c.args.written.ending dropped) c.meet-calls.ensures.dropped
+
+pub returns-clause-halted : goal.returns-clause-halted
+returns-clause-halted g c = λ stopped none. sym c.meet-calls.ensures.dropped ∙ c.meet.ensures.halted (c.meet-calls.ensures.stopped ∙ stopped) none

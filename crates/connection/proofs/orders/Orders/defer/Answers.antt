@@ -12,4 +12,5 @@ returns-in-Ok g c = record {
     c.requires.whole,
     refl,
   );
+  stops = λ was. was;
 }

@@ -20,6 +20,7 @@ returns-in_default g c =
         c.tries.invariant.1 ∙ c.requires.whole,
         c.tries.invariant.2,
       );
+      stops = λ was. c.tries.invariant.5 ∙ was;
     }
 
 pub returns-then-has_stopped : goal.returns-then-has_stopped
@@ -27,4 +28,5 @@ returns-then-has_stopped g c = record {
   puts =
       puts-behind _ _ _ _ _ _ _ _ _ _ _ (both (c.in-Err.ensures.unchanged ∙ c.tries.invariant.0) (ap (λ later. later.items) c.tries.invariant.4))
       c.tries.invariant.1 c.tries.invariant.2 (c.into_item-order.ensures ∙ (c.in-Err.ensures.handed_back ∙ c.tries.invariant.3)) c.defer.ensures.puts;
+  stops = λ was. c.defer.ensures.stops refl;
 }

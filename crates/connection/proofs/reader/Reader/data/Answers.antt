@@ -21,5 +21,5 @@ returns g c = record {
       (λ told covers.
       covers-bytes event fate told _ _ c.receive-receipt.result c.args.flow
       c.receive-receipt.ensures.calls c.receive-receipt.ensures.counted refl covers)
-      c.act.ensures.ends c.data-decided.ensures.home (c.data-decided.ensures.decides c.args.flow) (λ told is. plain-own told (Told event fate) c.data-decided.result refl is) c.act.ensures.acts);
+      c.act.ensures.ends c.data-decided.ensures.home (c.data-decided.ensures.decides c.args.flow) (λ told is. plain-own told (Told event fate) c.data-decided.result refl is) c.act.ensures.acts tt);
 }

@@ -15,5 +15,5 @@ returns g c = record {
       (λ told covers.
       covers-bytes (events.Loose c.args.flow) (Received c.receive-receipt.result) told _ _ c.receive-receipt.result c.args.flow
       c.receive-receipt.ensures.calls c.receive-receipt.ensures.counted refl covers)
-      c.act.ensures.ends refl (c.loose-decided.ensures.decides c.args.flow) (λ told is. plain-own told (Told (events.Loose c.args.flow) (Received c.receive-receipt.result)) c.loose-decided.result refl is) c.act.ensures.acts);
+      c.act.ensures.ends refl (c.loose-decided.ensures.decides c.args.flow) (λ told is. plain-own told (Told (events.Loose c.args.flow) (Received c.receive-receipt.result)) c.loose-decided.result refl is) c.act.ensures.acts tt);
 }

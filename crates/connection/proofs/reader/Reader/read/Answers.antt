@@ -1,10 +1,13 @@
-use Rattle.std.proofs.Common.{◌≡◌, ◌∙◌, ◌≤◌, ℕ, List, [], ◌∷◌, ◌++◌, Result, Ok, Err, OnErr, ap, append-nil, arith, refl, subst, sym, take}
+use Rattle.std.proofs.Common.{◌≡◌, ◌∙◌, ◌≤◌, inl, inr, ℕ, List, [], ◌∷◌, ◌++◌, Result, Ok, Err, OnErr, ap, append-nil, arith, refl, subst, sym, take, true≢false}
+use Rattle.callparts.specs.declared.report.Ending.TheVariants.{OutOfMemory, ReadFailed}
 use Rattle.session.specs.declared.event.InEvent.{InEvent}
-use Rattle.session.specs.FlowBytes.{counted_told}
 use Rattle.readerloop.specs.Steps.{Lacks, Step, events_of}
 use Rattle.readerloop.proofs.LetGo.{events-append}
 use Rattle.readerloop.proofs.Resets.{calm-more}
-use Rattle.connection.proofs.Heard.{carried-before, consumes-none, consumes-then, failed-read, grows-home, grows-then, input-read, kept-as, kept-behind, kept-collected, none-more, none-read, not-by-fault, read-failed, some-read, some-sound, with-end}
+use Rattle.connection.specs.Heard.{IsOfInput}
+use Rattle.connection.specs.Limits.{Covers, Tally}
+use Rattle.connection.proofs.Tallies.{covers-more}
+use Rattle.connection.proofs.Heard.{carried-before, consumes-none, consumes-then, failed-read, grows-home, grows-then, input-out, input-read, kept-as, kept-behind, kept-collected, kept-stopped, none-more, none-read, not-by-fault, not-drained, read-failed, some-harsh, some-read, some-sound, with-end}
 use Rattle.connection.proofs.reader.Reader.read.Goals as goal
 
 is-err : {A E P : Type 0} (result : Result A E) → ((a : A) → result ≡ Ok a → ⊥) → OnErr result P → P
@@ -14,6 +17,10 @@ is-err (Err fault) not on = on
 -- behind what was told before come these events
 all-told : (told more : List Step) (before given : List InEvent) → events_of told ≡ before → events_of more ≡ given → events_of (more ++ told) ≡ before ++ given
 all-told told more before given is all = events-append more told ∙ (ap (λ (es : List InEvent). es ++ events_of more) is ∙ ap (λ (es : List InEvent). before ++ es) all)
+
+not-of-read : IsOfInput ReadFailed → ⊥
+not-of-read (inl is) = cc
+not-of-read (inr is) = cc
 
 none-above : (n : ℕ) → n ≡ 0 → n ≤ 0
 none-above n none = omega (arith, none)
@@ -27,7 +34,7 @@ pieces-init g c = (
 pub returns-in_default-clause-heard : goal.returns-in_default-clause-heard
 returns-in_default-clause-heard g c = λ sent carried none.
     let h = c.pieces.invariant.1 sent carried none in
-    (h.0 ++ [], consumes-then _ _ _ h.0 [] h.3 (read-failed _ _ _ _ c.in_default.not-Ok c.read.ensures.bytes), (h.2, failed-read sent h.1 h.2 h.0 (h.0 ++ []) _ _ _ (append-nil h.0) h.4 h.5 h.6 h.7, h.8.came))
+    (h.0 ++ [], consumes-then _ _ _ h.0 [] h.3 (read-failed _ _ _ _ c.in_default.not-Ok c.read.ensures.bytes), (h.2, failed-read sent h.1 h.2 h.0 (h.0 ++ []) _ _ _ (append-nil h.0) h.4 h.5 h.6 h.7, h.8))
 
 pub returns-in_default-clause-grows : goal.returns-in_default-clause-grows
 returns-in_default-clause-grows g c = c.pieces.invariant.0
@@ -35,7 +42,9 @@ returns-in_default-clause-grows g c = c.pieces.invariant.0
 pub returns-then-has_stopped-clause-heard : goal.returns-then-has_stopped-clause-heard
 returns-then-has_stopped-clause-heard g c = λ sent carried none.
     let h = c.pieces.invariant.1 sent carried none in
-    (h.0, h.3, (h.2, input-read sent _ h.1 h.2 h.0 h.0 _ _ _ refl h.4 h.5 h.6 h.7 c.ending.ensures.input c.ending.ensures.goaway c.ending.ensures.drained, h.8.came))
+    let kept = kept-stopped sent h.2 c.pieces.self.reading c.pieces.self.orders (record c.pieces.self.orders { has_stopped = true }) refl refl refl refl refl h.7 in
+    let ending = c.ending.ensures in
+    (h.0, h.3, (h.2, input-read sent _ h.1 h.2 h.0 h.0 _ _ _ refl h.4 h.5 h.6 kept ending.input ending.goaway ending.drained ending.draining, h.8))
 
 pub returns-then-has_stopped-clause-grows : goal.returns-then-has_stopped-clause-grows
 returns-then-has_stopped-clause-grows g c = c.pieces.invariant.0
@@ -50,8 +59,8 @@ returns-then-count-eq0-clause-heard g c = λ sent carried none.
       consumes-then _ _ _ h.0 _ h.3 c.in-Ok.ensures.bytes.0,
       (
         b.0 ++ h.2,
-        input-read sent _ h.1 (b.0 ++ h.2) h.0 came _ _ _ (none-more h.0 c.read.new.buf c.in-Ok.count c.if-count-eq0.true) h.4 (b.1 ∙ h.5) b.2 b.3 ending.input ending.goaway ending.drained,
-        b.4.came,
+        input-read sent _ h.1 (b.0 ++ h.2) h.0 came _ _ _ (none-more h.0 c.read.new.buf c.in-Ok.count c.if-count-eq0.true) h.4 (b.1 ∙ h.5) b.2 b.3 ending.input ending.goaway ending.drained ending.draining,
+        b.4,
       ),
     )
 
@@ -73,8 +82,8 @@ returns-then-heed_drain-clause-heard g c = λ sent carried none.
       consumes-then _ _ _ h.0 _ h.3 c.in-Ok.ensures.bytes.0,
       (
         b.0 ++ (more.0 ++ h.2),
-        input-read sent _ (h.1 ++ on.0) (b.0 ++ (more.0 ++ h.2)) came came _ _ _ refl on.1 (b.1 ∙ all-told h.2 more.0 h.1 on.0 h.5 (more.1.all c.in-Ok-None.field-0-is)) b.2 b.3 ending.input ending.goaway ending.drained,
-        b.4.came,
+        input-read sent _ (h.1 ++ on.0) (b.0 ++ (more.0 ++ h.2)) came came _ _ _ refl on.1 (b.1 ∙ all-told h.2 more.0 h.1 on.0 h.5 (more.1.all c.in-Ok-None.field-0-is)) b.2 b.3 ending.input ending.goaway ending.drained ending.draining,
+        b.4,
       ),
     )
 
@@ -130,7 +139,7 @@ returns-in-Err-clause-heard g c = λ sent carried none.
       (
         Lacks ∷ h.2,
         none-read sent h.1 h.2 h.0 _ _ _ _ h.4 h.5 (c.lack.ensures.kept sent h.2 (kept-as sent h.2 _ _ _ _ c.in-Err.ensures.same.0 c.in-Err.ensures.same.1 kept)),
-        subst (λ (n : ℕ). n ≤ counted_told (events_of h.2)) (sym c.in-Err.ensures.uncounted) h.8.came,
+        subst (λ (tally : Tally). Covers (Lacks ∷ h.2) tally) (sym c.in-Err.ensures.uncounted) (covers-more _ (Lacks ∷ []) h.2 h.8),
       ),
     )
 
@@ -149,6 +158,26 @@ returns-then-count-eq0-clause-failed g c = λ sent carried none failed. absurd (
 
 pub returns-then-heed_drain-clause-failed : goal.returns-then-heed_drain-clause-failed
 returns-then-heed_drain-clause-failed g c = λ sent carried none failed. absurd (not-by-fault _ c.ending-then-heed_drain.ensures.input failed)
+
+pub returns-in_default-clause-over : goal.returns-in_default-clause-over
+returns-in_default-clause-over g c = λ sent carried none input going. absurd (not-of-read input)
+
+pub returns-then-has_stopped-clause-over : goal.returns-then-has_stopped-clause-over
+returns-then-has_stopped-clause-over g c = λ sent carried none input going. absurd (true≢false going)
+
+pub returns-then-heed_drain-clause-over : goal.returns-then-heed_drain-clause-over
+returns-then-heed_drain-clause-over g c = λ sent carried none input going. absurd (not-drained _ (c.ending-then-heed_drain.ensures.draining (c.heed_drain-in-pieces.ensures.draining c.if-heed_drain.true)) input)
+
+pub returns-in-Err-clause-over : goal.returns-in-Err-clause-over
+returns-in-Err-clause-over g c = λ sent carried none input going. absurd (true≢false (sym (input-out OutOfMemory input)))
+
+pub returns-in-Ok-Some-clause-over : goal.returns-in-Ok-Some-clause-over
+returns-in-Ok-Some-clause-over g c = λ sent carried none input going.
+    let before = carried-before sent _ _ c.take.ensures.grows carried in
+    let h = c.pieces.invariant.1 sent (carried-before sent _ _ c.collect.ensures.collects.grows before) none in
+    let kept = kept-collected sent h.2 _ _ _ _ c.collect.ensures.collects before c.collect.ensures.orders h.7 in
+    let on = c.in-Ok-Some.ensures.on h.0 h.1 h.4 in
+    absurd (some-harsh sent _ _ c.in-Ok-Some.ending on.0 h.2 _ _ _ _ carried (with-end _ _ _ _ _ _ _ _ _ c.in-Ok-Some.field-0-is on.2) kept h.8 input)
 
 pub returns-in-Ok-Some-clause-failed : goal.returns-in-Ok-Some-clause-failed
 returns-in-Ok-Some-clause-failed g c = λ sent carried none failed.

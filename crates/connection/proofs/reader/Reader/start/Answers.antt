@@ -1,5 +1,5 @@
 use Rattle.std.proofs.Common.{◌∙◌, refl}
-use Rattle.connection.proofs.Heard.{collects-none, collects-seats, collects-then, next-seats, same-of, with-collected}
+use Rattle.connection.proofs.Heard.{collects-none, collects-seats, collects-then, next-seats, same-of, with-collected, with-stopped}
 use Rattle.connection.proofs.reader.Reader.start.Goals as goal
 
 pub looks-init : goal.looks-init
@@ -25,7 +25,8 @@ returns-in-Err g c = record {
 pub returns-then-has_stopped : goal.returns-then-has_stopped
 returns-then-has_stopped g c = record {
   reads = λ tally. with-collected _ _ _ _ _ _ _ _ _ _ (collects-then _ _ _ c.looks.invariant.0 c.find_free.ensures.collects) (same-of _ _ (c.find_free.ensures.orders ∙ c.looks.invariant.2))
-      (c.pass_over-then-has_stopped.ensures.reads c.args.request.head tally c.requires.named);
+      (with-stopped _ _ _ _ _ _ c.find_free.new.self.orders (record c.find_free.new.self.orders { has_stopped = true }) _ refl refl refl refl refl
+      (c.pass_over-then-has_stopped.ensures.reads c.args.request.head tally c.requires.named));
 }
 
 pub looks-preserved : goal.looks-preserved
