@@ -36,6 +36,8 @@ ghost use Rattle.connection.specs.Limits.{AreFounded, AreJustified, EndsLast, Is
 ghost use Rattle.connection.specs.Heard.{HasPut};
 ghost use Rattle.connection.specs.News.{acknowledgements, answers_to, news_in, news_told, taken_by};
 
+use callparts::Answering;
+
 /// The reader orders each reset that is to be written for a cause in what it heard: RFC 9113,
 /// section 5.4.2.
 pub fn ordered_resets()

@@ -1,7 +1,7 @@
 //! One connection from its first byte to its last.
 
 ghost use mathlib.Core.List.{IsPrefix};
-ghost use Rattle.std.specs.Prelude.{◌≡◌, ◌<◌, ◌≤◌, ◌++◌, ℕ, Bool, List, [], ⊥, Option, None, Some, IfErr, IfOk, IfSome, false, length, true};
+ghost use Rattle.std.specs.Prelude.{◌≡◌, ◌<◌, ◌≤◌, ◌++◌, ℕ, Bool, List, [], Option, None, Some, IfErr, IfOk, IfSome, false, length, true};
 ghost use Rattle.std.specs.Io.KnownBytes.{Consumes, IsAtEnd};
 ghost use Rattle.callparts.specs.Blocks.{items_of};
 ghost use Rattle.callparts.specs.Workers.{IsWithin, answers_by};
@@ -434,7 +434,7 @@ where
             } = written;
             let calls = Accounts::new(alloc);
             let read = Ending::OutOfMemory;
-            Err(meet(rt, read, ending, calls, orders, rx, device))
+            Err(meet(&rt, read, ending, calls, orders, rx, device))
         }
     }
 }
@@ -523,12 +523,12 @@ where
         rest,
     } = written;
     let (calls, orders) = reader.meet(rest);
-    meet(rt, read, ending, calls, orders, rx, device)
+    meet(&rt, read, ending, calls, orders, rx, device)
 }
 
 /// What became of a connection, by what its reader and its writer each saw.
 fn meet<A, B, C, J, N, O, R>(
-    rt: R,
+    rt: &R,
     read: Ending,
     written: Option<WriterEnding>,
     calls: Accounts,
@@ -556,7 +556,7 @@ where
     let (has_dropped, has_stopped) = (orders.has_dropped, orders.has_stopped);
     orders.meet(rx);
     if has_stopped && !has_dropped && written.is_none() {
-        wait_for_ever(&rt);
+        wait_for_ever(rt);
     }
     let ending = of_both(read, written, has_dropped);
     Served {
