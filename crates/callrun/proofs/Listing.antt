@@ -63,30 +63,32 @@ no_more (Some m) T C = λ ms took come.
     ([], subst T (sym (append-nil ms)) took, subst (C m) (sym (append-nil ms)) come)
 
 -- what follows one after another follows
-pub then_more : {A : Type 0} (found found_then : Option A) (T0 T1 T2 : List (List ℕ) → Type 0)
-    (C0 C1 C2 : A → List (List ℕ) → Type 0)
+pub then_more : {A : Type 0} (found found_then : Option A)
+    (Had Has HasBoth : List (List ℕ) → Type 0)
+    (CameBy Comes ComesBoth : A → List (List ℕ) → Type 0)
     → found_then ≡ found
     → IfSome found (λ m.
-    (ms : List (List ℕ)) → T0 ms → C0 m ms
-    → (more : List (List ℕ)) × T1 (ms ++ more) × C1 m (ms ++ more))
+    (ms : List (List ℕ)) → Had ms → CameBy m ms
+    → (more : List (List ℕ)) × Has (ms ++ more) × Comes m (ms ++ more))
     → IfSome found_then (λ m.
-    (ms : List (List ℕ)) → T1 ms → C1 m ms
-    → (more : List (List ℕ)) × T2 (ms ++ more) × C2 m (ms ++ more))
+    (ms : List (List ℕ)) → Has ms → Comes m ms
+    → (more : List (List ℕ)) × HasBoth (ms ++ more) × ComesBoth m (ms ++ more))
     → IfSome found (λ m.
-    (ms : List (List ℕ)) → T0 ms → C0 m ms
-    → (more : List (List ℕ)) × T2 (ms ++ more) × C2 m (ms ++ more))
-then_more None found_then T0 T1 T2 C0 C1 C2 same first second = tt
-then_more {A} (Some m) found_then T0 T1 T2 C0 C1 C2 same first second = λ ms took come.
+    (ms : List (List ℕ)) → Had ms → CameBy m ms
+    → (more : List (List ℕ)) × HasBoth (ms ++ more) × ComesBoth m (ms ++ more))
+then_more None found_then Had Has HasBoth CameBy Comes ComesBoth same first second = tt
+then_more {A} (Some m) found_then Had Has HasBoth CameBy Comes ComesBoth same first
+    second = λ ms took come.
     let one = first ms took come in
     let follows =
     subst (λ (found : Option A).
     IfSome found (λ m.
-    (ms : List (List ℕ)) → T1 ms → C1 m ms
-    → (more : List (List ℕ)) × T2 (ms ++ more) × C2 m (ms ++ more))) same second in
+    (ms : List (List ℕ)) → Has ms → Comes m ms
+    → (more : List (List ℕ)) × HasBoth (ms ++ more) × ComesBoth m (ms ++ more))) same second in
     let two = follows (ms ++ one.0) one.1 one.2 in (
       one.0 ++ two.0,
-      subst T2 (append_assoc ms one.0 two.0) two.1,
-      subst (C2 m) (append_assoc ms one.0 two.0) two.2,
+      subst HasBoth (append_assoc ms one.0 two.0) two.1,
+      subst (ComesBoth m) (append_assoc ms one.0 two.0) two.2,
     )
 
 live_is_open : {G S : Type 0} (of_open : G → List OutItem) (of_shut : S → List OutItem)

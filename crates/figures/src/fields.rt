@@ -136,7 +136,7 @@ impl<'a> fmt::Display for BrokenRule<'a> {
             ),
             FieldRule::Late => write!(
                 f,
-                "the pseudo-header {name:?} came behind another field (RFC 9113, 8.3)"
+                "the pseudo-header {name:?} came after another field (RFC 9113, 8.3)"
             ),
             FieldRule::InTrailers => write!(
                 f,
