@@ -1,7 +1,13 @@
 -- Which accounts of a call are lawful.
 use Rattle.std.specs.Prelude.{◌≡◌, ◌≢◌, ℕ, List, [], ◌∷◌, ◌++◌, Option, Some, None}
 use Rattle.lpm.specs.declared.fault.LpmFault.{LpmFault}
-use Rattle.lpm.specs.declared.fault.LpmFault.TheVariants.{Compressed, BadFlag, TooLong, CutAtEnd, OutOfMemory}
+use Rattle.lpm.specs.declared.fault.LpmFault.TheVariants.{
+  Compressed,
+  BadFlag,
+  TooLong,
+  CutAtEnd,
+  OutOfMemory,
+}
 use Rattle.lpm.specs.Messages.{frames, IsFrame, Spells, IsFaultyAfter}
 use Rattle.lpm.specs.Reading.{messages_of}
 use Rattle.account.specs.declared.call.Account.{Account}
@@ -40,7 +46,8 @@ abbrev pub MayTellFault : LpmFault → List ℕ → Option Shut → List (List �
 MayTellFault Compressed fed closed taken = IsFaultyAfter fed taken Compressed
 MayTellFault BadFlag fed closed taken = IsFaultyAfter fed taken BadFlag
 MayTellFault TooLong fed closed taken = IsFaultyAfter fed taken TooLong
-MayTellFault CutAtEnd fed closed taken = (closed ≡ Some shut.End) × ((rest : List ℕ) × Spells fed taken rest × (rest ≢ []))
+MayTellFault CutAtEnd fed closed taken =
+    (closed ≡ Some shut.End) × ((rest : List ℕ) × Spells fed taken rest × (rest ≢ []))
 MayTellFault OutOfMemory fed closed taken = ⊥
 
 -- The end may be told only where the half was ended and all its bytes were taken; a reset only
@@ -48,7 +55,8 @@ MayTellFault OutOfMemory fed closed taken = ⊥
 abbrev pub MayTell : Option Told → List ℕ → Option Shut → List (List ℕ) → Type 0
 MayTell None fed closed taken = Unit {0}
 MayTell (Some told.End) fed closed taken = (closed ≡ Some shut.End) × (fed ≡ frames taken)
-MayTell (Some (told.Reset code)) fed closed taken = (closed ≡ Some (shut.Reset code)) × ((rest : List ℕ) × Spells fed taken rest)
+MayTell (Some (told.Reset code)) fed closed taken =
+    (closed ≡ Some (shut.Reset code)) × ((rest : List ℕ) × Spells fed taken rest)
 MayTell (Some (told.Fault fault)) fed closed taken = MayTellFault fault fed closed taken
 
 pub record IsLawful (account : Account) : Type 0 where

@@ -1,5 +1,23 @@
 -- The account that a list of events makes.
-use Rattle.std.specs.Prelude.{ℕ, ◌-◌, Bool, true, false, List, [], ◌∷◌, ◌++◌, length, Option, Some, None, slice_get, fold, if◌then◌else◌, is_none}
+use Rattle.std.specs.Prelude.{
+  ℕ,
+  ◌-◌,
+  Bool,
+  true,
+  false,
+  List,
+  [],
+  ◌∷◌,
+  ◌++◌,
+  length,
+  Option,
+  Some,
+  None,
+  slice_get,
+  fold,
+  if◌then◌else◌,
+  is_none,
+}
 use Rattle.lpm.specs.declared.fault.LpmFault.{LpmFault}
 use Rattle.lpm.specs.declared.fault.LpmFault.TheVariants.{CutAtEnd}
 use Rattle.lpm.specs.Reading.{is_frame, messages_of, rest_of, fault_of}
@@ -63,7 +81,8 @@ unfoldable pub after : Account → CallEvent → Account
 after a (event.Feed bytes) = if is_none a.shut then record a { fed = a.fed ++ bytes } else a
 after a (event.Shut closed) = if is_none a.shut then record a { shut = Some closed } else a
 after a event.Take = after_take a a.told
-after a (event.Give item) = if may_follow (last_of a.given) item then record a { given = a.given ++ item ∷ [] } else a
+after a (event.Give item) =
+    if may_follow (last_of a.given) item then record a { given = a.given ++ item ∷ [] } else a
 after a event.Send = after_send a (slice_get a.given (length a.sent))
 
 -- events, one after another

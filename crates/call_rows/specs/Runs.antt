@@ -20,7 +20,8 @@ IsFed pieces kind fed (Some closed) = (fed ≡ pieces) × (closed ≡ kind)
 
 -- what became of the in side of a call whose client sends these pieces and shuts the half in this
 -- way
-pub record RunsIn (pieces : List (List ℕ)) (kind : Shut) (messages : List (List ℕ)) (r : InAccount) : Type 0 where
+pub record RunsIn (pieces : List (List ℕ)) (kind : Shut) (messages : List (List ℕ))
+    (r : InAccount) : Type 0 where
   pub fed : List (List ℕ)
   pub as_asked : IsFed pieces kind fed r.shut
   pub counts : CountsIn fed r.shut messages r.told r

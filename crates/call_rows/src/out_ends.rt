@@ -29,7 +29,8 @@ fn give_open<L: Lane<Item = OutItem>>(
     item: &OutItem,
     given: &mut Vec<OutItem>,
 ) -> Result<End<Giver<L>, GivenShut<L>>>
-    ensures { IfOk result (λ end. of_end (λ g. L.in_name g.tx) (λ s. L.shut_name s.shut) end ≡ L.in_name giver.tx) }
+    ensures { IfOk result
+        (λ end. of_end (λ g. L.in_name g.tx) (λ s. L.shut_name s.shut) end ≡ L.in_name giver.tx) }
 {
     let mut giver = giver;
     match item {

@@ -7,11 +7,37 @@
 //! A ghost field says that what was given is a response; no code tests it. There is at most one
 //! proof of it (`specs/OutSides.antt`), as a struct's facts need.
 
-ghost use Rattle.std.specs.Prelude.{◌≡◌, ◌+◌, ◌<◌, ◌≤◌, ◌&&◌, true, false, [], ◌∷◌, ◌++◌, length, IfErr, IfOk, OnErr, OnOk, MatchBool};
+ghost use Rattle.std.specs.Prelude.{
+  ◌≡◌,
+  ◌+◌,
+  ◌<◌,
+  ◌≤◌,
+  ◌&&◌,
+  true,
+  false,
+  [],
+  ◌∷◌,
+  ◌++◌,
+  length,
+  IfErr,
+  IfOk,
+  OnErr,
+  OnOk,
+  MatchBool,
+};
 ghost use Rattle.lane.specs.PutFault.{item_of, MayRefuse};
 ghost use Rattle.lpm.specs.Messages.{frame, IsFrame};
 ghost use Rattle.account.specs.Accounts.{IsResponse};
-ghost use Rattle.callbox.specs.OutSides.{has_end, has_head, has_trailers, is_head, is_message, IsResponse-prop, MayRefuseMessage, RefusesFramed};
+ghost use Rattle.callbox.specs.OutSides.{
+  has_end,
+  has_head,
+  has_trailers,
+  is_head,
+  is_message,
+  IsResponse-prop,
+  MayRefuseMessage,
+  RefusesFramed,
+};
 ghost use Rattle.account.specs.declared.call.OutItem.TheVariants as out_item;
 
 use account::OutItem;

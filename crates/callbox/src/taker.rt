@@ -12,10 +12,39 @@
 //! `Taker::look` polls at most 2^64 - 1 times, since it has to return, and a writer may put pieces
 //! without bytes forever.
 
-ghost use Rattle.std.specs.Prelude.{◌≡◌, ℕ, ◌+◌, ◌-◌, min, true, false, None, Some, List, [], ◌∷◌, ◌++◌, length, All, IfNone, IfSome, MatchOption, is_some};
+ghost use Rattle.std.specs.Prelude.{
+  ◌≡◌,
+  ℕ,
+  ◌+◌,
+  ◌-◌,
+  min,
+  true,
+  false,
+  None,
+  Some,
+  List,
+  [],
+  ◌∷◌,
+  ◌++◌,
+  length,
+  All,
+  IfNone,
+  IfSome,
+  MatchOption,
+  is_some,
+};
 ghost use Rattle.lpm.specs.Messages.{IsUnfinished};
 ghost use Rattle.lane.specs.Lawful.{last_of};
-ghost use Rattle.callbox.specs.InSides.{EachNeeded, IsPolled, Took, Tells, bytes_of, grown, length_of, telling};
+ghost use Rattle.callbox.specs.InSides.{
+  EachNeeded,
+  IsPolled,
+  Took,
+  Tells,
+  bytes_of,
+  grown,
+  length_of,
+  telling,
+};
 ghost use Rattle.callbox.specs.declared.piece.InPiece.{InPiece};
 ghost use Rattle.callbox.specs.declared.taker.Taken.TheVariants as taken;
 

@@ -13,4 +13,6 @@ IsPadded part = (front : List ℕ) × (part ≡ front ++ 0x3D ∷ [])
 
 -- the one value for which a part stands, or that it stands for none
 abbrev pub ReadsPart : List ℕ → Option (List ℕ) → Type 0
-ReadsPart part found = MatchOption found ((value : List ℕ) → IsPart part value → ⊥) (λ read. IsPart part read × ((value : List ℕ) → IsPart part value → value ≡ read))
+ReadsPart part found =
+    MatchOption found ((value : List ℕ) → IsPart part value → ⊥)
+    (λ read. IsPart part read × ((value : List ℕ) → IsPart part value → value ≡ read))

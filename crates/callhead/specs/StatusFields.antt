@@ -5,7 +5,13 @@ use Rattle.grpc_status.specs.StatusCode.{status_number}
 use Rattle.grpc_status.specs.declared.StatusCode.TheVariants.{Unimplemented, Internal}
 use Rattle.lists.specs.declared.field.Field.{Field}
 use Rattle.callhead.specs.declared.fault.HeadFault.{HeadFault}
-use Rattle.callhead.specs.declared.fault.HeadFault.TheVariants.{Malformed, NotPost, NotGrpc, BadTimeout, OutOfMemory}
+use Rattle.callhead.specs.declared.fault.HeadFault.TheVariants.{
+  Malformed,
+  NotPost,
+  NotGrpc,
+  BadTimeout,
+  OutOfMemory,
+}
 use Rattle.callhead.specs.Fields.{field_of}
 use Rattle.callhead.specs.StatusTexts.{percent_text}
 use Rattle.callhead.specs.BinValues.{unpadded}
@@ -13,7 +19,8 @@ use Rattle.callhead.specs.BinValues.{unpadded}
 -- Response-Headers, with a field for each echo
 abbrev pub response_fields : List (List ℕ) → List Field
 response_fields echoes =
-    field_of (codes ":status") (codes "200") ∷ field_of (codes "content-type") (codes "application/grpc")
+    field_of (codes ":status") (codes "200")
+    ∷ field_of (codes "content-type") (codes "application/grpc")
     ∷ map (field_of (codes "x-grpc-test-echo-initial")) echoes
 
 -- A status without a text has no field for it.
@@ -25,7 +32,8 @@ message_fields (byte ∷ bytes) = field_of (codes "grpc-message") (percent_text 
 abbrev pub status_fields : ℕ → List ℕ → List (List ℕ) → List Field
 status_fields code text echoes =
     field_of (codes "grpc-status") (decimal code)
-    ∷ (message_fields text ++ map (λ echo. field_of (codes "x-grpc-test-echo-trailing-bin") (unpadded echo)) echoes)
+    ∷ (message_fields text
+    ++ map (λ echo. field_of (codes "x-grpc-test-echo-trailing-bin") (unpadded echo)) echoes)
 
 -- Trailers-Only, without echoes: a head and trailers in one block
 abbrev pub trailers_only : ℕ → List ℕ → List Field

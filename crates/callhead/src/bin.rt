@@ -4,7 +4,29 @@
 //! `read_bin_values` answers an Option, since a field that carries no values isn't a fault: it is
 //! only not echoed.
 
-ghost use Rattle.std.specs.Prelude.{◌≡◌, ℕ, ◌+◌, ◌^◌, ◌<◌, ◌==◌, ◌↔◌, List, [], ◌∷◌, ◌++◌, take, drop, length, position, Some, IsTrue, IfOk, IfSome, IfNone, string_bytes};
+ghost use Rattle.std.specs.Prelude.{
+  ◌≡◌,
+  ℕ,
+  ◌+◌,
+  ◌^◌,
+  ◌<◌,
+  ◌==◌,
+  ◌↔◌,
+  List,
+  [],
+  ◌∷◌,
+  ◌++◌,
+  take,
+  drop,
+  length,
+  position,
+  Some,
+  IsTrue,
+  IfOk,
+  IfSome,
+  IfNone,
+  string_bytes,
+};
 ghost use Rattle.base64.specs.GeneralPurpose.{encode_of, IsStrict};
 ghost use Rattle.callhead.specs.BinValues.{unpadded, AreBytes, IsBinValues};
 ghost use Rattle.callhead.specs.Parts.{IsWithout, IsPadded, ReadsPart};

@@ -5,12 +5,38 @@
 //!
 //! `initial_echoes` makes texts by std's lossy reading, which doesn't change bytes 20 to 7E.
 
-ghost use Rattle.std.specs.Prelude.{◌≡◌, ◌⊎◌, ◌↔◌, ℕ, List, Option, Ok, Err, Some, IfOk, IfErr, IfSome, IsTrue, codes};
+ghost use Rattle.std.specs.Prelude.{
+  ◌≡◌,
+  ◌⊎◌,
+  ◌↔◌,
+  ℕ,
+  List,
+  Option,
+  Ok,
+  Err,
+  Some,
+  IfOk,
+  IfErr,
+  IfSome,
+  IsTrue,
+  codes,
+};
 ghost use Rattle.callhead.specs.declared.head.CallHead.{CallHead};
 ghost use Rattle.callhead.specs.declared.fault.HeadFault.{HeadFault};
 ghost use Rattle.callhead.specs.declared.fault.HeadFault.TheVariants.{OutOfMemory};
 ghost use Rattle.callhead.specs.Fields.{first_of};
-ghost use Rattle.callhead.specs.Heads.{IsPost, IsGrpc, HasTimeout, encoding_of, is_printable, initial_echoes, AreEchoesOf, AreTrailingEchoes, IsHead, IsFirstFault};
+ghost use Rattle.callhead.specs.Heads.{
+  IsPost,
+  IsGrpc,
+  HasTimeout,
+  encoding_of,
+  is_printable,
+  initial_echoes,
+  AreEchoesOf,
+  AreTrailingEchoes,
+  IsHead,
+  IsFirstFault,
+};
 ghost use Rattle.callhead.specs.Requests.{IsRequest};
 
 use crate::bin::read_bin_values;

@@ -5,7 +5,27 @@
 //! longest run of pseudo-headers at the beginning.
 
 ghost use Rattle.std.specs.Prelude.{◌≡◌, ◌==◌, drop, option_copied};
-ghost use Rattle.callhead.specs.MalformedHeads.{is_forbidden_in_names, has_bad_name, is_blank, is_forbidden_in_values, has_bad_value, is_connection_specific, is_other_te, is_pseudo_header, is_unknown, is_empty_path, has_late_pseudo_header, is_repeated, is_missing, is_malformed_field, is_malformed, is_malformed_trailer, are_malformed_trailers, pseudo_headers, required_headers};
+ghost use Rattle.callhead.specs.MalformedHeads.{
+  is_forbidden_in_names,
+  has_bad_name,
+  is_blank,
+  is_forbidden_in_values,
+  has_bad_value,
+  is_connection_specific,
+  is_other_te,
+  is_pseudo_header,
+  is_unknown,
+  is_empty_path,
+  has_late_pseudo_header,
+  is_repeated,
+  is_missing,
+  is_malformed_field,
+  is_malformed,
+  is_malformed_trailer,
+  are_malformed_trailers,
+  pseudo_headers,
+  required_headers,
+};
 ghost use Rattle.std.specs.List.{list_any};
 
 use crate::fields::{count_named, first_value, is_named};

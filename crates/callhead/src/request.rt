@@ -1,11 +1,31 @@
 //! The fields that open a call, for a client (gRPC over HTTP/2, "Requests").
 
-ghost use Rattle.std.specs.Prelude.{◌≡◌, codes, ◌++◌, ◌∷◌, [], map, option_copied, All, IfOk, IsTrue, OnOk};
+ghost use Rattle.std.specs.Prelude.{
+  ◌≡◌,
+  codes,
+  ◌++◌,
+  ◌∷◌,
+  [],
+  map,
+  option_copied,
+  All,
+  IfOk,
+  IsTrue,
+  OnOk,
+};
 ghost use Rattle.callhead.specs.declared.head.CallHead.{CallHead};
 ghost use Rattle.callhead.specs.Fields.{field_of};
 ghost use Rattle.callhead.specs.BinValues.{unpadded, AreBytes};
 ghost use Rattle.callhead.specs.Heads.{IsHead};
-ghost use Rattle.callhead.specs.RequestFields.{IsPathText, is_text_value, IsTimeoutText, timeout_fields, opening_fields, request_fields, AsksFor};
+ghost use Rattle.callhead.specs.RequestFields.{
+  IsPathText,
+  is_text_value,
+  IsTimeoutText,
+  timeout_fields,
+  opening_fields,
+  request_fields,
+  AsksFor,
+};
 
 use crate::bin::bin_value;
 use crate::fields::{field, push_copied, push_known};

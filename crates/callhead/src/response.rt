@@ -1,7 +1,27 @@
 //! The fields that answer a call (gRPC over HTTP/2, "Responses").
 
-ghost use Rattle.std.specs.Prelude.{◌≡◌, ◌++◌, [], ◌∷◌, Some, None, MatchOption, IfOk, OnOk, codes, decimal};
-ghost use Rattle.callhead.specs.StatusFields.{response_fields, status_fields, message_fields, trailers_only, unknown_method, refusal_of, status_alone};
+ghost use Rattle.std.specs.Prelude.{
+  ◌≡◌,
+  ◌++◌,
+  [],
+  ◌∷◌,
+  Some,
+  None,
+  MatchOption,
+  IfOk,
+  OnOk,
+  codes,
+  decimal,
+};
+ghost use Rattle.callhead.specs.StatusFields.{
+  response_fields,
+  status_fields,
+  message_fields,
+  trailers_only,
+  unknown_method,
+  refusal_of,
+  status_alone,
+};
 
 use crate::bin::bin_value;
 use crate::fault::HeadFault;

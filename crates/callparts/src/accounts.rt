@@ -4,7 +4,20 @@
 //! freed: glibc keeps up to twice the largest freed block at the top of a heap (mallopt(3),
 //! M_TRIM_THRESHOLD).
 
-ghost use Rattle.std.specs.Prelude.{◌≡◌, ◌<◌, ◌≤◌, true, [], ◌∷◌, ◌++◌, length, set, slice_get, OnOk, option_copied};
+ghost use Rattle.std.specs.Prelude.{
+  ◌≡◌,
+  ◌<◌,
+  ◌≤◌,
+  true,
+  [],
+  ◌∷◌,
+  ◌++◌,
+  length,
+  set,
+  slice_get,
+  OnOk,
+  option_copied,
+};
 ghost use Rattle.callparts.specs.Blocks.{are_full, has_room, items_of};
 
 use crate::call_account::CallAccount;

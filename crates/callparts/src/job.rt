@@ -29,6 +29,10 @@ pub struct Finished<J: Naming> {
     /// The status of its trailers. None where it was left without them.
     pub status: Option<u32>,
     pub traffic: Traffic,
-    pub ghost in_lane: { in_lane_at number.seen.log number.value ≡ Some (out_name taker.rx) } by { OptionalName_set (in_lane_at number.seen.log number.value) (Some (out_name taker.rx)) },
-    pub ghost out_lane: { out_lane_at number.seen.log number.value ≡ Some (shut_name given.shut) } by { OptionalName_set (out_lane_at number.seen.log number.value) (Some (shut_name given.shut)) },
+    pub ghost in_lane: { in_lane_at number.seen.log number.value
+        ≡ Some (out_name taker.rx) } by { OptionalName_set (in_lane_at number.seen.log number.value)
+            (Some (out_name taker.rx)) },
+    pub ghost out_lane: { out_lane_at number.seen.log number.value
+        ≡ Some (shut_name given.shut) } by { OptionalName_set
+            (out_lane_at number.seen.log number.value) (Some (shut_name given.shut)) },
 }

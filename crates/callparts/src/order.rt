@@ -22,7 +22,9 @@ pub struct Sending<J: Naming> {
     pub number: CallNumber<J>,
     /// None while the writer's core has it.
     pub sender: Option<Sender<OutLane>>,
-    pub ghost out_lane: { IsOfLane (out_lane_at number.seen.log number.value) (option_map (λ s. out_name s.rx) sender) } by { IsOfLane-prop (out_lane_at number.seen.log number.value) (option_map (λ s. out_name s.rx) sender) },
+    pub ghost out_lane: { IsOfLane (out_lane_at number.seen.log number.value)
+        (option_map (λ s. out_name s.rx) sender) } by { IsOfLane-prop
+            (out_lane_at number.seen.log number.value) (option_map (λ s. out_name s.rx) sender) },
 }
 
 /// A call that begins. Its sender has got nothing.

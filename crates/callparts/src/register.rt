@@ -5,7 +5,21 @@
 //! of the call carries the number, and a beginning of the register that has the call. So two
 //! numbers that are equal in a running program are of one call, whichever threads they come from.
 
-ghost use Rattle.std.specs.Prelude.{◌≡◌, ◌+◌, ◌<◌, ◌≤◌, ◌^◌, ◌++◌, ◌∷◌, [], length, true, Some, IfSome, slice_get};
+ghost use Rattle.std.specs.Prelude.{
+  ◌≡◌,
+  ◌+◌,
+  ◌<◌,
+  ◌≤◌,
+  ◌^◌,
+  ◌++◌,
+  ◌∷◌,
+  [],
+  length,
+  true,
+  Some,
+  IfSome,
+  slice_get,
+};
 ghost use Rattle.callparts.specs.Registers.{head_of};
 
 use crate::work::Work;

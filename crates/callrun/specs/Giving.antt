@@ -22,6 +22,8 @@ Refuses Full MayMiss room seen_taken old new = (new ≡ old) × IsFull room (len
 Refuses OutOfMemory MayMiss room seen_taken old new = new ≡ old
 Refuses NotTaken MayMiss room seen_taken old new = (new ≡ old) × MayMiss
 
-abbrev pub Gives : Result (Unit {0}) Refused → Type 0 → ℕ → ℕ → List OutItem → OutItem → List OutItem → Type 0
+abbrev pub Gives : Result (Unit {0}) Refused → Type 0 → ℕ → ℕ → List OutItem → OutItem
+    → List OutItem → Type 0
 Gives (Ok done) MayMiss room seen_taken old item new = new ≡ old ++ item ∷ []
-Gives (Err refused) MayMiss room seen_taken old item new = Refuses refused MayMiss room seen_taken old new
+Gives (Err refused) MayMiss room seen_taken old item new =
+    Refuses refused MayMiss room seen_taken old new

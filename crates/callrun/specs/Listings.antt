@@ -1,5 +1,21 @@
 -- Calls that were run, one after another.
-use Rattle.std.specs.Prelude.{◌≡◌, ◌≤◌, ◌<◌, ◌+◌, ◌⊎◌, ℕ, Bool, true, false, List, [], Option, None, Some, IsSomeAnd}
+use Rattle.std.specs.Prelude.{
+  ◌≡◌,
+  ◌≤◌,
+  ◌<◌,
+  ◌+◌,
+  ◌⊎◌,
+  ℕ,
+  Bool,
+  true,
+  false,
+  List,
+  [],
+  Option,
+  None,
+  Some,
+  IsSomeAnd,
+}
 use Rattle.account.specs.declared.call.OutItem.{OutItem}
 use Rattle.callbox.specs.InSides.{Took}
 use Rattle.callbox.specs.declared.piece.InPiece.{InPiece}
@@ -18,13 +34,17 @@ IsUntouched got progress given = Took got progress [] × (progress.told ≡ None
 -- A call was run: it took these messages, and what it was given is an outcome of what its method
 -- answers to them, whatever that is. Its deadline counts as come only if it is no later than the
 -- latest moment of its pace.
-pub record WasRun (answers : List (List ℕ) → Bool → Step → Type 0) (head : CallHead) (opened latest : ℕ)
-    (got : List InPiece) (progress : Progress) (given : List OutItem) (code : Option ℕ) : Type 0 where
+pub record WasRun (answers : List (List ℕ) → Bool → Step → Type 0) (head : CallHead)
+    (opened latest : ℕ)
+    (got : List InPiece) (progress : Progress) (given : List OutItem)
+    (code : Option ℕ) : Type 0 where
   pub messages : List (List ℕ)
   pub overdue : Bool
   pub took : Took got progress messages
-  pub late : overdue ≡ true → IsSomeAnd (deadline_of head.timeout opened) (λ deadline. deadline ≤ latest)
-  pub outcome : (answer : Step) → answers messages (is_end progress.told) answer → IsOutcome head overdue progress.told answer given code
+  pub late : overdue ≡ true
+      → IsSomeAnd (deadline_of head.timeout opened) (λ deadline. deadline ≤ latest)
+  pub outcome : (answer : Step) → answers messages (is_end progress.told) answer
+      → IsOutcome head overdue progress.told answer given code
 
 -- `more` more were counted. A count may stop at the greatest `u64`.
 abbrev pub CountsOn : ℕ → ℕ → ℕ → Type 0
@@ -53,6 +73,7 @@ IsWhy most had Spent = had ≡ most
 
 -- A call that is over was given its trailers, unless memory was wanting, or a place of its lane may
 -- be taken already.
-pub record HadTurns (most had : ℕ) (reason : Why) (is_shut ran_out : Bool) (MayMiss : Type 0) : Type 0 where
+pub record HadTurns (most had : ℕ) (reason : Why) (is_shut ran_out : Bool)
+    (MayMiss : Type 0) : Type 0 where
   pub why : IsWhy most had reason
   pub over : reason ≡ Over → (is_shut ≡ true) ⊎ (ran_out ≡ true) ⊎ MayMiss

@@ -1,5 +1,24 @@
 -- What holds of a call, over any list of its turns.
-use Rattle.std.specs.Prelude.{◌≡◌, ◌≢◌, ◌⊎◌, ℕ, Bool, true, false, List, [], ◌∷◌, ◌++◌, Option, None, Some, IsSome, option_map, min, ◌+◌}
+use Rattle.std.specs.Prelude.{
+  ◌≡◌,
+  ◌≢◌,
+  ◌⊎◌,
+  ℕ,
+  Bool,
+  true,
+  false,
+  List,
+  [],
+  ◌∷◌,
+  ◌++◌,
+  Option,
+  None,
+  Some,
+  IsSome,
+  option_map,
+  min,
+  ◌+◌,
+}
 use Rattle.account.specs.declared.call.OutItem.{OutItem}
 use Rattle.account.specs.declared.call.Told.{Told}
 use Rattle.grpc_status.specs.StatusCode.{status_number}
@@ -24,7 +43,8 @@ use Rattle.callrun.specs.Outcomes.{IsBegun, IsOutcome, is_end}
 use Rattle.callrun.specs.Sides.{Shown}
 
 -- More may be given: these replies of the method's answer were given, after a head.
-pub record IsGoing (answer : Step) (head : CallHead) (overdue : Bool) (said : Option Told) (handling : Handling) (given : List OutItem) : Type 0 where
+pub record IsGoing (answer : Step) (head : CallHead) (overdue : Bool) (said : Option Told)
+    (handling : Handling) (given : List OutItem) : Type 0 where
   pub done : List Reply
   pub at : EndsSo answer head overdue said done handling.waiting handling.ending
   pub begun : IsBegun head done given
@@ -32,29 +52,39 @@ pub record IsGoing (answer : Step) (head : CallHead) (overdue : Bool) (said : Op
 
 -- What was given is an outcome of the method's answer.
 pub record GivesOf (said : Option Told) (answer : Step) (call : Call) (shown : Shown) : Type 0 where
-  pub going : shown.is_live ≡ true → IsGoing answer call.head call.overdue said call.handling shown.given
+  pub going : shown.is_live ≡ true
+      → IsGoing answer call.head call.overdue said call.handling shown.given
   pub outcome : IsOutcome call.head call.overdue said answer shown.given shown.code
 
 -- To the messages that were taken these items were given: an outcome of what the method answers,
 -- whatever that is. As long as no end is due, the method's state stands for the messages.
-pub record HasRun (answers : List (List ℕ) → Bool → Step → Type 0) (stands : MethodState → List (List ℕ) → Step → Type 0)
+pub record HasRun (answers : List (List ℕ) → Bool → Step → Type 0)
+    (stands : MethodState → List (List ℕ) → Step → Type 0)
     (said : Option Told) (messages : List (List ℕ)) (call : Call) (shown : Shown) : Type 0 where
   pub lawful : IsLawful answers
-  pub each : (answer : Step) → answers messages (is_end said) answer → GivesOf said answer call shown
-  pub standing : call.handling.ending ≡ None → IsStanding answers stands said messages call.handling.state
+  pub each : (answer : Step) → answers messages (is_end said) answer
+      → GivesOf said answer call shown
+  pub standing : call.handling.ending ≡ None
+      → IsStanding answers stands said messages call.handling.state
 
 -- what was given answers the messages without the one in hand
-abbrev pub ComesTo : (List (List ℕ) → Bool → Step → Type 0) → (MethodState → List (List ℕ) → Step → Type 0)
+abbrev pub ComesTo : (List (List ℕ) → Bool → Step → Type 0)
+    → (MethodState → List (List ℕ) → Step → Type 0)
     → Option Told → List (List ℕ) → Call → Shown → Option Taken → Type 0
-ComesTo answers stands said messages call shown None = HasRun answers stands said messages call shown
+ComesTo answers stands said messages call shown None =
+    HasRun answers stands said messages call shown
 ComesTo answers stands said messages call shown (Some taken) =
-    (before : Option Told) × (handled : List (List ℕ)) × Tells taken before said × (messages ≡ grown handled taken)
-    × IsReady call.handling × (shown.is_live ≡ true) × HasRun answers stands before handled call shown
+    (before : Option Told) × (handled : List (List ℕ)) × Tells taken before said
+    × (messages ≡ grown handled taken)
+    × IsReady call.handling × (shown.is_live ≡ true)
+    × HasRun answers stands before handled call shown
 
 -- These messages lead to the call. The last thing that was taken may be in hand: the method hasn't
 -- got it yet.
-pub record HasCome (answers : List (List ℕ) → Bool → Step → Type 0) (stands : MethodState → List (List ℕ) → Step → Type 0)
-    (said : Option Told) (messages : List (List ℕ)) (call : Call) (hand : Option Taken) (shown : Shown) : Type 0 where
+pub record HasCome (answers : List (List ℕ) → Bool → Step → Type 0)
+    (stands : MethodState → List (List ℕ) → Step → Type 0)
+    (said : Option Told) (messages : List (List ℕ)) (call : Call) (hand : Option Taken)
+    (shown : Shown) : Type 0 where
   pub come : ComesTo answers stands said messages call shown hand
 
 -- Nothing is in hand, and what comes next may be taken.
@@ -62,10 +92,12 @@ abbrev pub MayTake : Option Taken → Call → Shown → Type 0
 MayTake hand call shown = (hand ≡ None) × IsReady call.handling × (shown.is_live ≡ true)
 
 -- A look at a call takes nothing, or one thing, which is in hand then.
-abbrev pub TakesAhead : (List (List ℕ) → Type 0) → List (List ℕ) → Option Taken → Option Told → Option Taken → Option Told → Type 0
+abbrev pub TakesAhead : (List (List ℕ) → Type 0) → List (List ℕ) → Option Taken → Option Told
+    → Option Taken → Option Told → Type 0
 TakesAhead Holds messages old_hand old_said new_hand new_said =
     ((new_hand ≡ old_hand) × (new_said ≡ old_said) × Holds messages)
-    ⊎ ((taken : Taken) × (new_hand ≡ Some taken) × Tells taken old_said new_said × Holds (grown messages taken))
+    ⊎ ((taken : Taken) × (new_hand ≡ Some taken) × Tells taken old_said new_said
+    × Holds (grown messages taken))
 
 -- what a turn that did something did
 -- one item was given
@@ -73,9 +105,11 @@ abbrev pub GivesOne : Shown → Shown → Type 0
 GivesOne before after = (item : OutItem) × (after.given ≡ before.given ++ item ∷ [])
 
 -- one thing was taken
-abbrev pub TakesOne : (List (List ℕ) → Type 0) → (List (List ℕ) → Type 0) → Option Told → Option Told → Type 0
+abbrev pub TakesOne : (List (List ℕ) → Type 0) → (List (List ℕ) → Type 0) → Option Told
+    → Option Told → Type 0
 TakesOne Held Holds old_said new_said =
-    (taken : Taken) × (taken ≢ taken_as.Nothing) × Tells taken old_said new_said × ((messages : List (List ℕ)) → Held messages → Holds (grown messages taken))
+    (taken : Taken) × (taken ≢ taken_as.Nothing) × Tells taken old_said new_said
+    × ((messages : List (List ℕ)) → Held messages → Holds (grown messages taken))
 
 -- The call ends for want of memory. It didn't end before, unless its deadline has come since.
 abbrev pub RunsOut : Call → Call → Type 0
@@ -84,24 +118,28 @@ RunsOut old new = (lacks_memory new.handling.ending ≡ true)
 
 -- a step that takes nothing, so the method's answer stays
 pub record RunsOn (old : Call) (before : Shown) (new : Call) (after : Shown) : Type 0 where
-  pub gives : (said : Option Told) (answer : Step) → GivesOf said answer old before → GivesOf said answer new after
+  pub gives : (said : Option Told) (answer : Step) → GivesOf said answer old before
+      → GivesOf said answer new after
   pub state : new.handling.state ≡ old.handling.state
   pub ends : new.handling.ending ≡ None → old.handling.ending ≡ None
 
 -- the trailers were given, or their place was taken
 abbrev pub EndsWith : Shown → OutItem → ℕ → Shown → Type 0
 EndsWith before item code after = (after.is_live ≡ false)
-    × (((after.given ≡ before.given ++ item ∷ []) × (after.code ≡ Some code)) ⊎ ((after.given ≡ before.given) × (after.code ≡ None)))
+    × (((after.given ≡ before.given ++ item ∷ []) × (after.code ≡ Some code))
+    ⊎ ((after.given ≡ before.given) × (after.code ≡ None)))
 
 -- nothing more is given
 abbrev pub Leaves : Shown → Shown → Type 0
-Leaves before after = (after.is_live ≡ false) × (after.given ≡ before.given) × (after.code ≡ before.code)
+Leaves before after =
+    (after.is_live ≡ false) × (after.given ≡ before.given) × (after.code ≡ before.code)
 
 -- ---- steps
 
 -- the head, the deadline and whether it has come don't change
 abbrev pub SameCall : Call → Call → Type 0
-SameCall old new = (new.head ≡ old.head) × (new.deadline ≡ old.deadline) × (new.overdue ≡ old.overdue)
+SameCall old new =
+    (new.head ≡ old.head) × (new.deadline ≡ old.deadline) × (new.overdue ≡ old.overdue)
 
 -- the reply is the next
 abbrev pub IsDueReply : Reply → Call → Type 0
@@ -123,9 +161,13 @@ trailers_of false head status = response_fields [] ++ trailing_fields head statu
 
 abbrev pub HasTrailers : Bool → CallHead → Option Ending → List Field → ℕ → Type 0
 HasTrailers has_head head None fields code = ⊥
-HasTrailers has_head head (Some way) fields code = (fields ≡ trailers_of has_head head (ends_with way)) × (code ≡ status_number (ends_with way).code)
+HasTrailers has_head head (Some way) fields code =
+    (fields ≡ trailers_of has_head head (ends_with way))
+    × (code ≡ status_number (ends_with way).code)
 
 -- the deadline of a call that was opened at this moment; a number over the greatest `u128` counts
 -- as that
 abbrev pub deadline_of : Option ℕ → ℕ → Option ℕ
-deadline_of timeout opened = option_map (λ nanoseconds. min (nanoseconds + opened) 340282366920938463463374607431768211455) timeout
+deadline_of timeout opened =
+    option_map (λ nanoseconds.
+    min (nanoseconds + opened) 340282366920938463463374607431768211455) timeout

@@ -9,7 +9,16 @@ use Rattle.grpc_status.specs.declared.StatusCode.TheVariants as code
 use Rattle.handlers.specs.declared.status.Status.{Status}
 use Rattle.handlers.specs.Statuses.{status}
 use Rattle.callrun.specs.declared.cause.Cause.{Cause}
-use Rattle.callrun.specs.declared.cause.Cause.TheVariants.{Cancelled, DeadlineExceeded, MessageTooLong, OutOfMemory, UnsupportedEncoding, CompressedWithoutEncoding, BadFlag, CutAtEnd}
+use Rattle.callrun.specs.declared.cause.Cause.TheVariants.{
+  Cancelled,
+  DeadlineExceeded,
+  MessageTooLong,
+  OutOfMemory,
+  UnsupportedEncoding,
+  CompressedWithoutEncoding,
+  BadFlag,
+  CutAtEnd,
+}
 
 abbrev pub status_of : Cause → Status
 status_of Cancelled = status code.Cancelled (codes "cancelled")

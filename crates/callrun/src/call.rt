@@ -1,6 +1,23 @@
 //! The state of a call beside its ends, and how its response is given.
 
-ghost use Rattle.std.specs.Prelude.{◌≡◌, ◌≢◌, ◌≤◌, ◌∷◌, ◌⊎◌, [], ℕ, List, true, false, None, Some, IsSomeAnd, IfOk, Bool, Option};
+ghost use Rattle.std.specs.Prelude.{
+  ◌≡◌,
+  ◌≢◌,
+  ◌≤◌,
+  ◌∷◌,
+  ◌⊎◌,
+  [],
+  ℕ,
+  List,
+  true,
+  false,
+  None,
+  Some,
+  IsSomeAnd,
+  IfOk,
+  Bool,
+  Option,
+};
 ghost use Rattle.callbox.specs.InSides.{Tells, grown};
 ghost use Rattle.account.specs.declared.call.OutItem.{OutItem as Item};
 ghost use Rattle.account.specs.declared.call.Told.{Told as ToldOf};
@@ -48,8 +65,30 @@ impl Call {
     ghost use Rattle.callrun.specs.declared.call.Turn.TheVariants as turn;
     ghost use Rattle.callrun.specs.declared.giving.Refused.TheVariants as refused_kind;
     ghost use Rattle.callrun.specs.Handlings.{HeadIsDue, IsReady, lacks_memory};
-    ghost use Rattle.callrun.specs.Runs.{GivesOne, HasCome, HasRun, RunsOn, RunsOut, SameCall, IsDueReply, IsEnding, HasTrailers, ends_short};
-    ghost use Rattle.callrun.specs.Sides.{HasNoRoom, IsOpenTo, Shown, given_over, is_gone, is_left, is_open, lane_of, left, shown};
+    ghost use Rattle.callrun.specs.Runs.{
+      GivesOne,
+      HasCome,
+      HasRun,
+      RunsOn,
+      RunsOut,
+      SameCall,
+      IsDueReply,
+      IsEnding,
+      HasTrailers,
+      ends_short,
+    };
+    ghost use Rattle.callrun.specs.Sides.{
+      HasNoRoom,
+      IsOpenTo,
+      Shown,
+      given_over,
+      is_gone,
+      is_left,
+      is_open,
+      lane_of,
+      left,
+      shown,
+    };
 
     /// Ends the call if the deadline has come.
     pub(crate) fn look_at(&mut self, now: u64)

@@ -1,6 +1,30 @@
 //! One call as a state machine.
 
-ghost use Rattle.std.specs.Prelude.{Bool, ◌≡◌, ◌<◌, ◌≤◌, ◌+◌, ◌-◌, ◌++◌, ◌⊎◌, ◌↔◌, [], false, true, None, Some, length, List, ℕ, min, IfSome, IsSome, IsSomeAnd, IsTrue, slice_get};
+ghost use Rattle.std.specs.Prelude.{
+  Bool,
+  ◌≡◌,
+  ◌<◌,
+  ◌≤◌,
+  ◌+◌,
+  ◌-◌,
+  ◌++◌,
+  ◌⊎◌,
+  ◌↔◌,
+  [],
+  false,
+  true,
+  None,
+  Some,
+  length,
+  List,
+  ℕ,
+  min,
+  IfSome,
+  IsSome,
+  IsSomeAnd,
+  IsTrue,
+  slice_get,
+};
 ghost use Rattle.std.specs.Option.{option_map};
 ghost use Rattle.lane.specs.End.{of_end};
 ghost use Rattle.lpm.specs.Messages.{IsUnfinished};
@@ -10,8 +34,28 @@ ghost use Rattle.handlers.specs.Listed.{listed};
 ghost use Rattle.callrun.specs.declared.call.Turn.TheVariants as turn;
 ghost use Rattle.callrun.specs.Outcomes.{IsOutcome};
 ghost use Rattle.callrun.specs.Handlings.{IsReady, lacks_memory};
-ghost use Rattle.callrun.specs.Runs.{GivesOf, GivesOne, HasCome, HasRun, Leaves, MayTake, RunsOut, SameCall, TakesAhead, TakesOne, deadline_of};
-ghost use Rattle.callrun.specs.Sides.{HasNoRoom, given_over, is_gone, is_left, is_open, is_shut, lane_of};
+ghost use Rattle.callrun.specs.Runs.{
+  GivesOf,
+  GivesOne,
+  HasCome,
+  HasRun,
+  Leaves,
+  MayTake,
+  RunsOut,
+  SameCall,
+  TakesAhead,
+  TakesOne,
+  deadline_of,
+};
+ghost use Rattle.callrun.specs.Sides.{
+  HasNoRoom,
+  given_over,
+  is_gone,
+  is_left,
+  is_open,
+  is_shut,
+  lane_of,
+};
 
 use crate::call::{Call, Turn};
 use crate::handling::Handling;

@@ -3,7 +3,19 @@
 //! The bytes of an item are made only where there is room for it, so each is made once, and a turn
 //! that finds the lane full takes no memory.
 
-ghost use Rattle.std.specs.Prelude.{◌≡◌, ◌+◌, ◌≤◌, ◌<◌, [], true, length, IfErr, IfOk, OnOk, MatchResult};
+ghost use Rattle.std.specs.Prelude.{
+  ◌≡◌,
+  ◌+◌,
+  ◌≤◌,
+  ◌<◌,
+  [],
+  true,
+  length,
+  IfErr,
+  IfOk,
+  OnOk,
+  MatchResult,
+};
 ghost use Rattle.callbox.specs.OutSides.{has_head};
 ghost use Rattle.lpm.specs.Messages.{frame, IsFrame};
 ghost use Rattle.handlers.specs.Replies.{reply_bytes};

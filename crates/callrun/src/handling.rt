@@ -21,7 +21,14 @@ pub(crate) struct Handling {
 }
 
 impl Handling {
-    ghost use Rattle.callrun.specs.Handlings.{Accepts, Answers, EndsBy, IsReady, IsStanding, lacks_memory};
+    ghost use Rattle.callrun.specs.Handlings.{
+      Accepts,
+      Answers,
+      EndsBy,
+      IsReady,
+      IsStanding,
+      lacks_memory,
+    };
 
     /// No message was taken yet.
     pub(crate) fn new(alloc: Global, method: &dyn Method) -> Handling

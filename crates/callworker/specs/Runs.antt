@@ -1,5 +1,17 @@
 -- How a call goes on from turn to turn, over its two lanes.
-use Rattle.std.specs.Prelude.{◌≡◌, ◌⊎◌, ℕ, Bool, true, List, ◌++◌, Option, IfSome, IsSome, slice_get}
+use Rattle.std.specs.Prelude.{
+  ◌≡◌,
+  ◌⊎◌,
+  ℕ,
+  Bool,
+  true,
+  List,
+  ◌++◌,
+  Option,
+  IfSome,
+  IsSome,
+  slice_get,
+}
 use Rattle.lane.specs.contracts.ring_lane.RingLaneLane.TheImpl.{ghosts, no_dict}
 use Rattle.lane.specs.declared.ring_lane.RingLane.{RingLane}
 use Rattle.lane.specs.declared.ring_lane.RingLaneIn.{RingLaneIn}
@@ -42,13 +54,16 @@ giver_name response = name_by (λ g. in_name g.tx) (λ s. shut_name s.shut) resp
 
 -- Whatever messages led to the call before, those and the ones that were taken since lead to it
 -- after.
-abbrev pub LeadsOn : (List (List ℕ) → Bool → Step → Type 0) → (MethodState → List (List ℕ) → Step → Type 0)
+abbrev pub LeadsOn : (List (List ℕ) → Bool → Step → Type 0)
+    → (MethodState → List (List ℕ) → Step → Type 0)
     → LaneRun → LaneRun → Type 0
 LeadsOn answers stands before after = (messages : List (List ℕ))
     → Took (got before.taker.rx) before.taker.progress messages
-    → HasCome answers stands before.taker.progress.told messages before.call before.in_hand (shows before)
+    → HasCome answers stands before.taker.progress.told messages before.call
+    before.in_hand (shows before)
     → (more : List (List ℕ)) × Took (got after.taker.rx) after.taker.progress (messages ++ more)
-    × HasCome answers stands after.taker.progress.told (messages ++ more) after.call after.in_hand (shows after)
+    × HasCome answers stands after.taker.progress.told (messages ++ more) after.call
+    after.in_hand (shows after)
 
 -- a call leads on so, by the method that it names
 abbrev pub GoesOn : {A : Type 0} → (A → List (List ℕ) → Bool → Step → Type 0)
@@ -61,7 +76,8 @@ GoesOn answers stands methods before after =
 abbrev pub IsOneCall : LaneRun → LaneRun → Type 0
 IsOneCall before after = (out_name after.taker.rx ≡ out_name before.taker.rx)
     × (giver_name after.response ≡ giver_name before.response)
-    × (after.index ≡ before.index) × (after.call.head ≡ before.call.head) × (after.call.deadline ≡ before.call.deadline)
+    × (after.index ≡ before.index) × (after.call.head ≡ before.call.head)
+    × (after.call.deadline ≡ before.call.deadline)
     × (after.call.overdue ≡ true → (before.call.overdue ≡ true) ⊎ IsSome before.call.deadline)
 
 -- What was given is an outcome of whatever answer led to the call, maybe with a status, and after

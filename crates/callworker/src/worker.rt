@@ -11,7 +11,14 @@ ghost use Rattle.rtrb.specs.Ring.{received, sent};
 ghost use Rattle.handlers.specs.Listed.{listed};
 ghost use Rattle.callrun.specs.declared.call.Turn.TheVariants as turn;
 ghost use Rattle.callrun.specs.Sides.{is_open};
-ghost use Rattle.callparts.specs.Workers.{Answers, AnswersAt, IsFreshWork, IsGivenAs, IsKnown, answers_by};
+ghost use Rattle.callparts.specs.Workers.{
+  Answers,
+  AnswersAt,
+  IsFreshWork,
+  IsGivenAs,
+  IsKnown,
+  answers_by,
+};
 ghost use Rattle.callworker.specs.Runs.{EndsAs, GoesOn, IsOneCall, giver_name};
 ghost use Rattle.callworker.specs.Works.{HasHandedBack, IsUnused};
 
@@ -404,8 +411,9 @@ impl<A: Ledger, B: Ledger, C: Ledger, G: Gate + Drop> Worker<A, B, C, G> {
     }
 }
 
-/// How many nanoseconds there were since the start; the greatest number where the clock doesn't tell, or
-/// didn't tell the start. So without a start no deadline of a call comes, but that of a timeout of 0.
+/// How many nanoseconds there were since the start; the greatest number where the clock doesn't
+/// tell, or didn't tell the start. So without a start no deadline of a call comes, but that of a
+/// timeout of 0.
 pub fn moment(rt: &impl Clock, start: Option<Instant>) -> u64 {
     let Some(start) = start else {
         return u64::MAX;

@@ -1,8 +1,34 @@
 //! A connection of TCP whose sides sent bytes, as the records of a capture.
 
-ghost use Rattle.std.specs.Prelude.{◌≡◌, ◌+◌, ◌%◌, ◌^◌, ◌<◌, ◌≤◌, ◌++◌, List, [], length, take, drop, Some, IsNone, IfOk, OnErr};
+ghost use Rattle.std.specs.Prelude.{
+  ◌≡◌,
+  ◌+◌,
+  ◌%◌,
+  ◌^◌,
+  ◌<◌,
+  ◌≤◌,
+  ◌++◌,
+  List,
+  [],
+  length,
+  take,
+  drop,
+  Some,
+  IsNone,
+  IfOk,
+  OnErr,
+};
 ghost use Rattle.capture.specs.declared.packet.Packet.{Packet as PacketOf};
-ghost use Rattle.capture.specs.Conversations.{AreSent, advanced, back, closing, opened, opening, other_side, segment_of};
+ghost use Rattle.capture.specs.Conversations.{
+  AreSent,
+  advanced,
+  back,
+  closing,
+  opened,
+  opening,
+  other_side,
+  segment_of,
+};
 ghost use Rattle.capture.specs.Format.{AreRecords, IsRecord};
 ghost use Rattle.capture.specs.declared.conversation.Side.TheVariants as sides;
 

@@ -1,12 +1,39 @@
 //! Reading a capture.
 
-ghost use Rattle.std.specs.Prelude.{◌≡◌, ◌↔◌, ◌<◌, ◌^◌, ◌++◌, ◌⊎◌, ℕ, List, length, IfOk, IfErr, IfSome, IfNone, IsTrue, MatchResult};
+ghost use Rattle.std.specs.Prelude.{
+  ◌≡◌,
+  ◌↔◌,
+  ◌<◌,
+  ◌^◌,
+  ◌++◌,
+  ◌⊎◌,
+  ℕ,
+  List,
+  length,
+  IfOk,
+  IfErr,
+  IfSome,
+  IfNone,
+  IsTrue,
+  MatchResult,
+};
 ghost use Rattle.capture.specs.declared.packet.Hosts.{Hosts as HostsOf};
 ghost use Rattle.capture.specs.declared.reading.CaptureFault.TheVariants.{OutOfMemory};
 ghost use Rattle.capture.specs.declared.packet.Packet.{Packet as PacketOf};
 ghost use Rattle.capture.specs.declared.packet.SegmentHead.{SegmentHead as SegmentHeadOf};
 ghost use Rattle.capture.specs.Reading.{HasItsSize, StartsNone, StartsWith};
-ghost use Rattle.capture.specs.Format.{AreRecords, Carries, IsCapture, IsRecord, IsPacket, IsV4, IsV6, IsChecked, IsSegment, IsFileHead};
+ghost use Rattle.capture.specs.Format.{
+  AreRecords,
+  Carries,
+  IsCapture,
+  IsRecord,
+  IsPacket,
+  IsV4,
+  IsV6,
+  IsChecked,
+  IsSegment,
+  IsFileHead,
+};
 
 use crate::checksum::{is_all_ones, word_sum};
 use crate::fields::{be16_at, be32_at, le32_at, v4_address, v6_address};
@@ -232,7 +259,8 @@ fn packet_parts(packet: &[u8]) -> Option<(Hosts, &[u8])>
 fn v4_parts(packet: &[u8]) -> Option<(Hosts, &[u8])>
     ensures some { IfSome result (λ parts. IsPacket packet.now parts.0 parts.1.now) }
     ensures short { IfSome result (λ parts. length parts.1.now < 2 ^ 16) }
-    ensures none { IfNone result ((from to segment : List ℕ) → IsV4 packet.now from to segment → ⊥) }
+    ensures none { IfNone result
+        ((from to segment : List ℕ) → IsV4 packet.now from to segment → ⊥) }
 {
     if packet.len() < V4_HEAD || packet[0] != 0x45 || packet[9] != TCP {
         return None;
@@ -253,7 +281,8 @@ fn v4_parts(packet: &[u8]) -> Option<(Hosts, &[u8])>
 fn v6_parts(packet: &[u8]) -> Option<(Hosts, &[u8])>
     ensures some { IfSome result (λ parts. IsPacket packet.now parts.0 parts.1.now) }
     ensures short { IfSome result (λ parts. length parts.1.now < 2 ^ 16) }
-    ensures none { IfNone result ((from to segment : List ℕ) → IsV6 packet.now from to segment → ⊥) }
+    ensures none { IfNone result
+        ((from to segment : List ℕ) → IsV6 packet.now from to segment → ⊥) }
 {
     if packet.len() < V6_HEAD || packet[0] / 16 != 6 || packet[6] != TCP {
         return None;

@@ -2,7 +2,15 @@
 
 ghost use Rattle.std.specs.Prelude.{◌≡◌, ◌+◌, ◌<◌, ◌≤◌, ◌^◌, ◌++◌, length, IfOk};
 ghost use Rattle.capture.specs.Checksum.{pseudo_sum};
-ghost use Rattle.capture.specs.Format.{IsFileHead, IsRecord, IsPacket, IsV4, IsV6, IsSegment, IsChecked};
+ghost use Rattle.capture.specs.Format.{
+  IsFileHead,
+  IsRecord,
+  IsPacket,
+  IsV4,
+  IsV6,
+  IsSegment,
+  IsChecked,
+};
 ghost use Rattle.capture.specs.Writing.{segment_head, v4_head, v6_head, record_head};
 
 use crate::checksum::{checksum, word_sum};

@@ -6,7 +6,13 @@ use Rattle.h2frame.specs.declared.kind.FrameKind.{FrameKind}
 use Rattle.h2frame.specs.declared.kind.FrameKind.TheVariants.{Data, Headers, RstStream}
 use Rattle.h2frame.specs.Flags.{has, end_stream}
 use Rattle.cases.specs.declared.response.Phase.{Phase}
-use Rattle.cases.specs.declared.response.Phase.TheVariants.{Waiting, Answering, Ended, Reset, Cancelled}
+use Rattle.cases.specs.declared.response.Phase.TheVariants.{
+  Waiting,
+  Answering,
+  Ended,
+  Reset,
+  Cancelled,
+}
 
 -- by the frame's type, and whether it has END_STREAM
 abbrev pub is_lawful_kind : Phase → FrameKind → Bool → Bool

@@ -9,7 +9,15 @@ ghost use Rattle.std.specs.List.{list_any};
 ghost use Rattle.callhead.specs.Fields.{first_of};
 ghost use Rattle.callhead.specs.Heads.{IsGrpc};
 ghost use Rattle.callhead.specs.MalformedHeads.{is_pseudo_header};
-ghost use Rattle.cases.specs.ResponseFields.{is_specific, is_malformed_field, is_unknown, has_one_status, is_malformed_head, are_malformed_trailers, IsGrpcHead};
+ghost use Rattle.cases.specs.ResponseFields.{
+  is_specific,
+  is_malformed_field,
+  is_unknown,
+  has_one_status,
+  is_malformed_head,
+  are_malformed_trailers,
+  IsGrpcHead,
+};
 ghost use Rattle.cases.specs.declared.fields.ResponseHead.TheVariants.{Final};
 
 use crate::field_rules::{

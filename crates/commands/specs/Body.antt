@@ -14,7 +14,12 @@ use Rattle.device.specs.declared.whole.ReadFault.TheVariants as read_fault
 use Rattle.commands.specs.declared.text.HexFault.{HexFault}
 use Rattle.commands.specs.declared.text.HexFault.TheVariants as hex_fault
 use Rattle.commands.specs.declared.body.RunFault.{RunFault}
-use Rattle.commands.specs.declared.body.RunFault.TheVariants.{NotHex, OutOfMemory, ReadFailed, WriteFailed}
+use Rattle.commands.specs.declared.body.RunFault.TheVariants.{
+  NotHex,
+  OutOfMemory,
+  ReadFailed,
+  WriteFailed,
+}
 
 -- a call must not end inside a message
 abbrev pub fault_of_rest : List ℕ → Option LpmFault
@@ -40,15 +45,19 @@ ReadsText input rest text = Consumes input rest text × IsAtEnd rest
 -- all was read, and the report on it was written
 abbrev pub Reports : Option (List ℕ) → Option (List ℕ) → Option (List ℕ) → Option (List ℕ) → Type 0
 Reports input rest before after =
-    (text : List ℕ) × (printed : List ℕ) × ReadsText input rest text × Prints text printed × Appends before after printed
+    (text : List ℕ) × (printed : List ℕ) × ReadsText input rest text × Prints text printed
+    × Appends before after printed
 
 -- what a run that failed has read and written: what remained of the input, and what the output had,
 -- before and after
-abbrev pub Leaves : RunFault → Option (List ℕ) → Option (List ℕ) → Option (List ℕ) → Option (List ℕ) → Type 0
-Leaves NotHex input rest before after = (text : List ℕ) × ReadsText input rest text × IsNotHex text × Keeps before after
+abbrev pub Leaves : RunFault → Option (List ℕ) → Option (List ℕ) → Option (List ℕ)
+    → Option (List ℕ) → Type 0
+Leaves NotHex input rest before after =
+    (text : List ℕ) × ReadsText input rest text × IsNotHex text × Keeps before after
 Leaves ReadFailed input rest before after = ConsumesSome input rest × Keeps before after
 Leaves WriteFailed input rest before after =
-    (text : List ℕ) × (printed : List ℕ) × ReadsText input rest text × Prints text printed × AppendsPrefix before after printed
+    (text : List ℕ) × (printed : List ℕ) × ReadsText input rest text × Prints text printed
+    × AppendsPrefix before after printed
 Leaves OutOfMemory input rest before after = ConsumesSome input rest × Keeps before after
 
 -- the marks of failure of reader and writer, before and after: each is set by its own fault alone

@@ -20,9 +20,11 @@ IsTextOf (Report line) text = text ≡ string_bytes line
 
 -- the text has the first of these batches, without the others, each once and whole, in order
 abbrev pub TellsUpTo : List Batch → List Batch → List ℕ → Type 0
-TellsUpTo batches behind text = (told : List Batch) × (texts : List (List ℕ)) × (batches ≡ told ++ behind)
+TellsUpTo batches behind text =
+    (told : List Batch) × (texts : List (List ℕ)) × (batches ≡ told ++ behind)
     × AllZip (λ batch. IsTextOf batch.told) told texts × (text ≡ concat texts)
 
 -- the text has the first of the batches, and the others have this many lines
 abbrev pub TellsFirst : List Batch → List ℕ → ℕ → Type 0
-TellsFirst batches text lost = (behind : List Batch) × TellsUpTo batches behind text × (lost ≡ lines_of behind)
+TellsFirst batches text lost =
+    (behind : List Batch) × TellsUpTo batches behind text × (lost ≡ lines_of behind)

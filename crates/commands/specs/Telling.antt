@@ -5,7 +5,8 @@ use Rattle.commands.specs.Report.{message_lines}
 use Rattle.commands.specs.declared.body.Telling.{Telling}
 
 -- these messages were printed, each by its line, and what is left waits
-pub record HasToldThose (messages : List (List ℕ)) (bytes : List ℕ) (telling : Telling) : Type 0 where
+pub record HasToldThose (messages : List (List ℕ)) (bytes : List ℕ)
+    (telling : Telling) : Type 0 where
   pub each : All IsMessage messages
   pub whole : bytes ≡ frames messages ++ telling.splitter
   pub text : telling.text.items ≡ message_lines 0 messages
@@ -18,4 +19,5 @@ HasTold bytes telling = (messages : List (List ℕ)) × HasToldThose messages by
 -- all whole messages were printed, and the fault is the one after them
 abbrev pub HasToldAll : List ℕ → Telling → Type 0
 HasToldAll bytes telling = (messages : List (List ℕ)) × HasToldThose messages bytes telling
-    × MatchOption telling.fault (Spells bytes messages telling.splitter) (IsFaultyAfter bytes messages)
+    × MatchOption telling.fault (Spells bytes messages telling.splitter)
+    (IsFaultyAfter bytes messages)

@@ -4,7 +4,15 @@
 //! becomes its line once it is whole, so that little more is held than the report.
 ghost use Rattle.std.specs.Prelude.{◌≡◌, ℕ, ◌<◌, List, [], ◌++◌, IfOk, IfErr, OnOk};
 ghost use Rattle.commands.specs.declared.body.RunFault.TheVariants.{OutOfMemory, WriteFailed};
-ghost use Rattle.commands.specs.Body.{Leaves, Marks, Reports, fault_at_end, fault_of_read, fault_of_text, report_of};
+ghost use Rattle.commands.specs.Body.{
+  Leaves,
+  Marks,
+  Reports,
+  fault_at_end,
+  fault_of_read,
+  fault_of_text,
+  report_of,
+};
 
 use crate::report::{push_ending, push_message};
 use crate::text::{HexFault, bytes_of};

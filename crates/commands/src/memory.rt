@@ -233,7 +233,8 @@ impl<R: Wait + Clock> MemoryInput<R> {
         head_of(self.bytes.get(self.free..)?)
     }
 
-    /// Whether these DATA have credit on the connection and on their stream, now or within some milliseconds.
+    /// Whether these DATA have credit on the connection and on their stream, now or within some
+    /// milliseconds.
     fn gets_credit(&self, head: Head, limit: u64) -> bool {
         let begun = Instant::now(&self.rt).ok();
         for _ in 0..u64::MAX {

@@ -2,7 +2,14 @@
 use Rattle.std.specs.Prelude.{◌≡◌, true, [], refl}
 use Rattle.flow.specs.Books.{new_book, after_admit, after_end_local}
 use Rattle.connbook.specs.declared.answers.Receipt.TheVariants.{Feed, Discard, CallWindow, Overrun}
-use Rattle.connbook.specs.Receipts.{receipt_of, after_receipt, after_admission, credit_of, after_credit, after_stop}
+use Rattle.connbook.specs.Receipts.{
+  receipt_of,
+  after_receipt,
+  after_admission,
+  credit_of,
+  after_credit,
+  after_stop,
+}
 
 -- DATA of 10 bytes, 3 of them padding, on a live call: 7 are left to return
 pub feeds : receipt_of (after_admit new_book 1) 1 10 ≡ Feed
@@ -25,8 +32,12 @@ overruns = refl
 -- A call that isn't live opened the connection's window again, and the window of call 1 is used up:
 -- one more byte is past it, and counts on the connection.
 pub past_the_call :
-    let b = after_credit (after_receipt (after_receipt (after_admit new_book 1) 1 65535 0 Feed) 3 0 0 Discard) 0 in
-    receipt_of (record b { connection = record b.connection { returned = 65535; announced = 65535 } }) 1 1 ≡ CallWindow
+    let b =
+    after_credit (after_receipt (after_receipt (after_admit new_book 1) 1 65535 0 Feed)
+    3 0 0 Discard) 0 in
+    receipt_of (record b {
+      connection = record b.connection { returned = 65535; announced = 65535 };
+    }) 1 1 ≡ CallWindow
 past_the_call = refl
 
 -- nothing is due while the peer may send more than was returned; half of the window is due

@@ -1,25 +1,63 @@
 -- What the functions of a shared credit book answer, and how they change it (RFC 9113, sections 5.2
 -- and 6.9).
-use Rattle.std.specs.Prelude.{◌≡◌, ℕ, ◌<◌, ◌≤◌, Bool, true, false, if◌then◌else◌, [], Result, Ok, Err, nat_le, nat_lt, length}
+use Rattle.std.specs.Prelude.{
+  ◌≡◌,
+  ℕ,
+  ◌<◌,
+  ◌≤◌,
+  Bool,
+  true,
+  false,
+  if◌then◌else◌,
+  [],
+  Result,
+  Ok,
+  Err,
+  nat_le,
+  nat_lt,
+  length,
+}
 use Rattle.std.specs.Option.{option_map_or}
 use Rattle.flow.specs.declared.TheConstants.{MAX_LIVE}
 use Rattle.flow.specs.declared.book.Call.{Call}
-use Rattle.flow.specs.Books.{Books, IsOdd, call_at, window_of, announcement, with_received, with_returned, unreturned_of, after_admit, after_receive, after_give_back, after_announce, after_cut}
+use Rattle.flow.specs.Books.{
+  Books,
+  IsOdd,
+  call_at,
+  window_of,
+  announcement,
+  with_received,
+  with_returned,
+  unreturned_of,
+  after_admit,
+  after_receive,
+  after_give_back,
+  after_announce,
+  after_cut,
+}
 use Rattle.connbook.specs.declared.answers.Receipt.{Receipt}
 use Rattle.connbook.specs.declared.answers.Receipt.TheVariants.{Feed, Discard, CallWindow, Overrun}
 use Rattle.connbook.specs.declared.answers.AdmitFault.{AdmitFault}
-use Rattle.connbook.specs.declared.answers.AdmitFault.TheVariants.{NotNew, Draining, TooMany, OutOfMemory}
+use Rattle.connbook.specs.declared.answers.AdmitFault.TheVariants.{
+  NotNew,
+  Draining,
+  TooMany,
+  OutOfMemory,
+}
 
 -- ---- DATA that come
 
 -- n bytes on a live call: past its window, taken by no one, or to be fed
 abbrev pub receipt_on : Books → ℕ → ℕ → Call → Receipt
-receipt_on b id n call = if nat_lt (window_of b id) n then CallWindow else if call.marks.local then Discard else Feed
+receipt_on b id n call =
+    if nat_lt (window_of b id) n then CallWindow else if call.marks.local then Discard else Feed
 
 -- The receipt of n bytes on an id. The connection's window is tested before the call's. Bytes of no
 -- live call are taken by no one.
 abbrev pub receipt_of : Books → ℕ → ℕ → Receipt
-receipt_of b id n = if nat_lt (window_of b 0) n then Overrun else option_map_or (receipt_on b id n) (call_at b id) Discard
+receipt_of b id n =
+    if nat_lt (window_of b 0) n then Overrun
+    else option_map_or (receipt_on b id n) (call_at b id) Discard
 
 -- n bytes came on the connection alone, and are returned at once
 abbrev pub after_loose : Books → ℕ → Books
@@ -30,7 +68,8 @@ after_loose b n = record b { connection = with_received b.connection n true }
 -- what is past the connection's window counts nowhere.
 abbrev pub after_receipt : Books → ℕ → ℕ → ℕ → Receipt → Books
 after_receipt b id n padding Feed = after_give_back (after_receive b id n) id padding
-after_receipt b id n padding Discard = option_map_or (λ call. after_receive b id n) (call_at b id) (after_loose b n)
+after_receipt b id n padding Discard =
+    option_map_or (λ call. after_receive b id n) (call_at b id) (after_loose b n)
 after_receipt b id n padding CallWindow = after_loose b n
 after_receipt b id n padding Overrun = b
 
@@ -81,4 +120,5 @@ after_credit b id = if is_credit_due b id then after_announce b id else b
 
 -- no call is live any more, and what they hadn't returned is returned
 abbrev pub after_stop : Books → Books
-after_stop b = record b { connection = with_returned b.connection (unreturned_of b.calls); calls = [] }
+after_stop b =
+    record b { connection = with_returned b.connection (unreturned_of b.calls); calls = [] }

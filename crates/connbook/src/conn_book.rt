@@ -1,9 +1,46 @@
 //! The value under the lock of a connection.
 
-ghost use Rattle.std.specs.Prelude.{◌≡◌, ◌≢◌, ℕ, ◌+◌, ◌<◌, ◌≤◌, true, false, length, slice_get, nat_eq, if◌then◌else◌, IsSome, IsTrue, ◌↔◌, OnOk, OnErr};
+ghost use Rattle.std.specs.Prelude.{
+  ◌≡◌,
+  ◌≢◌,
+  ℕ,
+  ◌+◌,
+  ◌<◌,
+  ◌≤◌,
+  true,
+  false,
+  length,
+  slice_get,
+  nat_eq,
+  if◌then◌else◌,
+  IsSome,
+  IsTrue,
+  ◌↔◌,
+  OnOk,
+  OnErr,
+};
 ghost use Rattle.std.specs.Map.{keys_of};
-ghost use Rattle.flow.specs.Books.{new_book, call_at, Meets, GiveBackCause, after_give_back, after_cut, after_end_remote, after_end_local};
-ghost use Rattle.connbook.specs.Receipts.{receipt_of, after_receipt, counted_of, Admits, after_admission, credit_of, is_credit_due, after_credit, after_stop};
+ghost use Rattle.flow.specs.Books.{
+  new_book,
+  call_at,
+  Meets,
+  GiveBackCause,
+  after_give_back,
+  after_cut,
+  after_end_remote,
+  after_end_local,
+};
+ghost use Rattle.connbook.specs.Receipts.{
+  receipt_of,
+  after_receipt,
+  counted_of,
+  Admits,
+  after_admission,
+  credit_of,
+  is_credit_due,
+  after_credit,
+  after_stop,
+};
 ghost use Rattle.connbook.specs.Ledgers.{IsKept};
 ghost use Rattle.connbook.specs.declared.answers.Receipt.TheVariants as receipt;
 ghost use Rattle.connbook.specs.declared.answers.AdmitFault.TheVariants as refused;

@@ -1,9 +1,39 @@
 //! The steps on the credit book alone. Each works whatever is live, and says how it changes the
 //! numbers that ledgers count.
 
-ghost use Rattle.std.specs.Prelude.{◌≡◌, ◌+◌, ◌≤◌, length, nat_eq, if◌then◌else◌, IsSome, MatchOption, OnOk, OnErr};
-ghost use Rattle.flow.specs.Books.{IsLawful, call_at, window_of, after_receive, after_give_back, after_admit, after_cut, after_end_remote, after_end_local};
-ghost use Rattle.connbook.specs.Receipts.{receipt_of, after_receipt, after_loose, counted_of, Admits, credit_of, after_credit, after_stop};
+ghost use Rattle.std.specs.Prelude.{
+  ◌≡◌,
+  ◌+◌,
+  ◌≤◌,
+  length,
+  nat_eq,
+  if◌then◌else◌,
+  IsSome,
+  MatchOption,
+  OnOk,
+  OnErr,
+};
+ghost use Rattle.flow.specs.Books.{
+  IsLawful,
+  call_at,
+  window_of,
+  after_receive,
+  after_give_back,
+  after_admit,
+  after_cut,
+  after_end_remote,
+  after_end_local,
+};
+ghost use Rattle.connbook.specs.Receipts.{
+  receipt_of,
+  after_receipt,
+  after_loose,
+  counted_of,
+  Admits,
+  credit_of,
+  after_credit,
+  after_stop,
+};
 ghost use Rattle.connbook.specs.Ledgers.{IsQuiet};
 
 use crate::answers::{AdmitFault, Receipt};

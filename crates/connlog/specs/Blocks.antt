@@ -1,5 +1,18 @@
 -- Header blocks that change no table (RFC 7541, sections 5.2, 6.1 and 6.2.2).
-use Rattle.std.specs.Prelude.{ℕ, ◌-◌, ◌%◌, ◌==◌, nat_lt, Bool, true, false, ◌&&◌, if◌then◌else◌, List, fold}
+use Rattle.std.specs.Prelude.{
+  ℕ,
+  ◌-◌,
+  ◌%◌,
+  ◌==◌,
+  nat_lt,
+  Bool,
+  true,
+  false,
+  ◌&&◌,
+  if◌then◌else◌,
+  List,
+  fold,
+}
 use Rattle.connlog.specs.declared.tables.Expected.{Expected}
 use Rattle.connlog.specs.declared.tables.Expected.TheVariants.{Field, Length, Value, Other}
 

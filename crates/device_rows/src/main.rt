@@ -1,4 +1,5 @@
-//! The server's connections over devices that fail, or that move little at a time, and over clocks that stand still, leap or can't be read.
+//! The server's connections over devices that fail, or that move little at a time, and over clocks
+//! that stand still, leap or can't be read.
 //!
 //! A line of standard input is a run: what the client sends, in hexadecimal digits, and then words
 //! (`plan` reads both). A run serves it by `serve_connection`, and prints what became of it, line

@@ -5,7 +5,13 @@
 
 ghost use Rattle.std.specs.Prelude.{◌≡◌, ◌||◌, is_some, true, IfSome};
 ghost use Rattle.std.specs.List.{find};
-ghost use Rattle.callhead.specs.MalformedHeads.{has_bad_name, has_bad_value, is_connection_specific, is_forbidden_in_names, is_forbidden_in_values};
+ghost use Rattle.callhead.specs.MalformedHeads.{
+  has_bad_name,
+  has_bad_value,
+  is_connection_specific,
+  is_forbidden_in_names,
+  is_forbidden_in_values,
+};
 ghost use Rattle.figures.specs.FieldRules.{breaks};
 
 use callhead::{
@@ -130,7 +136,7 @@ impl<'a> fmt::Display for BrokenRule<'a> {
             ),
             FieldRule::Late => write!(
                 f,
-                "the pseudo-header {name:?} came behind another field (RFC 9113, 8.3)"
+                "the pseudo-header {name:?} came after another field (RFC 9113, 8.3)"
             ),
             FieldRule::InTrailers => write!(
                 f,

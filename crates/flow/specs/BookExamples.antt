@@ -1,7 +1,21 @@
 -- A worked book, computed.
 use Rattle.std.proofs.Common.{◌≡◌, refl, None, lit<}
 use Rattle.flow.specs.declared.book.fault.BookFault.TheVariants.{CallWindow, ConnectionWindow}
-use Rattle.flow.specs.Books.{Books, new_book, after_admit, after_receive, after_give_back, after_announce, announcement, ReceiveCause, after_end_local, after_end_remote, after_cut, loose, call_at}
+use Rattle.flow.specs.Books.{
+  Books,
+  new_book,
+  after_admit,
+  after_receive,
+  after_give_back,
+  after_announce,
+  announcement,
+  ReceiveCause,
+  after_end_local,
+  after_end_remote,
+  after_cut,
+  loose,
+  call_at,
+}
 
 -- ten bytes came on call 1, whose local end is then marked, and seven more come
 abbrev pub ended_early : Books

@@ -1,6 +1,38 @@
 -- The credit book of a connection: flow control of what is received (RFC 9113, sections 5.2 and
 -- 6.9), on the connection and on each call that is live.
-use Rattle.std.specs.Prelude.{◌≡◌, ℕ, ◌+◌, ◌-◌, ◌%◌, ◌<◌, ◌≤◌, min, Bool, true, false, ◌&&◌, ◌||◌, IsTrue, if◌then◌else◌, List, [], ◌∷◌, ◌++◌, length, All, AllPairs, sum_by, Option, None, MatchOption, Result, Ok, Err, nat_eq, ◌⊎◌}
+use Rattle.std.specs.Prelude.{
+  ◌≡◌,
+  ℕ,
+  ◌+◌,
+  ◌-◌,
+  ◌%◌,
+  ◌<◌,
+  ◌≤◌,
+  min,
+  Bool,
+  true,
+  false,
+  ◌&&◌,
+  ◌||◌,
+  IsTrue,
+  if◌then◌else◌,
+  List,
+  [],
+  ◌∷◌,
+  ◌++◌,
+  length,
+  All,
+  AllPairs,
+  sum_by,
+  Option,
+  None,
+  MatchOption,
+  Result,
+  Ok,
+  Err,
+  nat_eq,
+  ◌⊎◌,
+}
 use Rattle.std.specs.Option.{option_map_or}
 use Rattle.std.specs.Map.{lookup, set_value, remove_entry, keys_of, values_of}
 use Rattle.flow.specs.declared.TheConstants.{INITIAL_WINDOW, MAX_LIVE, MAX_RECEIVED}
@@ -8,7 +40,15 @@ use Rattle.flow.specs.declared.book.counts.Counts.{Counts}
 use Rattle.flow.specs.declared.book.Call.{Call}
 use Rattle.flow.specs.declared.book.Marks.{Marks}
 use Rattle.flow.specs.declared.book.fault.BookFault.{BookFault}
-use Rattle.flow.specs.declared.book.fault.BookFault.TheVariants.{TooMany, Draining, CallWindow, ConnectionWindow, Overgiven, Unknown, OutOfMemory}
+use Rattle.flow.specs.declared.book.fault.BookFault.TheVariants.{
+  TooMany,
+  Draining,
+  CallWindow,
+  ConnectionWindow,
+  Overgiven,
+  Unknown,
+  OutOfMemory,
+}
 
 -- the numbers of the faults
 abbrev pub code_of : BookFault → ℕ
@@ -63,7 +103,8 @@ loose b = unreturned b.connection - unreturned_of b.calls
 
 -- n more bytes came, and are returned at once or not
 abbrev pub with_received : Counts → ℕ → Bool → Counts
-with_received c n at_once = record c { received = c.received + n; returned = if at_once then c.returned + n else c.returned }
+with_received c n at_once = record c
+    { received = c.received + n; returned = if at_once then c.returned + n else c.returned }
 
 -- n more bytes were returned
 abbrev pub with_returned : Counts → ℕ → Counts
@@ -99,7 +140,14 @@ pub record Change : Type 0 where
   pub closing : Bool
 
 abbrev pub no_change : Books → Change
-no_change b = record { received = 0; announced = 0; admitted = 0; over = 0; last = b.last; closing = b.closing }
+no_change b = record {
+  received = 0;
+  announced = 0;
+  admitted = 0;
+  over = 0;
+  last = b.last;
+  closing = b.closing;
+}
 
 -- this change leads from the old book to the new
 pub record Moves (change : Change) (old new : Books) : Type 0 where
@@ -115,18 +163,23 @@ pub record Moves (change : Change) (old new : Books) : Type 0 where
 -- won't be taken.
 abbrev pub after_receive_on : Books → ℕ → ℕ → Call → Books
 after_receive_on b id n call =
-    record (with_call b id (record call { counts = with_received call.counts n call.marks.local })) { connection = with_received b.connection n call.marks.local }
+    record (with_call b id (record call { counts = with_received call.counts n call.marks.local }))
+    { connection = with_received b.connection n call.marks.local }
 
 abbrev pub after_receive : Books → ℕ → ℕ → Books
-after_receive b id n = at_id b id (record b { connection = with_received b.connection n false }) (after_receive_on b id n)
+after_receive b id n =
+    at_id b id (record b { connection = with_received b.connection n false })
+    (after_receive_on b id n)
 
 -- n bytes were returned
 abbrev pub after_give_back_on : Books → ℕ → ℕ → Call → Books
 after_give_back_on b id n call =
-    record (with_call b id (record call { counts = with_returned call.counts n })) { connection = with_returned b.connection n }
+    record (with_call b id (record call { counts = with_returned call.counts n }))
+    { connection = with_returned b.connection n }
 
 abbrev pub after_give_back : Books → ℕ → ℕ → Books
-after_give_back b id n = at_id b id (record b { connection = with_returned b.connection n }) (after_give_back_on b id n)
+after_give_back b id n =
+    at_id b id (record b { connection = with_returned b.connection n }) (after_give_back_on b id n)
 
 -- the call is live, and this end of it is marked
 abbrev pub is_marked : (Marks → Bool) → Books → ℕ → Bool
@@ -140,18 +193,24 @@ is_half_closed call = call.marks.remote || call.marks.local
 abbrev pub after_announce : Books → ℕ → Books
 after_announce b id =
     at_id b id (record b { connection = with_announced b.connection })
-    (λ call. if is_half_closed call then b else with_call b id (record call { counts = with_announced call.counts }))
+    (λ call.
+    if is_half_closed call then b
+    else with_call b id (record call { counts = with_announced call.counts }))
 
 -- how much of that wasn't announced yet: the increment of a WINDOW_UPDATE that is due (section 6.9)
 abbrev pub due_of : Call → ℕ
 due_of call = if is_half_closed call then 0 else unannounced call.counts
 
 abbrev pub announcement : Books → ℕ → ℕ
-announcement b id = if nat_eq id 0 then unannounced b.connection else option_map_or due_of (call_at b id) 0
+announcement b id =
+    if nat_eq id 0 then unannounced b.connection else option_map_or due_of (call_at b id) 0
 
 -- a call is no longer live: the rest of its bytes is returned on the connection
 abbrev pub after_cut_on : Books → ℕ → Call → Books
-after_cut_on b id call = record b { connection = with_returned b.connection (unreturned call.counts); calls = remove_entry (nat_eq id) b.calls }
+after_cut_on b id call = record b {
+  connection = with_returned b.connection (unreturned call.counts);
+  calls = remove_entry (nat_eq id) b.calls;
+}
 
 abbrev pub after_cut : Books → ℕ → Books
 after_cut b id = option_map_or (after_cut_on b id) (call_at b id) b
@@ -169,10 +228,14 @@ after_end_remote b id = option_map_or (after_end_remote_on b id) (call_at b id) 
 -- no longer live
 abbrev pub local_closed : Books → ℕ → Call → Books
 local_closed b id call =
-    record (with_call b id (record { counts = with_returned call.counts (unreturned call.counts); marks = record call.marks { local = true } })) { connection = with_returned b.connection (unreturned call.counts) }
+    record (with_call b id (record {
+      counts = with_returned call.counts (unreturned call.counts);
+      marks = record call.marks { local = true };
+    })) { connection = with_returned b.connection (unreturned call.counts) }
 
 abbrev pub after_end_local_on : Books → ℕ → Call → Books
-after_end_local_on b id call = if call.marks.remote then after_cut_on b id call else local_closed b id call
+after_end_local_on b id call =
+    if call.marks.remote then after_cut_on b id call else local_closed b id call
 
 abbrev pub after_end_local : Books → ℕ → Books
 after_end_local b id = option_map_or (after_end_local_on b id) (call_at b id) b
@@ -181,8 +244,10 @@ after_end_local b id = option_map_or (after_end_local_on b id) (call_at b id) b
 -- counted, and none on a call that isn't live
 abbrev pub window_of : Books → ℕ → ℕ
 window_of b id =
-    if nat_eq id 0 then min (INITIAL_WINDOW + b.connection.announced) MAX_RECEIVED - b.connection.received
-    else option_map_or (λ call. (INITIAL_WINDOW + call.counts.announced) - call.counts.received) (call_at b id) 0
+    if nat_eq id 0
+    then min (INITIAL_WINDOW + b.connection.announced) MAX_RECEIVED - b.connection.received
+    else option_map_or (λ call. (INITIAL_WINDOW + call.counts.announced) - call.counts.received)
+    (call_at b id) 0
 
 -- n more bytes are over what the peer may send (section 6.9.1)
 abbrev pub IsOver : Counts → ℕ → Type 0
@@ -205,8 +270,10 @@ AdmitCause b OutOfMemory = ⊥
 -- why bytes aren't received: they are over a window, or more than the connection can count
 abbrev pub ReceiveCause : Books → ℕ → ℕ → BookFault → Type 0
 ReceiveCause b id n Unknown = (0 < id) × (call_at b id ≡ None)
-ReceiveCause b id n CallWindow = (0 < id) × MatchOption (call_at b id) ⊥ (λ call. IsOver call.counts n)
-ReceiveCause b id n ConnectionWindow = min (INITIAL_WINDOW + b.connection.announced) MAX_RECEIVED < b.connection.received + n
+ReceiveCause b id n CallWindow =
+    (0 < id) × MatchOption (call_at b id) ⊥ (λ call. IsOver call.counts n)
+ReceiveCause b id n ConnectionWindow =
+    min (INITIAL_WINDOW + b.connection.announced) MAX_RECEIVED < b.connection.received + n
 ReceiveCause b id n TooMany = ⊥
 ReceiveCause b id n Draining = ⊥
 ReceiveCause b id n Overgiven = ⊥
@@ -216,7 +283,8 @@ ReceiveCause b id n OutOfMemory = ⊥
 abbrev pub GiveBackCause : Books → ℕ → ℕ → BookFault → Type 0
 GiveBackCause b id n Unknown = (0 < id) × (call_at b id ≡ None)
 GiveBackCause b id n Overgiven =
-    ((id ≡ 0) × (loose b < n)) ⊎ ((0 < id) × MatchOption (call_at b id) ⊥ (λ call. IsOvergiven call.counts n))
+    ((id ≡ 0) × (loose b < n))
+    ⊎ ((0 < id) × MatchOption (call_at b id) ⊥ (λ call. IsOvergiven call.counts n))
 GiveBackCause b id n TooMany = ⊥
 GiveBackCause b id n Draining = ⊥
 GiveBackCause b id n CallWindow = ⊥
@@ -245,7 +313,8 @@ place OutOfMemory = 3
 
 -- the fault has a cause, and no fault that is tested before it has one
 abbrev pub IsFirst : (BookFault → Type 0) → BookFault → Type 0
-IsFirst Cause fault = Cause fault × ((earlier : BookFault) → place earlier < place fault → ¬ Cause earlier)
+IsFirst Cause fault =
+    Cause fault × ((earlier : BookFault) → place earlier < place fault → ¬ Cause earlier)
 
 abbrev pub NoneStands : (BookFault → Type 0) → Type 0
 NoneStands Cause = (fault : BookFault) → ¬ Cause fault

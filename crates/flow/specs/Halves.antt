@@ -1,18 +1,51 @@
 -- The receiving halves of streams (RFC 9113, section 5.1): the verdict of a frame from the client,
 -- given all frames before it and the streams that the server reset.
-use Rattle.std.specs.Prelude.{ℕ, ◌%◌, ◌==◌, Bool, true, false, ◌&&◌, not, if◌then◌else◌, nat_eq, nat_lt, List, [], ◌∷◌, length, Option, Some, None, ◌≡◌, ◌<◌, ◌≤◌}
+use Rattle.std.specs.Prelude.{
+  ℕ,
+  ◌%◌,
+  ◌==◌,
+  Bool,
+  true,
+  false,
+  ◌&&◌,
+  not,
+  if◌then◌else◌,
+  nat_eq,
+  nat_lt,
+  List,
+  [],
+  ◌∷◌,
+  length,
+  Option,
+  Some,
+  None,
+  ◌≡◌,
+  ◌<◌,
+  ◌≤◌,
+}
 use Rattle.std.specs.List.{list_all, list_any}
 use Rattle.std.specs.Map.{lookup}
 use Rattle.h2frame.specs.declared.error_code.ErrorCode.TheVariants.{ProtocolError, StreamClosed}
 use Rattle.h2frame.specs.declared.frame.FrameHead.{FrameHead}
 use Rattle.h2frame.specs.declared.kind.FrameKind.{FrameKind}
-use Rattle.h2frame.specs.declared.kind.FrameKind.TheVariants.{Data, Headers, RstStream, WindowUpdate}
+use Rattle.h2frame.specs.declared.kind.FrameKind.TheVariants.{
+  Data,
+  Headers,
+  RstStream,
+  WindowUpdate,
+}
 use Rattle.h2frame.specs.Flags.{has, end_stream}
 use Rattle.flow.specs.declared.TheConstants.{MAX_STREAMS}
 use Rattle.flow.specs.declared.halves.Half.{Half}
 use Rattle.flow.specs.declared.halves.Half.TheVariants.{Opened, Ended, Reset}
 use Rattle.flow.specs.declared.halves.HalfVerdict.{HalfVerdict}
-use Rattle.flow.specs.declared.halves.HalfVerdict.TheVariants.{Open, Accept, Discard, StreamError, ConnectionError}
+use Rattle.flow.specs.declared.halves.HalfVerdict.TheVariants.{
+  Open,
+  Accept,
+  Discard,
+  StreamError,
+  ConnectionError,
+}
 
 -- a frame that the client sent, or the number of a stream that the server reset. A history has the
 -- latest event first.
@@ -50,13 +83,16 @@ is_headers _ = false
 -- HEADERS begin a stream whose number is odd, and greater than those of all streams that were begun
 -- (section 5.1.1), while these are fewer than 4,096
 abbrev pub begins : Event → List ℕ → Bool
-begins (Received head) ids = is_headers head.kind && (is_odd head.stream && (is_above ids head.stream && nat_lt (length ids) MAX_STREAMS))
+begins (Received head) ids =
+    is_headers head.kind
+    && (is_odd head.stream && (is_above ids head.stream && nat_lt (length ids) MAX_STREAMS))
 begins (Cut id) ids = false
 
 -- the streams that were begun, the latest first
 abbrev pub begun : List Event → List ℕ
 begun [] = []
-begun (event ∷ before) = if begins event (begun before) then stream_of event ∷ begun before else begun before
+begun (event ∷ before) =
+    if begins event (begun before) then stream_of event ∷ begun before else begun before
 
 -- the course of a stream: the events from the HEADERS on that began it, and those before them
 pub record Course : Type 0 where
@@ -64,14 +100,17 @@ pub record Course : Type 0 where
   pub before : List Event
 
 abbrev pub further : Event → List Event → Bool → Option Course → Option Course
-further event before beginning (Some course) = Some (record { since = event ∷ course.since; before = course.before })
+further event before beginning (Some course) =
+    Some (record { since = event ∷ course.since; before = course.before })
 further event before true None = Some (record { since = event ∷ []; before = before })
 further event before false None = None
 
 -- the course of a stream, if it was begun
 abbrev pub course : ℕ → List Event → Option Course
 course id [] = None
-course id (event ∷ before) = further event before (nat_eq id (stream_of event) && begins event (begun before)) (course id before)
+course id (event ∷ before) =
+    further event before (nat_eq id (stream_of event) && begins event (begun before))
+    (course id before)
 
 -- a client's half of a stream ends with DATA or HEADERS that have END_STREAM (section 5.1)
 abbrev pub is_last_of_kind : FrameKind → Bool → Bool
@@ -120,7 +159,9 @@ state id history = state_of id history (course id history)
 -- whatever comes on an odd one is dropped: its number is above that of the last stream that the
 -- server serves (section 6.8).
 abbrev pub on_idle : Bool → Bool → Bool → HalfVerdict
-on_idle odd headers few = if odd then (if few then (if headers then Open else ConnectionError ProtocolError) else Discard) else ConnectionError ProtocolError
+on_idle odd headers few =
+    if odd then (if few then (if headers then Open else ConnectionError ProtocolError) else Discard)
+    else ConnectionError ProtocolError
 
 -- on an open stream further HEADERS are trailers, which end it (section 8.1)
 abbrev pub on_opened : FrameKind → Bool → HalfVerdict
@@ -139,7 +180,8 @@ on_begun Ended head = on_ended head.kind
 on_begun Reset head = Discard
 
 abbrev pub judged : State → FrameHead → ℕ → HalfVerdict
-judged Idle head count = on_idle (is_odd head.stream) (is_headers head.kind) (nat_lt count MAX_STREAMS)
+judged Idle head count =
+    on_idle (is_odd head.stream) (is_headers head.kind) (nat_lt count MAX_STREAMS)
 judged Skipped head count = ConnectionError ProtocolError
 judged (Begun half) head count = on_begun half head
 

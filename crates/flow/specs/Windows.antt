@@ -1,11 +1,46 @@
 -- The windows of what is sent (RFC 9113, section 6.9): that of the connection, and one for each
 -- open stream.
-use Rattle.std.specs.Prelude.{◌≡◌, ℕ, ◌+◌, ◌<◌, ◌≤◌, ◌^◌, min, ℤ, pos, negsuc, ◌+ℤ◌, ◌≤ℤ◌, ◌<ℤ◌, List, [], ◌∷◌, ◌++◌, All, Option, Some, None, MatchOption, Result, Ok, Err, nat_eq, ◌⊎◌, is_some, false}
+use Rattle.std.specs.Prelude.{
+  ◌≡◌,
+  ℕ,
+  ◌+◌,
+  ◌<◌,
+  ◌≤◌,
+  ◌^◌,
+  min,
+  ℤ,
+  pos,
+  negsuc,
+  ◌+ℤ◌,
+  ◌≤ℤ◌,
+  ◌<ℤ◌,
+  List,
+  [],
+  ◌∷◌,
+  ◌++◌,
+  All,
+  Option,
+  Some,
+  None,
+  MatchOption,
+  Result,
+  Ok,
+  Err,
+  nat_eq,
+  ◌⊎◌,
+  is_some,
+  false,
+}
 use Rattle.std.specs.Option.{option_map}
 use Rattle.std.specs.Map.{lookup, set_value, remove_entry, values_of}
 use Rattle.flow.specs.declared.TheConstants.{MAX_WINDOW, INITIAL_WINDOW}
 use Rattle.flow.specs.declared.send_windows.WindowFault.{WindowFault}
-use Rattle.flow.specs.declared.send_windows.WindowFault.TheVariants.{Overflow, NoRoom, Unknown, OutOfMemory}
+use Rattle.flow.specs.declared.send_windows.WindowFault.TheVariants.{
+  Overflow,
+  NoRoom,
+  Unknown,
+  OutOfMemory,
+}
 
 -- the numbers of the faults
 abbrev pub code_of : WindowFault → ℕ
@@ -83,7 +118,8 @@ FitsAt w n = (n ≤ MAX_WINDOW) × All (λ b. Fits (pos n +ℤ b)) (values_of w.
 abbrev pub CreditFault : Windows → ℕ → ℕ → WindowFault → Type 0
 CreditFault w id n Unknown = (0 < id) × (window w id ≡ None)
 CreditFault w id n Overflow =
-    ((id ≡ 0) × (MAX_WINDOW < w.connection + n)) ⊎ ((0 < id) × MatchOption (window w id) ⊥ (λ size. pos MAX_WINDOW <ℤ (size +ℤ pos n)))
+    ((id ≡ 0) × (MAX_WINDOW < w.connection + n))
+    ⊎ ((0 < id) × MatchOption (window w id) ⊥ (λ size. pos MAX_WINDOW <ℤ (size +ℤ pos n)))
 CreditFault w id n NoRoom = ⊥
 CreditFault w id n OutOfMemory = ⊥
 

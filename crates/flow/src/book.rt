@@ -10,7 +10,18 @@
 //! are `u64`. A mark that is set twice changes nothing more. With the second end marked a call ends
 //! as one that is cut (`end_remote` and `end_local` call `cut`).
 
-ghost use Rattle.std.specs.Prelude.{◌≡◌, ◌<◌, ◌^◌, true, OnErr, OnOk, nat_eq, length, slice_get, if◌then◌else◌};
+ghost use Rattle.std.specs.Prelude.{
+  ◌≡◌,
+  ◌<◌,
+  ◌^◌,
+  true,
+  OnErr,
+  OnOk,
+  nat_eq,
+  length,
+  slice_get,
+  if◌then◌else◌,
+};
 ghost use Rattle.std.specs.Option.{option_map};
 ghost use Rattle.std.specs.Map.{keys_of};
 ghost use Rattle.flow.specs.Books.{call_at, unreturned_of};
@@ -116,7 +127,29 @@ impl Model for Book {
 }
 
 impl Book {
-    ghost use Rattle.flow.specs.Books.{new_book, IsLawful, IsOdd, MeetsOrMemory, Meets, AdmitCause, ReceiveCause, GiveBackCause, EndCause, after_admit, after_receive, after_give_back, after_announce, announcement, after_end_remote, after_end_local, after_cut, window_of, is_marked, no_change, Moves};
+    ghost use Rattle.flow.specs.Books.{
+      new_book,
+      IsLawful,
+      IsOdd,
+      MeetsOrMemory,
+      Meets,
+      AdmitCause,
+      ReceiveCause,
+      GiveBackCause,
+      EndCause,
+      after_admit,
+      after_receive,
+      after_give_back,
+      after_announce,
+      announcement,
+      after_end_remote,
+      after_end_local,
+      after_cut,
+      window_of,
+      is_marked,
+      no_change,
+      Moves,
+    };
 
     /// The book of a new connection, with no calls. It takes no memory yet.
     pub fn new(alloc: Global) -> Book

@@ -6,7 +6,22 @@
 //! each function gets the balance of its stream. `Follows` says of the whole table that the
 //! balances are what a history leaves.
 
-ghost use Rattle.std.specs.Prelude.{◌≡◌, ◌+◌, ◌-◌, ◌+ℤ◌, ◌-ℤ◌, ◌<◌, ◌≤◌, ◌<ℤ◌, int_le, min, pos, IfErr, OnErr, OnOk};
+ghost use Rattle.std.specs.Prelude.{
+  ◌≡◌,
+  ◌+◌,
+  ◌-◌,
+  ◌+ℤ◌,
+  ◌-ℤ◌,
+  ◌<◌,
+  ◌≤◌,
+  ◌<ℤ◌,
+  int_le,
+  min,
+  pos,
+  IfErr,
+  OnErr,
+  OnOk,
+};
 ghost use Rattle.flow.specs.declared.send_windows.WindowFault.TheVariants.{Overflow};
 ghost use Rattle.flow.specs.Windows.{Fits, AreLawful, lesser};
 

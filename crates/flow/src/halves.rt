@@ -10,10 +10,49 @@
 //! `cut` requires that the stream was begun. `on` says so for each answer that is neither Discard
 //! nor an error of the connection (clause `begun`).
 
-ghost use Rattle.std.specs.Prelude.{◌≡◌, ◌<◌, ◌≤◌, ◌⊎◌, true, false, ◌&&◌, length, nat_eq, nat_lt, List, [], ◌∷◌, None, Some, IfOk, OnErr, IsSome, IsTrue, MatchOption};
+ghost use Rattle.std.specs.Prelude.{
+  ◌≡◌,
+  ◌<◌,
+  ◌≤◌,
+  ◌⊎◌,
+  true,
+  false,
+  ◌&&◌,
+  length,
+  nat_eq,
+  nat_lt,
+  List,
+  [],
+  ◌∷◌,
+  None,
+  Some,
+  IfOk,
+  OnErr,
+  IsSome,
+  IsTrue,
+  MatchOption,
+};
 ghost use Rattle.std.specs.Map.{lookup, set_value};
 ghost use Rattle.flow.specs.declared.halves.HalfVerdict.TheVariants.{Open};
-ghost use Rattle.flow.specs.Halves.{Event, Received, Cut, IsJudged, Stands, begins, begun, ends, half_after, half_of, is_error, may_be_unbegun, is_headers, is_odd, half_of_new, on_begun, verdict};
+ghost use Rattle.flow.specs.Halves.{
+  Event,
+  Received,
+  Cut,
+  IsJudged,
+  Stands,
+  begins,
+  begun,
+  ends,
+  half_after,
+  half_of,
+  is_error,
+  may_be_unbegun,
+  is_headers,
+  is_odd,
+  half_of_new,
+  on_begun,
+  verdict,
+};
 
 use crate::MAX_STREAMS;
 use h2frame::{ErrorCode, Flags, FrameHead, FrameKind, StreamId};

@@ -4,13 +4,56 @@
 //! windows twice: by an equation on the numbers that are kept, and by the whole list of openings,
 //! credits, spendings, sizes and closings (`Follows`). `room` is defined by that list alone.
 
-ghost use Rattle.std.specs.Prelude.{◌≡◌, ◌+◌, ◌-◌, ◌+ℤ◌, ◌-ℤ◌, ◌<◌, min, pos, List, [], ◌∷◌, None, IfErr, OnErr, OnOk, is_some, MatchOption, nat_eq, int_le};
+ghost use Rattle.std.specs.Prelude.{
+  ◌≡◌,
+  ◌+◌,
+  ◌-◌,
+  ◌+ℤ◌,
+  ◌-ℤ◌,
+  ◌<◌,
+  min,
+  pos,
+  List,
+  [],
+  ◌∷◌,
+  None,
+  IfErr,
+  OnErr,
+  OnOk,
+  is_some,
+  MatchOption,
+  nat_eq,
+  int_le,
+};
 ghost use Rattle.std.specs.List.{list_all};
 ghost use Rattle.std.specs.Map.{values_of};
 ghost use Rattle.indexmap.specs.IndexMap.{IsUnique};
 ghost use Rattle.flow.specs.declared.send_windows.WindowFault.TheVariants.{Overflow, OutOfMemory};
-ghost use Rattle.flow.specs.Windows.{code_of, room, opened, with_balance, closed, balance, Meets, CreditFault, SpendFault, FitsAt, IsLawful};
-ghost use Rattle.flow.specs.WindowHistory.{Step, Opening, Credit, Spending, Resizing, Closing, Follows, CanCredit, CanResize, room_after};
+ghost use Rattle.flow.specs.Windows.{
+  code_of,
+  room,
+  opened,
+  with_balance,
+  closed,
+  balance,
+  Meets,
+  CreditFault,
+  SpendFault,
+  FitsAt,
+  IsLawful,
+};
+ghost use Rattle.flow.specs.WindowHistory.{
+  Step,
+  Opening,
+  Credit,
+  Spending,
+  Resizing,
+  Closing,
+  Follows,
+  CanCredit,
+  CanResize,
+  room_after,
+};
 
 use crate::{Balance, ConnectionWindow, MAX_WINDOW};
 use h2frame::StreamId;

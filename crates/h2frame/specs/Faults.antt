@@ -1,15 +1,54 @@
 -- Which frames are faulty, and what the first fault of each is (RFC 9113, section 6).
-use Rattle.std.specs.Prelude.{ℕ, ◌+◌, ◌^◌, ◌%◌, Bool, true, false, ◌==◌, nat_lt, nat_le, if◌then◌else◌, List, Option, Some, None}
+use Rattle.std.specs.Prelude.{
+  ℕ,
+  ◌+◌,
+  ◌^◌,
+  ◌%◌,
+  Bool,
+  true,
+  false,
+  ◌==◌,
+  nat_lt,
+  nat_le,
+  if◌then◌else◌,
+  List,
+  Option,
+  Some,
+  None,
+}
 use Rattle.std.specs.Option.{option_or}
 use Rattle.std.specs.Int.{w32, from_be_bytes}
 use Rattle.h2frame.specs.declared.error_code.ErrorCode.{ErrorCode}
-use Rattle.h2frame.specs.declared.error_code.ErrorCode.TheVariants.{ProtocolError, InternalError, FrameSizeError}
+use Rattle.h2frame.specs.declared.error_code.ErrorCode.TheVariants.{
+  ProtocolError,
+  InternalError,
+  FrameSizeError,
+}
 use Rattle.h2frame.specs.declared.fault.FrameFault.{FrameFault}
-use Rattle.h2frame.specs.declared.fault.FrameFault.TheVariants.{TooLong, BadLength, BadPadding, WrongStream, ZeroIncrement, OutOfMemory}
+use Rattle.h2frame.specs.declared.fault.FrameFault.TheVariants.{
+  TooLong,
+  BadLength,
+  BadPadding,
+  WrongStream,
+  ZeroIncrement,
+  OutOfMemory,
+}
 use Rattle.h2frame.specs.declared.frame.Frame.{Frame}
 use Rattle.h2frame.specs.declared.frame.FrameHead.{FrameHead}
 use Rattle.h2frame.specs.declared.kind.FrameKind.{FrameKind}
-use Rattle.h2frame.specs.declared.kind.FrameKind.TheVariants.{Data, Headers, Priority, RstStream, Settings, PushPromise, Ping, GoAway, WindowUpdate, Continuation, Unknown}
+use Rattle.h2frame.specs.declared.kind.FrameKind.TheVariants.{
+  Data,
+  Headers,
+  Priority,
+  RstStream,
+  Settings,
+  PushPromise,
+  Ping,
+  GoAway,
+  WindowUpdate,
+  Continuation,
+  Unknown,
+}
 use Rattle.h2frame.specs.Flags.{has, ack, is_padded, has_priority}
 
 -- SETTINGS_MAX_FRAME_SIZE as it is until SETTINGS change it (section 4.2)
@@ -41,7 +80,8 @@ may_have_length Data head = nat_le (overhead head) head.length
 may_have_length Headers head = nat_le (overhead head) head.length
 may_have_length Priority head = head.length == 5
 may_have_length RstStream head = head.length == 4
-may_have_length Settings head = if has ack head.flags then head.length == 0 else head.length % 6 == 0
+may_have_length Settings head =
+    if has ack head.flags then head.length == 0 else head.length % 6 == 0
 may_have_length PushPromise head = true
 may_have_length Ping head = head.length == 8
 may_have_length GoAway head = nat_le 8 head.length
@@ -68,7 +108,8 @@ lacks_increment _ content = false
 -- the first fault of a frame whose padding is as it should be
 abbrev pub frame_fault : Frame → Option FrameFault
 frame_fault frame = option_or (head_fault frame.head)
-    (if lacks_increment frame.head.kind frame.content then Some (ZeroIncrement frame.head.stream) else None)
+    (if lacks_increment frame.head.kind frame.content then Some (ZeroIncrement frame.head.stream)
+    else None)
 
 -- the error code of a fault (RFC 9113, sections 4.2 and 6)
 abbrev pub fault_error : FrameFault → ErrorCode

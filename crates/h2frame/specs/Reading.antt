@@ -1,5 +1,28 @@
 -- What is at the front of bytes, read from left to right: the private steps of the reader.
-use Rattle.std.specs.Prelude.{◌≡◌, ℕ, ◌++◌, ◌+◌, ◌-◌, ◌^◌, ◌%◌, nat_lt, if◌then◌else◌, List, [], ◌∷◌, length, take, drop, slice_index, Option, Some, None, Result, Ok, Err}
+use Rattle.std.specs.Prelude.{
+  ◌≡◌,
+  ℕ,
+  ◌++◌,
+  ◌+◌,
+  ◌-◌,
+  ◌^◌,
+  ◌%◌,
+  nat_lt,
+  if◌then◌else◌,
+  List,
+  [],
+  ◌∷◌,
+  length,
+  take,
+  drop,
+  slice_index,
+  Option,
+  Some,
+  None,
+  Result,
+  Ok,
+  Err,
+}
 use Rattle.std.specs.Int.{w32, from_be_bytes}
 use Rattle.h2frame.specs.declared.fault.FrameFault.{FrameFault}
 use Rattle.h2frame.specs.declared.fault.FrameFault.TheVariants.{BadPadding}
@@ -17,8 +40,12 @@ unfoldable pub head_at : List ℕ → FrameHead
 head_at bytes = record {
   kind = kind_of (slice_index bytes 3);
   flags = record { bits = slice_index bytes 4 };
-  stream = from_be_bytes w32 (slice_index bytes 5 ∷ slice_index bytes 6 ∷ slice_index bytes 7 ∷ slice_index bytes 8 ∷ []) % 2 ^ 31;
-  length = from_be_bytes w32 (0 ∷ slice_index bytes 0 ∷ slice_index bytes 1 ∷ slice_index bytes 2 ∷ []);
+  stream =
+      from_be_bytes w32 (slice_index bytes 5 ∷ slice_index bytes 6 ∷ slice_index bytes 7
+      ∷ slice_index bytes 8 ∷ [])
+      % 2 ^ 31;
+  length =
+      from_be_bytes w32 (0 ∷ slice_index bytes 0 ∷ slice_index bytes 1 ∷ slice_index bytes 2 ∷ []);
 }
 
 -- how many bytes of padding there are, by the byte after the head
@@ -29,15 +56,22 @@ padding_at head bytes = if is_padded head then slice_index bytes 9 else 0
 unfoldable pub content_at : FrameHead → List ℕ → Result Span FrameFault
 content_at head bytes =
     if nat_lt head.length (overhead head + padding_at head bytes) then Err BadPadding
-    else Ok (record { head = head; start = 9 + overhead head; len = head.length - (overhead head + padding_at head bytes) })
+    else Ok (record {
+      head = head;
+      start = 9 + overhead head;
+      len = head.length - (overhead head + padding_at head bytes);
+    })
 
 -- the fault; or, without one, this answer
-abbrev pub unless_faulty : Option FrameFault → Option (Result Span FrameFault) → Option (Result Span FrameFault)
+abbrev pub unless_faulty : Option FrameFault → Option (Result Span FrameFault)
+    → Option (Result Span FrameFault)
 unless_faulty (Some fault) other = Some (Err fault)
 unless_faulty None other = other
 
 unfoldable pub frame_at : FrameHead → List ℕ → Option (Result Span FrameFault)
-frame_at head bytes = unless_faulty (head_fault head) (if nat_lt (length bytes) (9 + head.length) then None else Some (content_at head bytes))
+frame_at head bytes =
+    unless_faulty (head_fault head)
+    (if nat_lt (length bytes) (9 + head.length) then None else Some (content_at head bytes))
 
 -- nothing yet, or where the frame at the front is, or a fault
 unfoldable pub span_at : List ℕ → Option (Result Span FrameFault)
@@ -49,7 +83,9 @@ frame_in span bytes = record { head = span.head; content = take span.len (drop s
 
 -- the bytes begin with a spelling of the frame that is in them
 abbrev pub IsSpelledAt : Span → List ℕ → Type 0
-IsSpelledAt span bytes = (skipped : Skipped) × Fits (frame_in span bytes) skipped × (head_fault span.head ≡ None) × (bytes ≡ spelling (frame_in span bytes) skipped ++ drop (9 + span.head.length) bytes)
+IsSpelledAt span bytes =
+    (skipped : Skipped) × Fits (frame_in span bytes) skipped × (head_fault span.head ≡ None)
+    × (bytes ≡ spelling (frame_in span bytes) skipped ++ drop (9 + span.head.length) bytes)
 
 -- what the answer says of the bytes
 abbrev pub IsFront : List ℕ → Option (Result Span FrameFault) → Type 0

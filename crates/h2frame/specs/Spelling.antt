@@ -1,5 +1,19 @@
 -- How frames are spelled (RFC 9113, sections 4.1, 6.1 and 6.2).
-use Rattle.std.specs.Prelude.{◌≡◌, ℕ, ◌+◌, ◌*◌, ◌^◌, ◌<◌, false, if◌then◌else◌, List, [], ◌∷◌, ◌++◌, length}
+use Rattle.std.specs.Prelude.{
+  ◌≡◌,
+  ℕ,
+  ◌+◌,
+  ◌*◌,
+  ◌^◌,
+  ◌<◌,
+  false,
+  if◌then◌else◌,
+  List,
+  [],
+  ◌∷◌,
+  ◌++◌,
+  length,
+}
 use Rattle.std.specs.Int.{bytes_high_first}
 use Rattle.h2frame.specs.declared.frame.Frame.{Frame}
 use Rattle.h2frame.specs.declared.frame.FrameHead.{FrameHead}
@@ -17,16 +31,20 @@ pub record Skipped : Type 0 where
 -- nine bytes: the payload's length in three, the type, the flags, and in four the reserved bit and
 -- the stream
 abbrev pub head_text : ℕ → FrameHead → List ℕ
-head_text reserved head = bytes_high_first 3 head.length ++ code_of head.kind ∷ head.flags.bits ∷ bytes_high_first 4 (reserved * 2 ^ 31 + head.stream)
+head_text reserved head =
+    bytes_high_first 3 head.length ++ code_of head.kind ∷ head.flags.bits
+    ∷ bytes_high_first 4 (reserved * 2 ^ 31 + head.stream)
 
 -- the content, after the padding's length and the priority if the flags have them, and before the
 -- padding
 abbrev pub payload_text : FrameHead → Skipped → List ℕ → List ℕ
 payload_text head skipped content =
-    (if is_padded head then length skipped.padding ∷ [] else []) ++ (skipped.priority ++ (content ++ skipped.padding))
+    (if is_padded head then length skipped.padding ∷ [] else [])
+    ++ (skipped.priority ++ (content ++ skipped.padding))
 
 abbrev pub spelling : Frame → Skipped → List ℕ
-spelling frame skipped = head_text skipped.reserved frame.head ++ payload_text frame.head skipped frame.content
+spelling frame skipped =
+    head_text skipped.reserved frame.head ++ payload_text frame.head skipped frame.content
 
 -- the numbers of a head are within their fields, and its type is that of its code
 pub record IsHead (head : FrameHead) : Type 0 where

@@ -2,7 +2,15 @@
 
 ghost use Rattle.std.specs.Prelude.{◌≡◌, ◌<◌, ◌≤◌, ◌^◌, length, IfNone};
 ghost use Rattle.h2frame.specs.Flags.{is_padded, has_priority};
-ghost use Rattle.h2frame.specs.Faults.{may_be_on, may_have_length, overhead, head_fault, frame_fault, increment_of, lacks_increment};
+ghost use Rattle.h2frame.specs.Faults.{
+  may_be_on,
+  may_have_length,
+  overhead,
+  head_fault,
+  frame_fault,
+  increment_of,
+  lacks_increment,
+};
 
 use crate::{Flags, FrameFault, FrameKind};
 use bytes::Bytes;

@@ -3,19 +3,58 @@
 //! The reader keeps no mark of a fault. The faulty bytes stay at the front, and each call judges
 //! them again, in constant time. What is fed after them isn't kept.
 //!
-//! `read_from` reads into the reader's own block, so that the contents of what was read aren't copied.
+//! `read_from` reads into the reader's own block, so that the contents of what was read aren't
+//! copied.
 //!
-//! A content shares the block that the reader's bytes stand in, and holds it as long as it is held itself. So one of
-//! few bytes is copied, into a small block that it shares with others of few bytes: what waits to be taken holds at most
-//! some hundred times its own bytes, and where all of them wait, little more than these.
+//! A content shares the block that the reader's bytes stand in, and holds it as long as it is held
+//! itself. So one of few bytes is copied, into a small block that it shares with others of few
+//! bytes: what waits to be taken holds at most some hundred times its own bytes, and where all of
+//! them wait, little more than these.
 //!
 //! A ZeroIncrement of a stream is the entry `NoIncrement`; `answered` says which answers are
 //! entries.
 
-ghost use Rattle.std.specs.Prelude.{◌≡◌, ◌≢◌, ◌+◌, ◌^◌, ◌<◌, ◌≤◌, ◌↔◌, List, ℕ, [], ◌∷◌, ◌++◌, length, take, drop, true, Some, Err, IsNone, IfNone, IfOk, IfErr, IfSome, IsErrOf, OnOk, OnErr, ◌⊎◌};
+ghost use Rattle.std.specs.Prelude.{
+  ◌≡◌,
+  ◌≢◌,
+  ◌+◌,
+  ◌^◌,
+  ◌<◌,
+  ◌≤◌,
+  ◌↔◌,
+  List,
+  ℕ,
+  [],
+  ◌∷◌,
+  ◌++◌,
+  length,
+  take,
+  drop,
+  true,
+  Some,
+  Err,
+  IsNone,
+  IfNone,
+  IfOk,
+  IfErr,
+  IfSome,
+  IsErrOf,
+  OnOk,
+  OnErr,
+  ◌⊎◌,
+};
 ghost use Rattle.std.specs.Io.KnownBytes.{Consumes, IsAtEnd, Keeps};
 ghost use Rattle.device.specs.declared.whole.ReadFault.TheVariants.{Device};
-ghost use Rattle.h2frame.specs.FrameList.{Entry, Whole, Joined, IsUnfinished, IsFaulty, IsLawful, answered, HasCause};
+ghost use Rattle.h2frame.specs.FrameList.{
+  Entry,
+  Whole,
+  Joined,
+  IsUnfinished,
+  IsFaulty,
+  IsLawful,
+  answered,
+  HasCause,
+};
 ghost use Rattle.h2frame.specs.Reading.{IsSpelledAt, IsStep};
 
 use crate::frame::lacks_increment;
@@ -84,8 +123,9 @@ impl FrameReader {
         Ok(())
     }
 
-    /// Reads once, and takes what came as `feed` does, without a copy. Answers how many bytes came: none at the end of the
-    /// input. A read has room for 1,024 bytes until one fills that, then for 32,832 to 65,664. After an `Err` nothing was read.
+    /// Reads once, and takes what came as `feed` does, without a copy. Answers how many bytes came:
+    /// none at the end of the input. A read has room for 1,024 bytes until one fills that, then for
+    /// 32,832 to 65,664. After an `Err` nothing was read.
     pub fn read_from<I: ConnRead>(&mut self, input: &mut I) -> Result<usize, ReadFault>
         ensures ok { IfOk result (λ n. (came : List ℕ) × (length came ≡ n)
             × Consumes (I.remaining input.old) (I.remaining input.new) came
@@ -106,9 +146,9 @@ impl FrameReader {
         Ok(count)
     }
 
-    /// The next frame or fault of the bytes so far, or nothing while none is there. A frame's content shares the
-    /// reader's memory, or is a copy where it has under 256 bytes. After `OutOfMemory`, which only a content that isn't
-    /// empty can meet, it may be called again.
+    /// The next frame or fault of the bytes so far, or nothing while none is there. A frame's
+    /// content shares the reader's memory, or is a copy where it has under 256 bytes. After
+    /// `OutOfMemory`, which only a content that isn't empty can meet, it may be called again.
     pub fn next(&mut self) -> Option<Result<Frame, FrameFault>>
         // The answer is the next entry after those before it, however the bytes were cut.
         ensures list { (bytes : List ℕ) (entries : List Entry) →

@@ -1,6 +1,19 @@
 //! The room that bytes are read into: the rest of a block, whose front they follow.
 
-ghost use Rattle.std.specs.Prelude.{◌≡◌, ◌<◌, ◌≤◌, ◌+◌, ◌++◌, ℕ, List, true, length, IfOk, OnOk, OnErr};
+ghost use Rattle.std.specs.Prelude.{
+  ◌≡◌,
+  ◌<◌,
+  ◌≤◌,
+  ◌+◌,
+  ◌++◌,
+  ℕ,
+  List,
+  true,
+  length,
+  IfOk,
+  OnOk,
+  OnErr,
+};
 ghost use Rattle.std.specs.Io.KnownBytes.{Consumes, IsAtEnd, Keeps};
 
 use bytes::BytesMut;
@@ -13,7 +26,8 @@ pub(crate) const BLOCK: usize = 65_664;
 /// The bytes of the first block. A connection on which little comes holds no more.
 pub(crate) const FIRST_BLOCK: usize = 1_024;
 
-/// Makes room for half a block at least, and answers for how many bytes there is room, at most a block.
+/// Makes room for half a block at least, and answers for how many bytes there is room, at most a
+/// block.
 pub(crate) fn make_room(buffer: &mut BytesMut, block: usize) -> Result<usize, AllocError>
     requires block { 2 ≤ block }
     ensures items { buffer.new.items ≡ buffer.old.items }

@@ -3,7 +3,22 @@
 //! A head that is written has no padding and no priority, by its kind (`is_padded`,
 //! `has_priority`). A frame of an unknown type may have those bits, since they mean nothing there.
 
-ghost use Rattle.std.specs.Prelude.{◌≡◌, ◌<◌, ◌≤◌, ◌+◌, ◌++◌, ◌⊎◌, Some, Err, IfErr, OnOk, OnErr, length, vec_capacity, vec_len};
+ghost use Rattle.std.specs.Prelude.{
+  ◌≡◌,
+  ◌<◌,
+  ◌≤◌,
+  ◌+◌,
+  ◌++◌,
+  ◌⊎◌,
+  Some,
+  Err,
+  IfErr,
+  OnOk,
+  OnErr,
+  length,
+  vec_capacity,
+  vec_len,
+};
 ghost use Rattle.h2frame.specs.Faults.{frame_fault};
 ghost use Rattle.h2frame.specs.FrameList.{Whole, Spells};
 ghost use Rattle.h2frame.specs.Spelling.{IsWritable, head_text, spelled};

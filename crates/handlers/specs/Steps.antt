@@ -33,4 +33,5 @@ first_status (Some status) later = Some status
 
 -- what was given, and what a step gives more
 abbrev pub joined : Step → Step → Step
-joined given more = record { replies = given.replies ++ more.replies; ends = first_status given.ends more.ends }
+joined given more =
+    record { replies = given.replies ++ more.replies; ends = first_status given.ends more.ends }

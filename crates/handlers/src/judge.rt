@@ -1,8 +1,37 @@
 //! How one request is read and judged.
 
-ghost use Rattle.std.specs.Prelude.{◌≡◌, ◌∷◌, [], map, true, false, IfOk, MatchOption, MatchResult, Ok, Err};
+ghost use Rattle.std.specs.Prelude.{
+  ◌≡◌,
+  ◌∷◌,
+  [],
+  map,
+  true,
+  false,
+  IfOk,
+  MatchOption,
+  MatchResult,
+  Ok,
+  Err,
+};
 ghost use Rattle.handlers.specs.declared.reply.Reply.TheVariants.{Empty as EmptyReply, Zeros};
-ghost use Rattle.handlers.specs.Requests.{IsRead, EmptyVerdict, SimpleVerdict, asked_status, is_true, is_size, zeros, zeros_of, all_sizes, known_code, judge_simple, judge_output, OutputVerdict, judge_input, InputVerdict, body_length};
+ghost use Rattle.handlers.specs.Requests.{
+  IsRead,
+  EmptyVerdict,
+  SimpleVerdict,
+  asked_status,
+  is_true,
+  is_size,
+  zeros,
+  zeros_of,
+  all_sizes,
+  known_code,
+  judge_simple,
+  judge_output,
+  OutputVerdict,
+  judge_input,
+  InputVerdict,
+  body_length,
+};
 
 use crate::fault::MethodFault;
 use crate::replies::Replies;

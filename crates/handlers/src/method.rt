@@ -5,12 +5,31 @@
 //! far. So a chain of steps needs no proof that an answer is the only one; `one_answer` says that
 //! it is.
 
-ghost use Rattle.std.specs.Prelude.{◌≡◌, ◌++◌, ◌∷◌, [], List, ℕ, Bool, true, false, IfOk, OnOk, IsSome};
+ghost use Rattle.std.specs.Prelude.{
+  ◌≡◌,
+  ◌++◌,
+  ◌∷◌,
+  [],
+  List,
+  ℕ,
+  Bool,
+  true,
+  false,
+  IfOk,
+  OnOk,
+  IsSome,
+};
 ghost use Rattle.handlers.specs.declared.state.MethodState.{MethodState as State};
 ghost use Rattle.handlers.specs.declared.state.MethodState.TheVariants.{Ended};
 ghost use Rattle.handlers.specs.declared.step.Step.{Step as Given};
 ghost use Rattle.handlers.specs.Steps.{nothing, joined};
-ghost use Rattle.handlers.specs.Answers.{HasAnswer, HasOneAnswer, HasGrowingReplies, HasShortReplies, HasStatusAtEnd};
+ghost use Rattle.handlers.specs.Answers.{
+  HasAnswer,
+  HasOneAnswer,
+  HasGrowingReplies,
+  HasShortReplies,
+  HasStatusAtEnd,
+};
 
 use crate::fault::MethodFault;
 use crate::state::MethodState;

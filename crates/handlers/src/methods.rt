@@ -3,12 +3,38 @@
 //! In a contract they are their list. A caller who found an index calls the method at it by
 //! `first`, `message` and `end`.
 
-ghost use Rattle.std.specs.Prelude.{◌≡◌, ◌≢◌, ◌<◌, ◌++◌, ◌∷◌, [], List, ℕ, true, false, length, IfSome, IfNone, IfOk, OnOk, IsSome, slice_get, option_copied};
+ghost use Rattle.std.specs.Prelude.{
+  ◌≡◌,
+  ◌≢◌,
+  ◌<◌,
+  ◌++◌,
+  ◌∷◌,
+  [],
+  List,
+  ℕ,
+  true,
+  false,
+  length,
+  IfSome,
+  IfNone,
+  IfOk,
+  OnOk,
+  IsSome,
+  slice_get,
+  option_copied,
+};
 ghost use Rattle.std.specs.List.{HoldsAt, AllWithin};
 ghost use Rattle.handlers.specs.declared.state.MethodState.TheVariants.{Ended};
 ghost use Rattle.handlers.specs.declared.step.Step.{Step as Given};
 ghost use Rattle.handlers.specs.Steps.{nothing, joined};
-ghost use Rattle.handlers.specs.Answers.{HasAnswer, HasOneAnswer, HasGrowingReplies, HasShortReplies, HasStatusAtEnd, IsLawful};
+ghost use Rattle.handlers.specs.Answers.{
+  HasAnswer,
+  HasOneAnswer,
+  HasGrowingReplies,
+  HasShortReplies,
+  HasStatusAtEnd,
+  IsLawful,
+};
 ghost use Rattle.handlers.specs.Listed.{listed};
 
 use crate::fault::MethodFault;

@@ -3,7 +3,19 @@
 //! asked for them: at least two bytes ask for such a reply, five for one that is held in two bytes,
 //! and eight for one that is held in five.
 
-ghost use Rattle.std.specs.Prelude.{◌≡◌, ◌↔◌, ◌++◌, ◌∷◌, [], List, IsTrue, IfOk, OnOk, OnErr, MatchOption};
+ghost use Rattle.std.specs.Prelude.{
+  ◌≡◌,
+  ◌↔◌,
+  ◌++◌,
+  ◌∷◌,
+  [],
+  List,
+  IsTrue,
+  IfOk,
+  OnOk,
+  OnErr,
+  MatchOption,
+};
 ghost use Rattle.handlers.specs.declared.reply.Reply.{Reply as ReplyOf};
 ghost use Rattle.handlers.specs.HeldReplies.{reply_of, numbers_of, IsNumber, AreHeld, BeginsWith};
 

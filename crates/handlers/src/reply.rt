@@ -4,11 +4,33 @@
 //! is written as a StreamingOutputCallResponse: a SimpleResponse with that payload has the same
 //! spelling (`specs/Replies.antt`).
 
-ghost use Rattle.std.specs.Prelude.{◌≡◌, ◌+◌, ◌<◌, ◌≤◌, ◌++◌, length, replicate, vec_len, vec_capacity, IfOk, OnOk, OnErr};
+ghost use Rattle.std.specs.Prelude.{
+  ◌≡◌,
+  ◌+◌,
+  ◌<◌,
+  ◌≤◌,
+  ◌++◌,
+  length,
+  replicate,
+  vec_len,
+  vec_capacity,
+  IfOk,
+  OnOk,
+  OnErr,
+};
 ghost use Rattle.pbwire.specs.Spelling.{varint_spelling, spelling_of_all};
 ghost use Rattle.testproto.specs.Canonical.{payload_fields};
-ghost use Rattle.handlers.specs.declared.reply.Reply.TheVariants.{Zeros as ZerosReply, Sum as SumReply};
-ghost use Rattle.handlers.specs.Replies.{reply_bytes, front_bytes, body_head, zero_count, zero_payload};
+ghost use Rattle.handlers.specs.declared.reply.Reply.TheVariants.{
+  Zeros as ZerosReply,
+  Sum as SumReply,
+};
+ghost use Rattle.handlers.specs.Replies.{
+  reply_bytes,
+  front_bytes,
+  body_head,
+  zero_count,
+  zero_payload,
+};
 
 use crate::fault::MethodFault;
 use pbwire::{varint_len, write_varint};

@@ -1,5 +1,20 @@
 -- What a decoder and an encoder keep from block to block.
-use Rattle.std.specs.Prelude.{◌≡◌, ℕ, ◌^◌, ◌≤◌, ◌⊎◌, ◌++◌, All, codes, min, List, length, Option, Some, None}
+use Rattle.std.specs.Prelude.{
+  ◌≡◌,
+  ℕ,
+  ◌^◌,
+  ◌≤◌,
+  ◌⊎◌,
+  ◌++◌,
+  All,
+  codes,
+  min,
+  List,
+  length,
+  Option,
+  Some,
+  None,
+}
 use Rattle.hpack_codec.specs.declared.fault.HpackFault.{HpackFault}
 use Rattle.hpack_codec.specs.declared.fault.HpackFault.TheVariants.{Dead}
 use Rattle.lists.specs.declared.field.Field.{Field}
@@ -9,7 +24,8 @@ use Rattle.hpack_codec.specs.Faults.{Stands}
 
 -- From what it kept a live decoder reads these fields in the block, and keeps the next table.
 abbrev pub Reads : Option Table → List ℕ → List Field → Option Table → Type 0
-Reads (Some table) block fields (Some next) = IsBlock table block fields next × (sizes_of fields ≤ 65536)
+Reads (Some table) block fields (Some next) =
+    IsBlock table block fields next × (sizes_of fields ≤ 65536)
 Reads (Some table) block fields None = ⊥
 Reads None block fields kept = ⊥
 
@@ -30,7 +46,8 @@ first_encoding = record { table = empty_table; least = 4096 }
 
 -- after a limit is set
 abbrev pub limited : Option Encoding → ℕ → Option Encoding
-limited (Some encoding) new_limit = Some (record { table = encoding.table; least = min encoding.least new_limit })
+limited (Some encoding) new_limit =
+    Some (record { table = encoding.table; least = min encoding.least new_limit })
 limited None new_limit = None
 
 -- From what it kept a live encoder writes this block of these fields, and keeps the next table.

@@ -1,8 +1,37 @@
 -- What the parts of the decoder and the encoder do: facts that their private functions hand on.
-use Rattle.std.specs.Prelude.{◌≡◌, ℕ, ◌+◌, ◌-◌, ◌*◌, ◌/◌, ◌^◌, ◌<◌, ◌≤◌, ◌⊎◌, Bool, true, false, List, [], ◌∷◌, ◌++◌, length, Some, slice_get}
+use Rattle.std.specs.Prelude.{
+  ◌≡◌,
+  ℕ,
+  ◌+◌,
+  ◌-◌,
+  ◌*◌,
+  ◌/◌,
+  ◌^◌,
+  ◌<◌,
+  ◌≤◌,
+  ◌⊎◌,
+  Bool,
+  true,
+  false,
+  List,
+  [],
+  ◌∷◌,
+  ◌++◌,
+  length,
+  Some,
+  slice_get,
+}
 use Rattle.std.specs.List.{flat_map}
 use Rattle.hpack_codec.specs.declared.fault.HpackFault.{HpackFault}
-use Rattle.hpack_codec.specs.declared.fault.HpackFault.TheVariants.{Integer, Huffman, SizeUpdate, Truncated, OutOfMemory, Dead, TooLarge}
+use Rattle.hpack_codec.specs.declared.fault.HpackFault.TheVariants.{
+  Integer,
+  Huffman,
+  SizeUpdate,
+  Truncated,
+  OutOfMemory,
+  Dead,
+  TooLarge,
+}
 use Rattle.lists.specs.declared.field.Field.{Field}
 use Rattle.hpack_codec.specs.declared.found.Found.{Found}
 use Rattle.hpack_codec.specs.declared.found.Found.TheVariants.{Whole, Name, Nothing}
@@ -12,7 +41,13 @@ use Rattle.hpack_codec.specs.Huffman.{bits, code, IsHuffman, AreOctets}
 use Rattle.hpack_codec.specs.StringLiteral.{IsString}
 use Rattle.hpack_codec.specs.Table.{Table, entry_at, insert_entry, sizes_of}
 use Rattle.hpack_codec.specs.Block.{IsName, IsLiteral, Represents, AreUpdates, AreFields}
-use Rattle.hpack_codec.specs.Faults.{IsIndexedFault, IsLiteralFault, IsUpdateFault, IsFaultBehind, Begins}
+use Rattle.hpack_codec.specs.Faults.{
+  IsIndexedFault,
+  IsLiteralFault,
+  IsUpdateFault,
+  IsFaultBehind,
+  Begins,
+}
 
 -- new is old with a text of this meaning at its end
 abbrev pub Appends : List ℕ → List ℕ → (List ℕ → Type 0) → Type 0
@@ -43,7 +78,8 @@ IsMoreFault other bytes = ⊥
 -- An integer is taken from the front.
 abbrev pub TakesInteger : ℕ → List ℕ → ℕ → List ℕ → Type 0
 TakesInteger prefix_bits bytes number rest =
-    (text : List ℕ) × (bytes ≡ text ++ rest) × IsInteger prefix_bits (flags_of prefix_bits bytes) text number
+    (text : List ℕ) × (bytes ≡ text ++ rest)
+    × IsInteger prefix_bits (flags_of prefix_bits bytes) text number
 
 -- A string is taken from the front.
 abbrev pub TakesString : List ℕ → List ℕ → List ℕ → Type 0
@@ -51,7 +87,8 @@ TakesString bytes octets rest = (text : List ℕ) × (bytes ≡ text ++ rest) ×
 
 -- No symbol's code begins these bits.
 abbrev pub BeginsNoCode : List ℕ → Type 0
-BeginsNoCode register = (symbol : ℕ) (more : List ℕ) → symbol < 256 → register ≡ code symbol ++ more → ⊥
+BeginsNoCode register =
+    (symbol : ℕ) (more : List ℕ) → symbol < 256 → register ≡ code symbol ++ more → ⊥
 
 -- Octets were moved from the front of a register to the end of a list.
 pub record Drains (old new : List ℕ) (count register left_count left : ℕ) : Type 0 where
@@ -98,7 +135,8 @@ TakesName table index bytes octets rest =
 -- A literal is taken from the front.
 abbrev pub TakesLiteral : ℕ → Table → List ℕ → Field → List ℕ → Type 0
 TakesLiteral prefix_bits table bytes field rest =
-    (text : List ℕ) × (bytes ≡ text ++ rest) × IsLiteral prefix_bits (flags_of prefix_bits bytes) table text field
+    (text : List ℕ) × (bytes ≡ text ++ rest)
+    × IsLiteral prefix_bits (flags_of prefix_bits bytes) table text field
 
 -- An indexed field is taken from the front.
 abbrev pub TakesIndexed : Table → List ℕ → Field → List ℕ → Type 0
@@ -112,7 +150,8 @@ next_table true table field = insert_entry table field
 next_table false table field = table
 
 -- A representation of a field is taken from the front.
-pub record TakesField (table : Table) (bytes : List ℕ) (field : Field) (is_entry : Bool) (rest : List ℕ) : Type 0 where
+pub record TakesField (table : Table) (bytes : List ℕ) (field : Field) (is_entry : Bool)
+    (rest : List ℕ) : Type 0 where
   pub text : List ℕ
   pub spelling : bytes ≡ text ++ rest
   pub represents : Represents table text field (next_table is_entry table field)
@@ -154,7 +193,8 @@ IsFieldsFault OutOfMemory table bytes = Unit {0}
 IsFieldsFault other table bytes = FaultBehind other table bytes
 
 -- The changes of size at the front are taken, all of them.
-pub record TakesUpdates (table : Table) (bytes : List ℕ) (next : Table) (rest : List ℕ) : Type 0 where
+pub record TakesUpdates (table : Table) (bytes : List ℕ) (next : Table)
+    (rest : List ℕ) : Type 0 where
   pub text : List ℕ
   pub limits : List ℕ
   pub spelling : bytes ≡ text ++ rest
@@ -178,15 +218,19 @@ Changes table text next = (limits : List ℕ) × AreUpdates table text limits ne
 -- The static entry at this index has this name and value, or this name.
 abbrev pub IsStatic : Found → List ℕ → List ℕ → Type 0
 IsStatic (Whole index) name_bytes value_bytes =
-    (0 < index) × (index ≤ 61) × (slice_get static_table (index - 1) ≡ Some (entry name_bytes value_bytes))
+    (0 < index) × (index ≤ 61)
+    × (slice_get static_table (index - 1) ≡ Some (entry name_bytes value_bytes))
 IsStatic (Name index) name_bytes value_bytes =
-    (other : List ℕ) × (0 < index) × (index ≤ 61) × (slice_get static_table (index - 1) ≡ Some (entry name_bytes other))
+    (other : List ℕ) × (0 < index) × (index ≤ 61)
+    × (slice_get static_table (index - 1) ≡ Some (entry name_bytes other))
 IsStatic Nothing name_bytes value_bytes = Unit {0}
 
 -- The entry at this index of both tables has this name and value, or this name.
 abbrev pub IsFound : Table → Found → List ℕ → List ℕ → Type 0
-IsFound table (Whole index) name_bytes value_bytes = entry_at table index ≡ Some (entry name_bytes value_bytes)
-IsFound table (Name index) name_bytes value_bytes = (other : List ℕ) × (entry_at table index ≡ Some (entry name_bytes other))
+IsFound table (Whole index) name_bytes value_bytes =
+    entry_at table index ≡ Some (entry name_bytes value_bytes)
+IsFound table (Name index) name_bytes value_bytes =
+    (other : List ℕ) × (entry_at table index ≡ Some (entry name_bytes other))
 IsFound table Nothing name_bytes value_bytes = Unit {0}
 
 -- The index of a literal with this name: 0, or an entry's with the name.

@@ -1,5 +1,21 @@
 -- The tables (RFC 7541, sections 2.3 and 4).
-use Rattle.std.specs.Prelude.{ℕ, zero, suc, ◌+◌, ◌-◌, List, [], ◌∷◌, ◌++◌, length, Option, None, slice_get, nat_le, if◌then◌else◌}
+use Rattle.std.specs.Prelude.{
+  ℕ,
+  zero,
+  suc,
+  ◌+◌,
+  ◌-◌,
+  List,
+  [],
+  ◌∷◌,
+  ◌++◌,
+  length,
+  Option,
+  None,
+  slice_get,
+  nat_le,
+  if◌then◌else◌,
+}
 use Rattle.lists.specs.declared.field.Field.{Field}
 use Rattle.hpack_codec.specs.StaticTable.{static_table}
 
@@ -24,7 +40,8 @@ fitting room (entry ∷ older) =
 
 -- A new entry is the first, and the oldest go: all of them, if it is larger than the table.
 abbrev pub insert_entry : Table → Field → Table
-insert_entry table field = record { entries = fitting table.limit (field ∷ table.entries); limit = table.limit }
+insert_entry table field =
+    record { entries = fitting table.limit (field ∷ table.entries); limit = table.limit }
 
 -- after a change of the limit
 abbrev pub resize : Table → ℕ → Table

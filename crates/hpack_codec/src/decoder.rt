@@ -1,12 +1,44 @@
 //! Reading a header block (RFC 7541, sections 3.2 and 6).
-ghost use Rattle.std.specs.Prelude.{List, Option, MatchResult, ◌≡◌, ◌≢◌, ◌<◌, ◌≤◌, ◌⊎◌, [], length, Some, None, Err, IfOk, IfErr, OnOk, OnErr, true, false};
+ghost use Rattle.std.specs.Prelude.{
+  List,
+  Option,
+  MatchResult,
+  ◌≡◌,
+  ◌≢◌,
+  ◌<◌,
+  ◌≤◌,
+  ◌⊎◌,
+  [],
+  length,
+  Some,
+  None,
+  Err,
+  IfOk,
+  IfErr,
+  OnOk,
+  OnErr,
+  true,
+  false,
+};
 ghost use Rattle.lists.specs.declared.field.Field.{Field as FieldOf};
 ghost use Rattle.hpack_codec.specs.declared.fault.HpackFault.{HpackFault};
 ghost use Rattle.hpack_codec.specs.Table.{Table, empty_table, size_of, sizes_of};
 ghost use Rattle.hpack_codec.specs.Block.{AreFields};
 ghost use Rattle.hpack_codec.specs.Faults.{IsIndexedFault, IsLiteralFault, IsNameFault, Begins};
 ghost use Rattle.hpack_codec.specs.Codec.{Reads, IsFirstFault};
-ghost use Rattle.hpack_codec.specs.Reading.{OrMemory, TakesName, TakesLiteral, TakesIndexed, TakesField, TakesUpdates, IsFieldFault, IsFieldsFault, IsUpdatesFault, next_table, flags_of};
+ghost use Rattle.hpack_codec.specs.Reading.{
+  OrMemory,
+  TakesName,
+  TakesLiteral,
+  TakesIndexed,
+  TakesField,
+  TakesUpdates,
+  IsFieldFault,
+  IsFieldsFault,
+  IsUpdatesFault,
+  next_table,
+  flags_of,
+};
 
 use crate::fault::HpackFault;
 use crate::integer::integer;

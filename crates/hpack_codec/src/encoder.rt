@@ -4,10 +4,38 @@
 //! its name, if there is one, and becomes an entry, unless it is too large for that or private.
 //! `block` looks at the lengths of all fields before it takes memory, so `too_large` is exact, and
 //! then reserves what the block needs.
-ghost use Rattle.std.specs.Prelude.{◌≡◌, ◌<◌, ◌^◌, ◌≤◌, ◌⊎◌, ◌↔◌, ◌+◌, min, length, Some, None, Any, IfOk, IfErr, OnOk, OnErr, IsErrOf, IsSome, IsTrue};
+ghost use Rattle.std.specs.Prelude.{
+  ◌≡◌,
+  ◌<◌,
+  ◌^◌,
+  ◌≤◌,
+  ◌⊎◌,
+  ◌↔◌,
+  ◌+◌,
+  min,
+  length,
+  Some,
+  None,
+  Any,
+  IfOk,
+  IfErr,
+  OnOk,
+  OnErr,
+  IsErrOf,
+  IsSome,
+  IsTrue,
+};
 ghost use Rattle.hpack_codec.specs.Table.{Table, size_of, sizes_of};
 ghost use Rattle.hpack_codec.specs.Block.{IsLiteral, Represents, AreFields};
-ghost use Rattle.hpack_codec.specs.Codec.{first_encoding, limited, Writes, IsTooLong, IsPrivate, HoldsNoPrivate, NonePrivate};
+ghost use Rattle.hpack_codec.specs.Codec.{
+  first_encoding,
+  limited,
+  Writes,
+  IsTooLong,
+  IsPrivate,
+  HoldsNoPrivate,
+  NonePrivate,
+};
 ghost use Rattle.hpack_codec.specs.Reading.{Appends, IsNameAt, Changes};
 
 use crate::fault::HpackFault;

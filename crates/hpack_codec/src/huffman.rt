@@ -1,5 +1,20 @@
 //! Huffman texts (RFC 7541, section 5.2 and appendix B), read from a register of bits.
-ghost use Rattle.std.specs.Prelude.{◌≡◌, ℕ, ◌<◌, ◌≤◌, ◌^◌, ◌/◌, ◌-◌, ◌*◌, min, IfSome, IfNone, IfOk, IfErr, IsTrue};
+ghost use Rattle.std.specs.Prelude.{
+  ◌≡◌,
+  ℕ,
+  ◌<◌,
+  ◌≤◌,
+  ◌^◌,
+  ◌/◌,
+  ◌-◌,
+  ◌*◌,
+  min,
+  IfSome,
+  IfNone,
+  IfOk,
+  IfErr,
+  IsTrue,
+};
 ghost use Rattle.hpack_codec.specs.Huffman.{code_length, code_number, IsHuffman};
 ghost use Rattle.hpack_codec.specs.CodeTable.{is_code_table};
 ghost use Rattle.hpack_codec.specs.Reading.{Drains, IsTextFault};

@@ -1,7 +1,29 @@
 //! The table of entries that blocks name by index (RFC 7541, sections 2.3 and 4).
-ghost use Rattle.std.specs.Prelude.{◌≡◌, ◌<◌, ◌≤◌, ◌^◌, ◌+◌, length, slice_get, Some, None, MatchOption, IfOk, OnOk, min};
+ghost use Rattle.std.specs.Prelude.{
+  ◌≡◌,
+  ◌<◌,
+  ◌≤◌,
+  ◌^◌,
+  ◌+◌,
+  length,
+  slice_get,
+  Some,
+  None,
+  MatchOption,
+  IfOk,
+  OnOk,
+  min,
+};
 ghost use Rattle.hpack_codec.specs.StaticTable.{entry};
-ghost use Rattle.hpack_codec.specs.Table.{size_of, entry_at, insert_entry, resize, empty_table, sizes_of, fitting};
+ghost use Rattle.hpack_codec.specs.Table.{
+  size_of,
+  entry_at,
+  insert_entry,
+  resize,
+  empty_table,
+  sizes_of,
+  fitting,
+};
 
 use crate::static_table;
 use lists::Field;

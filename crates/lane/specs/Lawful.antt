@@ -1,5 +1,20 @@
 -- What a queue from one writer to one reader may do.
-use Rattle.std.specs.Prelude.{ℕ, ◌+◌, ◌≤◌, min, Bool, true, false, List, [], ◌∷◌, Option, None, Some, length}
+use Rattle.std.specs.Prelude.{
+  ℕ,
+  ◌+◌,
+  ◌≤◌,
+  min,
+  Bool,
+  true,
+  false,
+  List,
+  [],
+  ◌∷◌,
+  Option,
+  None,
+  Some,
+  length,
+}
 use mathlib.Core.List.{IsPrefix}
 
 -- 1 where `last` placed its item, which needs none of the room

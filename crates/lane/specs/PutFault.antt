@@ -18,7 +18,8 @@ module _ {T : Type 0} where
   -- Full has how many of the items that were put hadn't been seen taken, and they are at least
   -- `room`. Each queue says which of the other faults it may have.
   abbrev pub MayRefuse : (ℕ → Type 0) → Type 0 → ℕ → ℕ → ℕ → PutFault T → Type 0
-  MayRefuse WantsMemory MayMiss room put seen_taken (Full item waiting) = (waiting + seen_taken ≡ put) × (room ≤ waiting)
+  MayRefuse WantsMemory MayMiss room put seen_taken (Full item waiting) =
+      (waiting + seen_taken ≡ put) × (room ≤ waiting)
   MayRefuse WantsMemory MayMiss room put seen_taken (OutOfMemory item) = WantsMemory room
   MayRefuse WantsMemory MayMiss room put seen_taken (NotTaken item) = MayMiss
 

@@ -6,7 +6,29 @@
 //!
 //! In `Settled`, `put` and `got` stop at 2^64 - 1, so equal counts there don't say that all was
 //! got. `left` is exact, and 0 only where all was got.
-ghost use Rattle.std.specs.Prelude.{◌≡◌, ℕ, ◌+◌, ◌≤◌, ◌<◌, List, [], ◌∷◌, ◌++◌, Bool, true, false, length, ⊤, Some, IfOk, OnOk, IfErr, OnErr, MatchOption, MatchBool};
+ghost use Rattle.std.specs.Prelude.{
+  ◌≡◌,
+  ℕ,
+  ◌+◌,
+  ◌≤◌,
+  ◌<◌,
+  List,
+  [],
+  ◌∷◌,
+  ◌++◌,
+  Bool,
+  true,
+  false,
+  length,
+  ⊤,
+  Some,
+  IfOk,
+  OnOk,
+  IfErr,
+  OnErr,
+  MatchOption,
+  MatchBool,
+};
 ghost use Rattle.std.specs.Borrow.{sem};
 ghost use denote.Follow.{follows_so};
 ghost use mathlib.Core.Option.{none};

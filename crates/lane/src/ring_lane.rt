@@ -17,7 +17,17 @@ ghost use Rattle.lane.specs.RingEnds.{RingName_set};
 ghost use Rattle.lane.specs.Steps.{pieces, link, closed};
 ghost use Rattle.lane.specs.Linked.{of_second, count_second, count_or, kept, Linked, Linked-prop};
 ghost use Rattle.lane.specs.Firsts.{seen_first};
-ghost use Rattle.lane.specs.Second.{in_name as second_in_name, out_name as second_out_name, shut_name as second_shut_name, put_in as second_put_in, put_shut as second_put_shut, seen_taken as second_seen_taken, seen_shut as second_seen_shut, got as second_got, room_of as second_room_of};
+ghost use Rattle.lane.specs.Second.{
+  in_name as second_in_name,
+  out_name as second_out_name,
+  shut_name as second_shut_name,
+  put_in as second_put_in,
+  put_shut as second_put_shut,
+  seen_taken as second_seen_taken,
+  seen_shut as second_seen_shut,
+  got as second_got,
+  room_of as second_room_of,
+};
 
 mod meeting;
 mod reading;
@@ -55,9 +65,12 @@ pub struct RingLaneIn<T> {
     ghost one_free: { kept second ≤ known_free first },
     ghost counted: { count ≡ count_of (pieces (sent first)) },
     ghost closed: { closed (sent first) ≡ true },
-    ghost linked: { Linked second_in_name (λ fresh. second_out_name fresh.out.value) (link (sent first)) second } by { Linked-prop second_in_name (λ fresh. second_out_name fresh.out.value) RingName_set (link (sent first)) second },
+    ghost linked: { Linked second_in_name (λ fresh. second_out_name fresh.out.value)
+        (link (sent first)) second } by { Linked-prop second_in_name
+            (λ fresh. second_out_name fresh.out.value) RingName_set (link (sent first)) second },
     ghost same_room: { count_or (λ tx. second_room_of (second_in_name tx)) room second ≡ room },
-    ghost bound: { length (pieces (sent first)) + length (of_second second_put_in second) ≤ seen_first first + count_second second_seen_taken second + room },
+    ghost bound: { length (pieces (sent first)) + length (of_second second_put_in second)
+        ≤ seen_first first + count_second second_seen_taken second + room },
 }
 
 /// What is left of the writing end after `last`.
@@ -71,8 +84,11 @@ pub struct RingLaneShut<T> {
     ghost filled: { producer_capacity first ≤ length (sent first) + known_free first },
     ghost counted: { count ≡ count_of (pieces (sent first)) },
     ghost closed: { closed (sent first) ≡ true },
-    ghost linked: { Linked second_shut_name (λ fresh. second_out_name fresh.out.value) (link (sent first)) second } by { Linked-prop second_shut_name (λ fresh. second_out_name fresh.out.value) RingName_set (link (sent first)) second },
-    ghost bound: { length (pieces (sent first)) + length (of_second second_put_shut second) ≤ seen_first first + count_second second_seen_shut second + room + 1 },
+    ghost linked: { Linked second_shut_name (λ fresh. second_out_name fresh.out.value)
+        (link (sent first)) second } by { Linked-prop second_shut_name
+            (λ fresh. second_out_name fresh.out.value) RingName_set (link (sent first)) second },
+    ghost bound: { length (pieces (sent first)) + length (of_second second_put_shut second)
+        ≤ seen_first first + count_second second_seen_shut second + room + 1 },
 }
 
 /// The reading end of a `RingLane`.
@@ -87,8 +103,14 @@ pub struct RingLaneOut<T> {
     // The last item that was got, which the caller may still look at.
     polled: Option<T>,
     ghost counted: { count ≡ count_of (pieces (received first)) },
-    ghost linked: { Linked second_out_name (λ fresh. second_out_name fresh.out.value) (link (received first)) second } by { Linked-prop second_out_name (λ fresh. second_out_name fresh.out.value) RingName_set (link (received first)) second },
-    ghost kept: { polled ≡ last_of (pieces (received first) ++ of_second second_got second) } by { Coded-set (coded_option T.code) polled (last_of (pieces (received first) ++ of_second second_got second)) },
+    ghost linked: { Linked second_out_name (λ fresh. second_out_name fresh.out.value)
+        (link (received first)) second } by { Linked-prop second_out_name
+            (λ fresh. second_out_name fresh.out.value) RingName_set
+            (link (received first)) second },
+    ghost kept: { polled
+        ≡ last_of (pieces (received first) ++ of_second second_got second) } by { Coded-set
+            (coded_option T.code) polled
+            (last_of (pieces (received first) ++ of_second second_got second)) },
 }
 
 /// A lane over a ring of 17 places, or of `room + 1` if that is less; and over a ring of `room + 1`
@@ -104,7 +126,19 @@ impl<T: Send + Sync + Drop> Lane for RingLane<T> {
     ghost use Rattle.std.specs.Prelude.{[], ◌∷◌};
     ghost use Rattle.lane.specs.End.{of_end, has_last};
     ghost use Rattle.lane.specs.Lawful.{IsLawful};
-    ghost use Rattle.lane.specs.RingLane.{LaneName, LaneName_set, room_of, in_name, shut_name, out_name, put_in, put_shut, seen_taken, got, ahead};
+    ghost use Rattle.lane.specs.RingLane.{
+      LaneName,
+      LaneName_set,
+      room_of,
+      in_name,
+      shut_name,
+      out_name,
+      put_in,
+      put_shut,
+      seen_taken,
+      got,
+      ahead,
+    };
 
     type Item = T;
 

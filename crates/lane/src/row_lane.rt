@@ -80,7 +80,18 @@ impl<T: Send + Sync + Drop> Lane for RowLane<T> {
     ghost use Rattle.std.specs.Prelude.{[], ◌∷◌, ◌++◌, ⊤};
     ghost use Rattle.lane.specs.End.{of_end, has_last};
     ghost use Rattle.lane.specs.Lawful.{IsLawful, count_of};
-    ghost use Rattle.lane.specs.RowLane.{RowName, RowName_set, room_of, in_name, shut_name, out_name, put_in, put_shut, was_placed, got};
+    ghost use Rattle.lane.specs.RowLane.{
+      RowName,
+      RowName_set,
+      room_of,
+      in_name,
+      shut_name,
+      out_name,
+      put_in,
+      put_shut,
+      was_placed,
+      got,
+    };
 
     type Item = T;
 

@@ -1,6 +1,26 @@
 -- How far the message at the front of some bytes goes. Only the crate's own functions use these
 -- words.
-use Rattle.std.specs.Prelude.{◌≡◌, ℕ, ◌+◌, ◌*◌, ◌<◌, ◌≤◌, ◌==◌, nat_lt, if◌then◌else◌, List, [], ◌∷◌, ◌++◌, length, take, drop, Result, Ok, Err}
+use Rattle.std.specs.Prelude.{
+  ◌≡◌,
+  ℕ,
+  ◌+◌,
+  ◌*◌,
+  ◌<◌,
+  ◌≤◌,
+  ◌==◌,
+  nat_lt,
+  if◌then◌else◌,
+  List,
+  [],
+  ◌∷◌,
+  ◌++◌,
+  length,
+  take,
+  drop,
+  Result,
+  Ok,
+  Err,
+}
 use Rattle.std.specs.List.{concat}
 use Rattle.lpm.specs.declared.fault.LpmFault.{LpmFault}
 use Rattle.lpm.specs.declared.fault.LpmFault.TheVariants.{Compressed, BadFlag, TooLong, OutOfMemory}
@@ -15,14 +35,17 @@ extent_of [] = Ok 5
 extent_of (flag ∷ bytes) =
     if flag == 0
     then (if nat_lt (length bytes) 4 then Ok 5
-    else (if nat_lt max_message_len (announced bytes) then Err TooLong else Ok (5 + announced bytes)))
+    else (if nat_lt max_message_len (announced bytes) then Err TooLong
+    else Ok (5 + announced bytes)))
     else (if flag == 1 then Err Compressed else Err BadFlag)
 
 -- what a number of bytes says of the message at the front
 pub record Extends (bytes : List ℕ) (len : ℕ) : Type 0 where
   pub prefix : 5 ≤ len
   pub unfinished : length bytes < len → IsUnfinished bytes
-  pub whole : len ≤ length bytes → IsMessage (drop 5 (take len bytes)) × (bytes ≡ frame (drop 5 (take len bytes)) ++ drop len bytes)
+  pub whole : len ≤ length bytes
+      → IsMessage (drop 5 (take len bytes))
+      × (bytes ≡ frame (drop 5 (take len bytes)) ++ drop len bytes)
 
 abbrev pub IsExtent : List ℕ → Result ℕ LpmFault → Type 0
 IsExtent bytes (Ok len) = Extends bytes len

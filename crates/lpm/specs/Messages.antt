@@ -2,11 +2,32 @@
 -- "Length-Prefixed-Message". A message is one flag byte, four bytes of length, and that many bytes.
 -- These are relations on whole lists of bytes: nothing here knows of pieces, nor of how far a
 -- reader has come.
-use Rattle.std.specs.Prelude.{◌≡◌, ℕ, ◌+◌, ◌<◌, ◌≤◌, List, [], ◌∷◌, ◌++◌, length, take, slice_index, All, ◌⊎◌}
+use Rattle.std.specs.Prelude.{
+  ◌≡◌,
+  ℕ,
+  ◌+◌,
+  ◌<◌,
+  ◌≤◌,
+  List,
+  [],
+  ◌∷◌,
+  ◌++◌,
+  length,
+  take,
+  slice_index,
+  All,
+  ◌⊎◌,
+}
 use Rattle.std.specs.List.{flat_map}
 use Rattle.std.specs.Int.{w32, to_be_bytes, from_be_bytes}
 use Rattle.lpm.specs.declared.fault.LpmFault.{LpmFault}
-use Rattle.lpm.specs.declared.fault.LpmFault.TheVariants.{Compressed, BadFlag, TooLong, CutAtEnd, OutOfMemory}
+use Rattle.lpm.specs.declared.fault.LpmFault.TheVariants.{
+  Compressed,
+  BadFlag,
+  TooLong,
+  CutAtEnd,
+  OutOfMemory,
+}
 
 -- what comes before a message of n bytes: the flag 0, as it isn't compressed; the length,
 -- big-endian
@@ -43,7 +64,9 @@ announced bytes = from_be_bytes w32 (take 4 bytes)
 abbrev pub IsUnfinished : List ℕ → Type 0
 IsUnfinished [] = Unit {0}
 IsUnfinished (flag ∷ bytes) =
-    (flag ≡ 0) × (4 ≤ length bytes → (announced bytes ≤ max_message_len) × (length bytes < 4 + announced bytes))
+    (flag ≡ 0)
+    × (4 ≤ length bytes
+    → (announced bytes ≤ max_message_len) × (length bytes < 4 + announced bytes))
 
 -- What can't go on as a message: another flag, or the flag 0 and a length over the limit. Bytes
 -- have no other fault.
@@ -51,7 +74,8 @@ abbrev pub IsFaulty : List ℕ → LpmFault → Type 0
 IsFaulty [] fault = ⊥
 IsFaulty (flag ∷ bytes) Compressed = flag ≡ 1
 IsFaulty (flag ∷ bytes) BadFlag = 2 ≤ flag
-IsFaulty (flag ∷ bytes) TooLong = (flag ≡ 0) × (4 ≤ length bytes) × (max_message_len < announced bytes)
+IsFaulty (flag ∷ bytes) TooLong =
+    (flag ≡ 0) × (4 ≤ length bytes) × (max_message_len < announced bytes)
 IsFaulty (flag ∷ bytes) CutAtEnd = ⊥
 IsFaulty (flag ∷ bytes) OutOfMemory = ⊥
 
@@ -62,7 +86,8 @@ pub record Spells (bytes : List ℕ) (messages : List (List ℕ)) (rest : List �
   pub unfinished : IsUnfinished rest
 
 -- the bytes are these messages, and then what can't go on as one
-pub record IsFaultyAfter (bytes : List ℕ) (messages : List (List ℕ)) (fault : LpmFault) : Type 0 where
+pub record IsFaultyAfter (bytes : List ℕ) (messages : List (List ℕ))
+    (fault : LpmFault) : Type 0 where
   pub rest : List ℕ
   pub whole : bytes ≡ frames messages ++ rest
   pub each : All IsMessage messages
@@ -81,4 +106,6 @@ pub record IsCut (bytes : List ℕ) : Type 0 where
 
 -- bytes that end with a message, or can't go on as messages
 abbrev pub IsNotCut : List ℕ → Type 0
-IsNotCut bytes = ((messages : List (List ℕ)) × Spells bytes messages []) ⊎ ((messages : List (List ℕ)) × (fault : LpmFault) × IsFaultyAfter bytes messages fault)
+IsNotCut bytes =
+    ((messages : List (List ℕ)) × Spells bytes messages [])
+    ⊎ ((messages : List (List ℕ)) × (fault : LpmFault) × IsFaultyAfter bytes messages fault)

@@ -1,6 +1,25 @@
 -- The one list of messages that bytes spell, computed. `Spells` and `IsFaultyAfter` say what it has
 -- to be; the law `one_reading` says that one of them holds of it, and of no other list.
-use Rattle.std.specs.Prelude.{ℕ, zero, suc, Bool, true, false, ◌==◌, nat_lt, if◌then◌else◌, List, [], ◌∷◌, length, take, drop, Option, Some, None}
+use Rattle.std.specs.Prelude.{
+  ℕ,
+  zero,
+  suc,
+  Bool,
+  true,
+  false,
+  ◌==◌,
+  nat_lt,
+  if◌then◌else◌,
+  List,
+  [],
+  ◌∷◌,
+  length,
+  take,
+  drop,
+  Option,
+  Some,
+  None,
+}
 use Rattle.lpm.specs.declared.fault.LpmFault.{LpmFault}
 use Rattle.lpm.specs.declared.fault.LpmFault.TheVariants.{Compressed, BadFlag, TooLong}
 use Rattle.lpm.specs.Messages.{max_message_len, announced}
@@ -21,7 +40,8 @@ front_of_message len bytes =
 -- after the flag 0
 unfoldable pub front_of_length : List ℕ → Front
 front_of_length bytes =
-    if nat_lt (length bytes) 4 then Unfinished else front_of_message (announced bytes) (drop 4 bytes)
+    if nat_lt (length bytes) 4 then Unfinished
+    else front_of_message (announced bytes) (drop 4 bytes)
 
 unfoldable pub front_of : List ℕ → Front
 front_of [] = Unfinished
@@ -52,7 +72,8 @@ abbrev pub ended : List ℕ → Option LpmFault → Reading
 ended bytes fault = record { messages = []; rest = bytes; fault = fault }
 
 abbrev pub with_front : List ℕ → Reading → Reading
-with_front message reading = record { messages = message ∷ reading.messages; rest = reading.rest; fault = reading.fault }
+with_front message reading =
+    record { messages = message ∷ reading.messages; rest = reading.rest; fault = reading.fault }
 
 abbrev pub reading_behind : Front → List ℕ → (List ℕ → Reading) → Reading
 reading_behind (Whole message rest) bytes read = with_front message (read rest)

@@ -2,10 +2,24 @@
 -- answered.
 use Rattle.std.specs.Prelude.{◌≡◌, ℕ, List, [], ◌∷◌, ◌++◌, All}
 use Rattle.lpm.specs.declared.fault.LpmFault.{LpmFault}
-use Rattle.lpm.specs.declared.fault.LpmFault.TheVariants.{Compressed, BadFlag, TooLong, CutAtEnd, OutOfMemory}
+use Rattle.lpm.specs.declared.fault.LpmFault.TheVariants.{
+  Compressed,
+  BadFlag,
+  TooLong,
+  CutAtEnd,
+  OutOfMemory,
+}
 use Rattle.lpm.specs.declared.splitter.Split.{Split}
 use Rattle.lpm.specs.declared.splitter.Split.TheVariants.{Message, More, Fault}
-use Rattle.lpm.specs.Messages.{frame, frames, IsMessage, IsUnfinished, IsFaulty, Spells, IsFaultyAfter}
+use Rattle.lpm.specs.Messages.{
+  frame,
+  frames,
+  IsMessage,
+  IsUnfinished,
+  IsFaulty,
+  Spells,
+  IsFaultyAfter,
+}
 
 -- the bytes have the fault, unless it is want of memory
 abbrev pub Stands : LpmFault → Type 0 → Type 0
@@ -26,4 +40,5 @@ abbrev pub Continues : List ℕ → List (List ℕ) → Split → List ℕ → T
 Continues bytes messages (Message message) left =
     All IsMessage (messages ++ message ∷ []) × (bytes ≡ frames (messages ++ message ∷ []) ++ left)
 Continues bytes messages More left = Spells bytes messages left
-Continues bytes messages (Fault fault) left = Stands fault (IsFaultyAfter bytes messages fault) × (bytes ≡ frames messages ++ left)
+Continues bytes messages (Fault fault) left =
+    Stands fault (IsFaultyAfter bytes messages fault) × (bytes ≡ frames messages ++ left)

@@ -4,7 +4,16 @@
 ghost use Rattle.std.specs.Prelude.{◌≡◌, ℕ, List, ◌++◌, length, Some, None, MatchOption, All};
 ghost use Rattle.lpm.specs.declared.fault.LpmFault.{LpmFault};
 ghost use Rattle.lpm.specs.declared.TheConstants.{MAX_MESSAGE_LEN};
-ghost use Rattle.lpm.specs.Messages.{frame, frames, max_message_len, prefix_of, IsMessage, Spells, IsFaultyAfter, AreBytes};
+ghost use Rattle.lpm.specs.Messages.{
+  frame,
+  frames,
+  max_message_len,
+  prefix_of,
+  IsMessage,
+  Spells,
+  IsFaultyAfter,
+  AreBytes,
+};
 ghost use Rattle.lpm.specs.Reading.{messages_of, rest_of, fault_of};
 
 /// Every list of bytes spells messages and an unfinished rest, or is faulty after messages: exactly

@@ -7,7 +7,24 @@
 //! `Splitter::end` reads the waiting bytes again, in time linear in the pieces and messages that
 //! wait. It is called once for each gRPC call, when little waits.
 
-ghost use Rattle.std.specs.Prelude.{◌≡◌, ℕ, ◌<◌, ◌≤◌, List, [], ◌++◌, length, All, IfErr, IfSome, OnErr, OnOk, IfNone, IfOk, Ok};
+ghost use Rattle.std.specs.Prelude.{
+  ◌≡◌,
+  ℕ,
+  ◌<◌,
+  ◌≤◌,
+  List,
+  [],
+  ◌++◌,
+  length,
+  All,
+  IfErr,
+  IfSome,
+  OnErr,
+  OnOk,
+  IfNone,
+  IfOk,
+  Ok,
+};
 ghost use Rattle.lpm.specs.declared.fault.LpmFault.TheVariants.{CutAtEnd, OutOfMemory};
 ghost use Rattle.lpm.specs.Messages.{frames, IsCut, IsMessage, IsNotCut};
 ghost use Rattle.lpm.specs.Splits.{Answers, Continues};

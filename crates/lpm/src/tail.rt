@@ -1,6 +1,22 @@
 //! Where bytes end: inside a message, or not.
 
-ghost use Rattle.std.specs.Prelude.{◌≡◌, ℕ, ◌+◌, ◌<◌, ◌≤◌, List, [], ◌++◌, length, take, IfErr, IfOk, OnOk, OnErr, Ok};
+ghost use Rattle.std.specs.Prelude.{
+  ◌≡◌,
+  ℕ,
+  ◌+◌,
+  ◌<◌,
+  ◌≤◌,
+  List,
+  [],
+  ◌++◌,
+  length,
+  take,
+  IfErr,
+  IfOk,
+  OnOk,
+  OnErr,
+  Ok,
+};
 ghost use Rattle.std.specs.List.{concat};
 ghost use Rattle.lpm.specs.declared.fault.LpmFault.TheVariants.{CutAtEnd};
 ghost use Rattle.lpm.specs.Messages.{IsCut, IsNotCut};

@@ -3,7 +3,23 @@
 -- the stream was opened once and not refused before, and where the sender gave nothing before its
 -- Open: otherwise the frames may be another's. A header block counts once its last frame is
 -- written.
-use Rattle.std.specs.Prelude.{◌≡◌, ◌⊎◌, ◌||◌, ◌&&◌, not, ℕ, ◌==◌, Bool, true, false, All, List, [], ◌∷◌, if◌then◌else◌}
+use Rattle.std.specs.Prelude.{
+  ◌≡◌,
+  ◌⊎◌,
+  ◌||◌,
+  ◌&&◌,
+  not,
+  ℕ,
+  ◌==◌,
+  Bool,
+  true,
+  false,
+  All,
+  List,
+  [],
+  ◌∷◌,
+  if◌then◌else◌,
+}
 use Rattle.account.specs.declared.call.OutItem.{OutItem}
 use Rattle.lists.specs.declared.field.Field.{Field}
 use Rattle.outwriter.specs.declared.control.Control.TheVariants.{Refuse}
@@ -20,7 +36,9 @@ refuses_stream id _ = false
 -- no Open and no Refuse of the stream was taken
 abbrev pub is_fresh : ℕ → List Step → Bool
 is_fresh id [] = true
-is_fresh id (Taken order ∷ before) = if opens_stream id order then false else (if refuses_stream id order then false else is_fresh id before)
+is_fresh id (Taken order ∷ before) =
+    if opens_stream id order then false
+    else (if refuses_stream id order then false else is_fresh id before)
 is_fresh id (Granted stream n ∷ before) = is_fresh id before
 is_fresh id (Returned stream items ∷ before) = is_fresh id before
 is_fresh id (Written frame ∷ before) = is_fresh id before
@@ -28,7 +46,8 @@ is_fresh id (Written frame ∷ before) = is_fresh id before
 -- the stream is a call's: it was opened once, and not refused before
 abbrev pub is_served : ℕ → List Step → Bool
 is_served id [] = false
-is_served id (Taken order ∷ before) = if opens_stream id order then is_fresh id before else is_served id before
+is_served id (Taken order ∷ before) =
+    if opens_stream id order then is_fresh id before else is_served id before
 is_served id (Granted stream n ∷ before) = is_served id before
 is_served id (Returned stream items ∷ before) = is_served id before
 is_served id (Written frame ∷ before) = is_served id before
@@ -37,7 +56,9 @@ is_served id (Written frame ∷ before) = is_served id before
 -- the items spell, or are a front of that and then a reset.
 abbrev pub TellFronts : List Step → List (ℕ × List OutItem) → Type 0
 TellFronts run calls =
-    All (λ call. is_served call.0 run ≡ true → (part : List Mark) × IsPart call.0 run part × IsFrontOf part (spelled call.1)) calls
+    All (λ call.
+    is_served call.0 run ≡ true
+    → (part : List Mark) × IsPart call.0 run part × IsFrontOf part (spelled call.1)) calls
 
 -- the sender of this stream, which had given these items, was given back
 abbrev pub IsReturned : ℕ → List OutItem → List Step → Type 0
@@ -45,12 +66,14 @@ IsReturned id items [] = ⊥
 IsReturned id items (Taken order ∷ before) = IsReturned id items before
 IsReturned id items (Granted stream n ∷ before) = IsReturned id items before
 IsReturned id items (Written frame ∷ before) = IsReturned id items before
-IsReturned id items (Returned stream found ∷ before) = ((id ≡ stream) × (items ≡ found)) ⊎ IsReturned id items before
+IsReturned id items (Returned stream found ∷ before) =
+    ((id ≡ stream) × (items ≡ found)) ⊎ IsReturned id items before
 
 -- the frames of each call whose sender was given back begin what its items spell, or are a front of
 -- that and then a reset
 abbrev pub TellReturned : List Step → Type 0
-TellReturned run = (id : ℕ) (items : List OutItem) → IsReturned id items run → is_served id run ≡ true
+TellReturned run =
+    (id : ℕ) (items : List OutItem) → IsReturned id items run → is_served id run ≡ true
     → (part : List Mark) × IsPart id run part × IsFrontOf part (spelled items)
 
 -- ---- streams that are no call's
@@ -70,11 +93,14 @@ IsRefused id fields (Written frame ∷ before) = IsRefused id fields before
 -- the frames are none, a reset, or the fields of a Refuse and the end of the stream
 abbrev pub IsOther : ℕ → List Step → List Mark → Type 0
 IsOther id run part = (part ≡ [])
-    ⊎ (((code : ℕ) × (part ≡ Reset code ∷ [])) ⊎ ((fields : List Field) × IsRefused id fields run × (part ≡ Fields fields ∷ End ∷ [])))
+    ⊎ (((code : ℕ) × (part ≡ Reset code ∷ []))
+    ⊎ ((fields : List Field) × IsRefused id fields run × (part ≡ Fields fields ∷ End ∷ [])))
 
 -- the frames of each stream that no Open opened are such
 abbrev pub TellOthers : List Step → Type 0
-TellOthers run = (id : ℕ) → is_opened id run ≡ false → (part : List Mark) × IsPart id run part × IsOther id run part
+TellOthers run =
+    (id : ℕ) → is_opened id run ≡ false
+    → (part : List Mark) × IsPart id run part × IsOther id run part
 
 -- ---- the end of the controls
 
@@ -102,7 +128,8 @@ calls_off id opened _ = false
 -- such a control was taken
 abbrev pub is_called_off : ℕ → List Step → Bool
 is_called_off id [] = false
-is_called_off id (Taken order ∷ before) = calls_off id (is_opened id before) order || is_called_off id before
+is_called_off id (Taken order ∷ before) =
+    calls_off id (is_opened id before) order || is_called_off id before
 is_called_off id (Granted stream n ∷ before) = is_called_off id before
 is_called_off id (Returned stream items ∷ before) = is_called_off id before
 is_called_off id (Written frame ∷ before) = is_called_off id before
@@ -123,4 +150,6 @@ is_dropped id (Written frame ∷ before) = is_dropped id before
 -- the end of each stream that was called off was written, by END_STREAM or RST_STREAM, unless the
 -- stream was dropped
 abbrev pub TellEnds : List Step → Type 0
-TellEnds run = (id : ℕ) → is_stream id ≡ true → is_called_off id run ≡ true → (is_over id run ≡ true) ⊎ (is_dropped id run ≡ true)
+TellEnds run =
+    (id : ℕ) → is_stream id ≡ true → is_called_off id run ≡ true
+    → (is_over id run ≡ true) ⊎ (is_dropped id run ≡ true)

@@ -1,5 +1,25 @@
 -- What callers see of a writer's core: which runs lead to it, and where no frame comes from it.
-use Rattle.std.specs.Prelude.{◌≡◌, ◌⊎◌, ℕ, Bool, true, false, All, List, [], ◌∷◌, ◌++◌, map, get_or, Option, None, Some, Result, Ok, Err}
+use Rattle.std.specs.Prelude.{
+  ◌≡◌,
+  ◌⊎◌,
+  ℕ,
+  Bool,
+  true,
+  false,
+  All,
+  List,
+  [],
+  ◌∷◌,
+  ◌++◌,
+  map,
+  get_or,
+  Option,
+  None,
+  Some,
+  Result,
+  Ok,
+  Err,
+}
 use Rattle.account.specs.declared.call.OutItem.{OutItem}
 use Rattle.callbox.specs.declared.sender.Sender.{Sender}
 use Rattle.flow.specs.Windows.{room}
@@ -15,7 +35,14 @@ use Rattle.outwriter.specs.declared.out_core.OutCore.{OutCore}
 use Rattle.outwriter.specs.declared.outbound.Outbound.{Outbound}
 use Rattle.outwriter.specs.declared.sending.Sending.{Sending}
 use Rattle.outwriter.specs.declared.stream.OpenStream.{OpenStream}
-use Rattle.outwriter.specs.Calls.{TellEnds, TellFronts, TellReturned, TellOthers, is_closed, is_served}
+use Rattle.outwriter.specs.Calls.{
+  TellEnds,
+  TellFronts,
+  TellReturned,
+  TellOthers,
+  is_closed,
+  is_served,
+}
 use Rattle.outwriter.specs.Drains.{IsUnsaid}
 use Rattle.outwriter.specs.Frames.{goaway_frame}
 use Rattle.outwriter.specs.Histories.{is_stream, is_over, was_reset}
@@ -46,15 +73,18 @@ module _ {L In Out Shut : Type 0} where
   takes_credit core id = pays core.sending.outbound.states id
 
   -- each call's stream, with the items that its sender gave, in the order of the Opens
-  abbrev pub calls : (Out → List OutItem) → List (ℕ × Sender L In Out Shut) → List (ℕ × List OutItem)
+  abbrev pub calls : (Out → List OutItem) → List (ℕ × Sender L In Out Shut)
+      → List (ℕ × List OutItem)
   calls got senders = map (λ call. (call.0, got call.1.rx)) senders
 
   -- each call's stream, the number that its sender has, and the sender's lane
-  abbrev pub lanes : {Name : Type 0} → (Out → Name) → List (ℕ × Sender L In Out Shut) → List (ℕ × ℕ × Name)
+  abbrev pub lanes : {Name : Type 0} → (Out → Name) → List (ℕ × Sender L In Out Shut)
+      → List (ℕ × ℕ × Name)
   lanes name senders = map (λ call. (call.0, call.1.id, name call.1.rx)) senders
 
   -- the sender that an Open brings comes after the others; nothing else changes them
-  abbrev pub Brings : Result (Unit {0}) (OutFault (Sender L In Out Shut)) → Control (Sender L In Out Shut) → List (ℕ × Sender L In Out Shut)
+  abbrev pub Brings : Result (Unit {0}) (OutFault (Sender L In Out Shut))
+      → Control (Sender L In Out Shut) → List (ℕ × Sender L In Out Shut)
       → List (ℕ × Sender L In Out Shut) → Type 0
   Brings (Ok done) (Open id sender) old new = new ≡ old ++ (id, sender) ∷ []
   Brings (Ok done) _ old new = new ≡ old
@@ -69,12 +99,14 @@ module _ {L In Out Shut : Type 0} where
   -- a dead core that may still say a last word may write any GOAWAY after this run
   abbrev pub Parts : List Step → OutCore L In Out Shut → Type 0
   Parts run core = core.is_dead ≡ true → core.may_part ≡ true
-      → (last : ℕ) (reason : Reason) → MayWrite (Taken (Goaway last reason) ∷ run) (goaway_frame last reason)
+      → (last : ℕ) (reason : Reason)
+      → MayWrite (Taken (Goaway last reason) ∷ run) (goaway_frame last reason)
 
   -- This run leads to the core. Each of its frames was lawful. What was written of each call is a
   -- front of what its sender gave, also where the sender was given back, and on other streams there
   -- is only what they may have. As long as the core lives, all that it keeps follows from the run.
-  pub record Leads (got : Out → List OutItem) (run : List Step) (core : OutCore L In Out Shut) : Type 0 where
+  pub record Leads (got : Out → List OutItem) (run : List Step)
+      (core : OutCore L In Out Shut) : Type 0 where
     pub lawful : IsLawful run
     pub fronts : TellFronts run (calls got core.sending.senders.items)
     pub returned : TellReturned run
@@ -85,10 +117,12 @@ module _ {L In Out Shut : Type 0} where
     pub keeps : core.is_dead ≡ false → Keeps got run core.sending
 
   -- whatever run led to the core before leads to the core after, with this step or alone
-  abbrev pub LeadsOn : (Out → List OutItem) → Step → OutCore L In Out Shut → OutCore L In Out Shut → Type 0
+  abbrev pub LeadsOn : (Out → List OutItem) → Step → OutCore L In Out Shut
+      → OutCore L In Out Shut → Type 0
   LeadsOn got step old new = (run : List Step) → Leads got run old → Leads got (step ∷ run) new
 
-  abbrev pub LeadsStill : (Out → List OutItem) → OutCore L In Out Shut → OutCore L In Out Shut → Type 0
+  abbrev pub LeadsStill : (Out → List OutItem) → OutCore L In Out Shut
+      → OutCore L In Out Shut → Type 0
   LeadsStill got old new = (run : List Step) → Leads got run old → Leads got run new
 
   -- the sender of an Open gave nothing before
@@ -97,14 +131,19 @@ module _ {L In Out Shut : Type 0} where
   IsUnused got _ = Unit {0}
 
   -- a control that is taken is the next step; where it is handed back, there is none
-  abbrev pub LeadsControl : (Out → List OutItem) → Result (Unit {0}) (OutFault (Sender L In Out Shut)) → Control (Sender L In Out Shut)
+  abbrev pub LeadsControl : (Out → List OutItem)
+      → Result (Unit {0}) (OutFault (Sender L In Out Shut)) → Control (Sender L In Out Shut)
       → OutCore L In Out Shut → OutCore L In Out Shut → Type 0
-  LeadsControl got (Ok done) control old new = IsUnused got control → LeadsOn got (Taken (order_of control)) old new
-  LeadsControl got (Err (PeerWindow id)) control old new = LeadsOn got (Taken (order_of control)) old new
-  LeadsControl got (Err (OutOfMemory back)) control old new = (back ≡ Some control) × LeadsStill got old new
+  LeadsControl got (Ok done) control old new =
+      IsUnused got control → LeadsOn got (Taken (order_of control)) old new
+  LeadsControl got (Err (PeerWindow id)) control old new =
+      LeadsOn got (Taken (order_of control)) old new
+  LeadsControl got (Err (OutOfMemory back)) control old new =
+      (back ≡ Some control) × LeadsStill got old new
 
   -- a frame is the next step
-  abbrev pub LeadsNext : (Out → List OutItem) → Result Next (OutFault (Sender L In Out Shut)) → OutCore L In Out Shut → OutCore L In Out Shut → Type 0
+  abbrev pub LeadsNext : (Out → List OutItem) → Result Next (OutFault (Sender L In Out Shut))
+      → OutCore L In Out Shut → OutCore L In Out Shut → Type 0
   LeadsNext got (Ok (next.Frame frame)) old new = LeadsOn got (Written frame) old new
   LeadsNext got (Ok next.Idle) old new = LeadsStill got old new
   LeadsNext got (Ok next.Over) old new = LeadsStill got old new
@@ -115,27 +154,35 @@ module _ {L In Out Shut : Type 0} where
   -- The last frame was a GOAWAY with an error, or each open stream is stuck: nothing is ahead of
   -- its sender, or what is in hand has no room.
   abbrev pub IsQuiet : (Out → List OutItem) → Sending L In Out Shut → Type 0
-  IsQuiet ahead s = (s.outbound.gone ≡ true) ⊎ AreStuck s.outbound (open_at s.outbound.states) (map (λ call. ahead call.1.rx) s.senders.items)
+  IsQuiet ahead s =
+      (s.outbound.gone ≡ true)
+      ⊎ AreStuck s.outbound (open_at s.outbound.states)
+      (map (λ call. ahead call.1.rx) s.senders.items)
 
   -- A call whose stream was opened once and not refused before has no frame: its end was written,
   -- or it was reset; or its stream is stuck, since nothing is ahead of its sender, or what is in
   -- hand has no room.
-  pub data HasNoFrame (run : List Step) (core : OutCore L In Out Shut) (id : ℕ) (ahead : List OutItem) : Type 0 where
+  pub data HasNoFrame (run : List Step) (core : OutCore L In Out Shut) (id : ℕ)
+      (ahead : List OutItem) : Type 0 where
     Ended : is_over id run ≡ true → HasNoFrame run core id ahead
     WasReset : was_reset id run ≡ true → HasNoFrame run core id ahead
-    Stuck : (stream : OpenStream) → open_stream core id ≡ Some stream → IsStuck (room core.sending.outbound.states.windows id) stream.in_hand ahead
+    Stuck : (stream : OpenStream) → open_stream core id ≡ Some stream
+        → IsStuck (room core.sending.outbound.states.windows id) stream.in_hand ahead
         → HasNoFrame run core id ahead
 
   -- no call has a frame, unless the last frame was a GOAWAY with an error
   abbrev pub HaveNoFrame : (Out → List OutItem) → List Step → OutCore L In Out Shut → Type 0
   HaveNoFrame ahead run core = (core.sending.outbound.gone ≡ true)
-      ⊎ All (λ call. is_served call.0 run ≡ true → is_stream call.0 ≡ true → HasNoFrame run core call.0 (ahead call.1.rx)) core.sending.senders.items
+      ⊎ All (λ call.
+      is_served call.0 run ≡ true → is_stream call.0 ≡ true
+      → HasNoFrame run core call.0 (ahead call.1.rx)) core.sending.senders.items
 
   -- All that controls asked for was written, with each header block whole, and no credit is owed.
   -- Nothing can be written on an open stream, so each call has ended, was reset, or has nothing
   -- that can be written now. The end of each stream that was called off was written. After a GOAWAY
   -- with an error none of this is needed.
-  pub record IsAtRest (ahead : Out → List OutItem) (run : List Step) (core : OutCore L In Out Shut) : Type 0 where
+  pub record IsAtRest (ahead : Out → List OutItem) (run : List Step)
+      (core : OutCore L In Out Shut) : Type 0 where
     pub answered : IsAnswered run
     pub quiet : IsQuiet ahead core.sending
     pub no_frame : HaveNoFrame ahead run core

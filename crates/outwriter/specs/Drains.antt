@@ -3,7 +3,22 @@
 -- whose acknowledgement shows that the warning was read. Then a GOAWAY names the greatest stream
 -- whose call was admitted, 0 for none; streams after that are refused. Runs have the latest step
 -- first.
-use Rattle.std.specs.Prelude.{◌≡◌, ℕ, ◌^◌, ◌-◌, ◌||◌, Bool, true, false, List, [], ◌∷◌, Option, None, Some}
+use Rattle.std.specs.Prelude.{
+  ◌≡◌,
+  ℕ,
+  ◌^◌,
+  ◌-◌,
+  ◌||◌,
+  Bool,
+  true,
+  false,
+  List,
+  [],
+  ◌∷◌,
+  Option,
+  None,
+  Some,
+}
 use Rattle.std.specs.List.{find}
 use Rattle.std.specs.Option.{is_some, option_or}
 use Rattle.h2frame.specs.declared.error_code.ErrorCode.TheVariants.{NoError}

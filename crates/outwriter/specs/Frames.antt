@@ -1,14 +1,45 @@
 -- The frames of a server's connection (RFC 9113, section 6), and what a frame says.
-use Rattle.std.specs.Prelude.{◌≡◌, bit_and, drop, take, ◌+◌, ℕ, ◌==◌, ◌&&◌, not, Bool, true, false, List, [], ◌++◌, length, if◌then◌else◌, None}
+use Rattle.std.specs.Prelude.{
+  ◌≡◌,
+  bit_and,
+  drop,
+  take,
+  ◌+◌,
+  ℕ,
+  ◌==◌,
+  ◌&&◌,
+  not,
+  Bool,
+  true,
+  false,
+  List,
+  [],
+  ◌++◌,
+  length,
+  if◌then◌else◌,
+  None,
+}
 use Rattle.std.specs.Int.{bytes_high_first, from_be_bytes, w32}
 use Rattle.h2frame.specs.declared.error_code.ErrorCode.{ErrorCode}
 use Rattle.h2frame.specs.declared.frame.Frame.{Frame}
 use Rattle.h2frame.specs.declared.kind.FrameKind.{FrameKind}
-use Rattle.h2frame.specs.declared.kind.FrameKind.TheVariants.{Data, Headers, RstStream, Settings, Ping, GoAway, WindowUpdate, Continuation}
+use Rattle.h2frame.specs.declared.kind.FrameKind.TheVariants.{
+  Data,
+  Headers,
+  RstStream,
+  Settings,
+  Ping,
+  GoAway,
+  WindowUpdate,
+  Continuation,
+}
 use Rattle.h2frame.specs.ErrorCode.{error_number}
 use Rattle.h2frame.specs.Faults.{frame_fault, increment_of}
 use Rattle.flow.specs.declared.TheConstants.{MAX_LIVE}
-use Rattle.h2frame.specs.declared.setting.SettingId.TheVariants.{MaxConcurrentStreams, MaxHeaderListSize}
+use Rattle.h2frame.specs.declared.setting.SettingId.TheVariants.{
+  MaxConcurrentStreams,
+  MaxHeaderListSize,
+}
 use Rattle.h2frame.specs.Setting.{setting_code}
 use Rattle.h2frame.specs.Flags.{has, ack, end_stream, end_headers}
 use Rattle.h2frame.specs.Spelling.{IsWritable}
@@ -19,7 +50,15 @@ use Rattle.reasons.specs.Texts.{text_of}
 -- a frame without padding or priority
 abbrev pub frame_with : FrameKind → ℕ → ℕ → List ℕ → Frame
 frame_with kind bits stream content =
-    record { head = record { kind = kind; flags = record { bits = bits }; stream = stream; length = length content }; content = content }
+    record {
+      head = record {
+        kind = kind;
+        flags = record { bits = bits };
+        stream = stream;
+        length = length content;
+      };
+      content = content;
+    }
 
 -- ---- the frames that a writer makes
 
@@ -32,7 +71,9 @@ max_field_bytes = 16384
 
 -- the limits of streams at once and of bytes of fields (section 6.5.2)
 abbrev pub first_settings : Frame
-first_settings = frame_with Settings 0 0 (parameter (setting_code MaxConcurrentStreams) MAX_LIVE ++ parameter (setting_code MaxHeaderListSize) max_field_bytes)
+first_settings =
+    frame_with Settings 0 0 (parameter (setting_code MaxConcurrentStreams) MAX_LIVE
+    ++ parameter (setting_code MaxHeaderListSize) max_field_bytes)
 
 abbrev pub settings_ack : Frame
 settings_ack = frame_with Settings ack 0 []
@@ -49,7 +90,10 @@ reset_frame id code = frame_with RstStream 0 id (bytes_high_first 4 (error_numbe
 
 -- the last stream, the code, and why, as debug data (section 6.8)
 abbrev pub goaway_frame : ℕ → Reason → Frame
-goaway_frame last reason = frame_with GoAway 0 0 ((bytes_high_first 4 last ++ bytes_high_first 4 (error_number (code_of reason))) ++ text_of reason)
+goaway_frame last reason =
+    frame_with GoAway 0 0
+    ((bytes_high_first 4 last ++ bytes_high_first 4 (error_number (code_of reason)))
+    ++ text_of reason)
 
 abbrev pub update_frame : ℕ → ℕ → Frame
 update_frame id increment = frame_with WindowUpdate 0 id (bytes_high_first 4 increment)
@@ -116,7 +160,8 @@ update_kind _ content = 0
 
 -- the credit that a frame gives on a stream, or on the connection as stream 0
 abbrev pub update_on : ℕ → Frame → ℕ
-update_on id frame = if id == frame.head.stream then update_kind frame.head.kind frame.content else 0
+update_on id frame =
+    if id == frame.head.stream then update_kind frame.head.kind frame.content else 0
 
 -- ---- what each frame must be, whatever came before it
 

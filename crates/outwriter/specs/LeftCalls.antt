@@ -15,4 +15,5 @@ GaveLeft id calls = (items : List OutItem) × Contains calls (id, items) × Cont
 
 -- the sender of the call at this place didn't give last that its call was left, or there is none
 abbrev pub WasNotLeftAt : ℕ → List (ℕ × List OutItem) → Type 0
-WasNotLeftAt place calls = place < length calls → (d : ℕ × List OutItem) → last_of (get_or calls place d).1 ≢ Some Left
+WasNotLeftAt place calls =
+    place < length calls → (d : ℕ × List OutItem) → last_of (get_or calls place d).1 ≢ Some Left

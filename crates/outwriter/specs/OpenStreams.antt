@@ -1,5 +1,20 @@
 -- What is kept of open streams: the place of each one's sender, and what is in hand.
-use Rattle.std.specs.Prelude.{◌≡◌, ℕ, ◌==◌, Bool, true, false, List, [], ◌∷◌, Option, None, Some, is_some, if◌then◌else◌}
+use Rattle.std.specs.Prelude.{
+  ◌≡◌,
+  ℕ,
+  ◌==◌,
+  Bool,
+  true,
+  false,
+  List,
+  [],
+  ◌∷◌,
+  Option,
+  None,
+  Some,
+  is_some,
+  if◌then◌else◌,
+}
 use Rattle.outwriter.specs.declared.stream.OpenStream.{OpenStream}
 
 -- a stream that is open, by its number
@@ -31,7 +46,8 @@ SameHands old new = (k : ℕ) → shows new k ≡ shows old k
 
 -- this is in hand of one stream now
 abbrev pub HandIs : ℕ → Option (List ℕ) → OpenStreams → OpenStreams → Type 0
-HandIs id hand old new = (k : ℕ) → shows new k ≡ (if k == id then with_hand hand (shows old k) else shows old k)
+HandIs id hand old new =
+    (k : ℕ) → shows new k ≡ (if k == id then with_hand hand (shows old k) else shows old k)
 
 -- what is in hand of a message, if any of it is left
 abbrev pub kept : List ℕ → Option (List ℕ)
@@ -57,4 +73,5 @@ with_place from to None = None
 with_place from to (Some s) = Some (if s.0 == from then to else s.0, s.1)
 
 abbrev pub PlaceIs : ℕ → ℕ → ℕ → OpenStreams → OpenStreams → Type 0
-PlaceIs id from to old new = (k : ℕ) → shows new k ≡ (if k == id then with_place from to (shows old k) else shows old k)
+PlaceIs id from to old new =
+    (k : ℕ) → shows new k ≡ (if k == id then with_place from to (shows old k) else shows old k)

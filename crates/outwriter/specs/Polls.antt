@@ -22,7 +22,8 @@ to_write (Some (Message bytes)) ahead = ahead
 to_write (Some (Trailers fields)) ahead = ahead
 to_write None ahead = ahead
 
-abbrev pub coming : {Out : Type 0} → (Out → List OutItem) → (Out → List OutItem) → Out → List OutItem
+abbrev pub coming : {Out : Type 0} → (Out → List OutItem) → (Out → List OutItem)
+    → Out → List OutItem
 coming got ahead rx = to_write (last_of (got rx)) (ahead rx)
 
 -- nothing was got, or only that the call was left
@@ -32,8 +33,12 @@ GotNone before left after = (after ≡ before) ⊎ (after ≡ left)
 -- A lane had given the items of `before`, and then those of `after`. A poll found nothing, or that
 -- the call was left, and nothing is to be written; or one more item: a message, or fields, whose
 -- block an encoder that kept `from` wrote, and now keeps `to`.
-abbrev pub Polls : List OutItem → List OutItem → List OutItem → Option Encoding → Option Encoding → Polled → Type 0
-Polls before after coming from to polled.Nothing = GotNone before (before ++ Left ∷ []) after × (coming ≡ []) × (to ≡ from)
-Polls before after coming from to (polled.Message bytes) = (after ≡ before ++ Message bytes ∷ []) × (to ≡ from)
+abbrev pub Polls : List OutItem → List OutItem → List OutItem → Option Encoding
+    → Option Encoding → Polled → Type 0
+Polls before after coming from to polled.Nothing =
+    GotNone before (before ++ Left ∷ []) after × (coming ≡ []) × (to ≡ from)
+Polls before after coming from to (polled.Message bytes) =
+    (after ≡ before ++ Message bytes ∷ []) × (to ≡ from)
 Polls before after coming from to (polled.Block bytes ends) =
-    (fields : List Field) × (after ≡ before ++ block_item ends fields ∷ []) × Writes from fields bytes to
+    (fields : List Field) × (after ≡ before ++ block_item ends fields ∷ [])
+    × Writes from fields bytes to

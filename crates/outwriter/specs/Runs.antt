@@ -1,6 +1,33 @@
 -- Which runs of a server's writer are lawful (RFC 9113, sections 3.4, 4.1 to 4.3, 5.1, 5.4.2, 6.4,
 -- 6.5, 6.7 to 6.10 and 8.1).
-use Rattle.std.specs.Prelude.{◌≡◌, ◌≢◌, ℕ, ◌+◌, ◌-◌, min, ◌<◌, ◌≤◌, ◌⊎◌, ◌==◌, ◌&&◌, ◌||◌, ◌^◌, Bool, true, false, List, [], ◌∷◌, ◌++◌, Option, None, Some, not, filter, if◌then◌else◌}
+use Rattle.std.specs.Prelude.{
+  ◌≡◌,
+  ◌≢◌,
+  ℕ,
+  ◌+◌,
+  ◌-◌,
+  min,
+  ◌<◌,
+  ◌≤◌,
+  ◌⊎◌,
+  ◌==◌,
+  ◌&&◌,
+  ◌||◌,
+  ◌^◌,
+  Bool,
+  true,
+  false,
+  List,
+  [],
+  ◌∷◌,
+  ◌++◌,
+  Option,
+  None,
+  Some,
+  not,
+  filter,
+  if◌then◌else◌,
+}
 use Rattle.std.specs.List.{list_any}
 use Rattle.std.specs.Option.{option_map}
 use Rattle.account.specs.Accounts.{Begins}
@@ -11,8 +38,30 @@ use Rattle.h2frame.specs.declared.error_code.ErrorCode.{ErrorCode}
 use Rattle.h2frame.specs.declared.frame.Frame.{Frame}
 use Rattle.h2frame.specs.declared.kind.FrameKind.{FrameKind}
 use Rattle.h2frame.specs.declared.kind.FrameKind.TheVariants as kind
-use Rattle.outwriter.specs.declared.control.Control.TheVariants.{Settings, Ping, Probe, Open, Reset, Goaway}
-use Rattle.outwriter.specs.Frames.{IsSound, first_settings, settings_ack, ping_ack, ping_frame, reset_frame, goaway_frame, update_frame, ends_stream, ends_block, is_last, update_on, resets, ends}
+use Rattle.outwriter.specs.declared.control.Control.TheVariants.{
+  Settings,
+  Ping,
+  Probe,
+  Open,
+  Reset,
+  Goaway,
+}
+use Rattle.outwriter.specs.Frames.{
+  IsSound,
+  first_settings,
+  settings_ack,
+  ping_ack,
+  ping_frame,
+  reset_frame,
+  goaway_frame,
+  update_frame,
+  ends_stream,
+  ends_block,
+  is_last,
+  update_on,
+  resets,
+  ends,
+}
 use Rattle.outwriter.specs.Histories.{HasHistory, is_stream, resets_stream, was_reset}
 use Rattle.outwriter.specs.Steps.{Step, Order, Taken, Granted, Written, Returned, frames_of}
 
@@ -76,7 +125,8 @@ without_goaway frames = filter (λ frame. not (is_goaway frame.head.kind)) frame
 -- these are among those, in order
 abbrev pub AreAmong : List Frame → List Frame → Type 0
 AreAmong frames [] = frames ≡ []
-AreAmong frames (first ∷ others) = AreAmong frames others ⊎ ((rest : List Frame) × (frames ≡ first ∷ rest) × AreAmong rest others)
+AreAmong frames (first ∷ others) =
+    AreAmong frames others ⊎ ((rest : List Frame) × (frames ≡ first ∷ rest) × AreAmong rest others)
 
 -- ---- resets (section 6.4)
 
@@ -89,7 +139,8 @@ Asks id code _ = ⊥
 -- (section 5.4.2).
 abbrev pub IsAsked : ℕ → ErrorCode → List Step → Type 0
 IsAsked id code [] = ⊥
-IsAsked id code (Taken order ∷ before) = (Asks id code order × (was_reset id before ≡ false)) ⊎ IsAsked id code before
+IsAsked id code (Taken order ∷ before) =
+    (Asks id code order × (was_reset id before ≡ false)) ⊎ IsAsked id code before
 IsAsked id code (Granted stream n ∷ before) = IsAsked id code before
 IsAsked id code (Returned stream items ∷ before) = IsAsked id code before
 IsAsked id code (Written frame ∷ before) = IsAsked id code before
@@ -109,9 +160,14 @@ pub record Fragments : Type 0 where
 
 -- the fragments that a frame begins or goes on, where it is one of a header block
 abbrev pub fragments_kind : FrameKind → Frame → Option Fragments → Option Fragments
-fragments_kind kind.Headers frame begun = Some (record { stream = frame.head.stream; bytes = frame.content; ends_it = ends_stream frame })
+fragments_kind kind.Headers frame begun =
+    Some (record { stream = frame.head.stream; bytes = frame.content; ends_it = ends_stream frame })
 fragments_kind kind.Continuation frame begun =
-    option_map (λ block. record { stream = block.stream; bytes = block.bytes ++ frame.content; ends_it = block.ends_it }) begun
+    option_map (λ block. record {
+      stream = block.stream;
+      bytes = block.bytes ++ frame.content;
+      ends_it = block.ends_it;
+    }) begun
 fragments_kind _ frame begun = None
 
 abbrev pub fragments : Frame → Option Fragments → Option Fragments
@@ -123,11 +179,13 @@ unfinished [] = None
 unfinished (Taken order ∷ before) = unfinished before
 unfinished (Granted id n ∷ before) = unfinished before
 unfinished (Returned id items ∷ before) = unfinished before
-unfinished (Written frame ∷ before) = if ends_block frame then None else fragments frame (unfinished before)
+unfinished (Written frame ∷ before) =
+    if ends_block frame then None else fragments frame (unfinished before)
 
 -- nothing comes between the frames of a header block, and a CONTINUATION nowhere else
 abbrev pub Continues : Option Fragments → Frame → Type 0
-Continues (Some block) frame = (frame.head.kind ≡ kind.Continuation) × (frame.head.stream ≡ block.stream)
+Continues (Some block) frame =
+    (frame.head.kind ≡ kind.Continuation) × (frame.head.stream ≡ block.stream)
 Continues None frame = frame.head.kind ≢ kind.Continuation
 
 -- ---- credit (section 6.9)
@@ -152,8 +210,11 @@ may_owe id run = (id == 0) || ((is_stream id && is_opened id run) && not (was_re
 -- was written. Nothing is owed on a stream that was reset.
 abbrev pub owed : ℕ → List Step → ℕ
 owed id [] = 0
-owed id (Taken order ∷ before) = if resets_stream id order && is_stream id then 0 else owed id before
-owed id (Granted stream n ∷ before) = if (id == stream) && may_owe id before then min (owed id before + n) MAX_WINDOW else owed id before
+owed id (Taken order ∷ before) =
+    if resets_stream id order && is_stream id then 0 else owed id before
+owed id (Granted stream n ∷ before) =
+    if (id == stream) && may_owe id before then min (owed id before + n) MAX_WINDOW
+    else owed id before
 owed id (Returned stream items ∷ before) = owed id before
 owed id (Written frame ∷ before) = owed id before - update_on id frame
 
@@ -163,7 +224,9 @@ owed id (Written frame ∷ before) = owed id before - update_on id frame
 -- (sections 4.2 and 6.9.1)
 abbrev pub FitsWindows : List Step → Frame → Type 0
 FitsWindows before frame = (frame.head.length ≤ 16384)
-    × (0 < frame.head.length → (history : List WindowStep) × HasHistory before history × (frame.head.length ≤ room_after history frame.head.stream))
+    × (0 < frame.head.length
+    → (history : List WindowStep) × HasHistory before history
+    × (frame.head.length ≤ room_after history frame.head.stream))
 
 -- after END_STREAM a stream has only the rest of the header block that has it, and WINDOW_UPDATE
 -- (section 5.1)
@@ -179,21 +242,30 @@ pub record MayWrite (before : List Step) (frame : Frame) : Type 0 where
   pub content : frame.head.kind ≡ kind.Data → (0 < frame.head.length) ⊎ (ends_stream frame ≡ true)
   -- acknowledgements and PINGs come after the controls that ask for them, and in their order; the
   -- only other frames are DATA, header blocks, resets, credit and GOAWAY
-  pub answers : Begins (without_goaway (told before ++ told_by (has_begun (frames_of before)) frame)) (without_goaway (due before))
+  pub answers :
+      Begins (without_goaway (told before ++ told_by (has_begun (frames_of before)) frame))
+      (without_goaway (due before))
   -- GOAWAY comes after the control that asks for it, and in order among GOAWAYs
-  pub parts : AreAmong (goaways (told before ++ told_by (has_begun (frames_of before)) frame)) (goaways (due before))
+  pub parts :
+      AreAmong (goaways (told before ++ told_by (has_begun (frames_of before)) frame))
+      (goaways (due before))
   -- a reset comes after the control that asks for it, which is the first Reset of its stream
-  pub asked : frame.head.kind ≡ kind.RstStream → (code : ErrorCode) × IsAsked frame.head.stream code before × (frame ≡ reset_frame frame.head.stream code)
+  pub asked : frame.head.kind ≡ kind.RstStream
+      → (code : ErrorCode) × IsAsked frame.head.stream code before
+      × (frame ≡ reset_frame frame.head.stream code)
   -- after a Reset nothing else comes on its stream
-  pub after_reset : is_stream frame.head.stream ≡ true → was_reset frame.head.stream before ≡ true → MayFollowReset frame.head.kind
+  pub after_reset : is_stream frame.head.stream ≡ true → was_reset frame.head.stream before ≡ true
+      → MayFollowReset frame.head.kind
   pub block : Continues (unfinished before) frame
   pub not_reset : list_any (resets frame.head.stream) (frames_of before) ≡ false
-  pub not_ended : list_any (ends frame.head.stream) (frames_of before) ≡ true → MayFollowEnd frame.head.kind
+  pub not_ended : list_any (ends frame.head.stream) (frames_of before) ≡ true
+      → MayFollowEnd frame.head.kind
   pub goes_on : list_any is_last (frames_of before) ≡ false
   -- no more credit comes than is owed
   pub owes : (id : ℕ) → update_on id frame ≤ owed id before
   -- credit is of 1 to 2^31 - 1 bytes, and its frame has nothing else
-  pub update : frame.head.kind ≡ kind.WindowUpdate → (n : ℕ) × (0 < n) × (n < 2 ^ 31) × (frame ≡ update_frame frame.head.stream n)
+  pub update : frame.head.kind ≡ kind.WindowUpdate
+      → (n : ℕ) × (0 < n) × (n < 2 ^ 31) × (frame ≡ update_frame frame.head.stream n)
 
 -- each frame of the run is sound, and may be written after the steps before it
 abbrev pub IsLawful : List Step → Type 0

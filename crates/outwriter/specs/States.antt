@@ -1,6 +1,47 @@
 -- The states of a connection's streams (RFC 9113, section 5.1), and the credit that is owed to the
 -- peer (section 6.9).
-use Rattle.std.specs.Prelude.{◌≡◌, ◌≢◌, ℕ, ℤ, pos, int_le, ◌+ℤ◌, ◌<ℤ◌, ◌+◌, ◌<◌, ◌≤◌, ◌^◌, ◌==◌, ◌||◌, ◌&&◌, ◌⊎◌, min, not, nat_eq, Bool, true, false, List, [], ◌∷◌, ◌++◌, length, get_or, map, filter, All, MatchOption, Result, Ok, Err, Option, None, Some, is_some, if◌then◌else◌}
+use Rattle.std.specs.Prelude.{
+  ◌≡◌,
+  ◌≢◌,
+  ℕ,
+  ℤ,
+  pos,
+  int_le,
+  ◌+ℤ◌,
+  ◌<ℤ◌,
+  ◌+◌,
+  ◌<◌,
+  ◌≤◌,
+  ◌^◌,
+  ◌==◌,
+  ◌||◌,
+  ◌&&◌,
+  ◌⊎◌,
+  min,
+  not,
+  nat_eq,
+  Bool,
+  true,
+  false,
+  List,
+  [],
+  ◌∷◌,
+  ◌++◌,
+  length,
+  get_or,
+  map,
+  filter,
+  All,
+  MatchOption,
+  Result,
+  Ok,
+  Err,
+  Option,
+  None,
+  Some,
+  is_some,
+  if◌then◌else◌,
+}
 use Rattle.std.specs.Map.{lookup, set_value}
 use Rattle.std.specs.Option.{option_map}
 use Rattle.indexmap.specs.IndexMap.{insert_entry, set_value_at}
@@ -8,7 +49,14 @@ use Rattle.flow.specs.declared.TheConstants.{MAX_WINDOW}
 use Rattle.flow.specs.WindowHistory.{Step, Follows, Opening, Closing}
 use Rattle.flow.specs.declared.send_windows.WindowFault.{WindowFault}
 use Rattle.flow.specs.declared.send_windows.WindowFault.TheVariants.{Overflow, Unknown}
-use Rattle.flow.specs.Windows.{Shared, Windows, Fits as FitsWindow, balance, lesser_if_open, new_windows}
+use Rattle.flow.specs.Windows.{
+  Shared,
+  Windows,
+  Fits as FitsWindow,
+  balance,
+  lesser_if_open,
+  new_windows,
+}
 use Rattle.outwriter.specs.declared.stream_state.Change.{Change}
 use Rattle.outwriter.specs.declared.stream_state.Change.TheVariants as change
 use Rattle.outwriter.specs.declared.stream_state.Over.{Over}
@@ -135,7 +183,8 @@ SameButWindows old new = new ≡ record old { windows = new.windows }
 -- whatever history led to the windows before, with these steps, of which the latest is first, it
 -- leads to those after
 abbrev pub Moves : States → List Step → States → Type 0
-Moves old steps new = (history : List Step) → Follows history old.windows → Follows (steps ++ history) new.windows
+Moves old steps new =
+    (history : List Step) → Follows history old.windows → Follows (steps ++ history) new.windows
 
 -- an Open opens a stream's window, unless that is open, or the stream is over or was reset
 abbrev pub opens_window : States → ℕ → Bool
@@ -151,7 +200,10 @@ SameOpen old new = open_at new ≡ open_at old
 
 -- which streams are a call's, which may be owed something, and which were reset doesn't change
 abbrev pub SameStreams : States → States → Type 0
-SameStreams old new = (id : ℕ) → (knows new id ≡ knows old id) × (pays new id ≡ pays old id) × (is_reset new id ≡ is_reset old id)
+SameStreams old new =
+    (id : ℕ)
+    → (knows new id ≡ knows old id) × (pays new id ≡ pays old id)
+    × (is_reset new id ≡ is_reset old id)
 
 -- which streams' ends were written doesn't change
 abbrev pub SameOver : States → States → Type 0
@@ -159,7 +211,8 @@ SameOver old new = (id : ℕ) → over_on new id ≡ over_on old id
 
 -- which streams' ends were written, and which were heard of, doesn't change
 abbrev pub SameEnds : States → States → Type 0
-SameEnds old new = (id : ℕ) → (over_on new id ≡ over_on old id) × (is_heard new id ≡ is_heard old id)
+SameEnds old new =
+    (id : ℕ) → (over_on new id ≡ over_on old id) × (is_heard new id ≡ is_heard old id)
 
 -- this stream was heard of too
 abbrev pub Hears : States → ℕ → States → Type 0
@@ -171,7 +224,9 @@ SameOwed old new = SameStreams old new × ((id : ℕ) → owed_on new id ≡ owe
 
 -- the end of a stream is written, by RST_STREAM or not
 abbrev pub SetsEnd : States → ℕ → Bool → States → Type 0
-SetsEnd old id value new = ((other : ℕ) → over_on new other ≡ (if other == id then Some value else over_on old other)) × Hears old id new
+SetsEnd old id value new =
+    ((other : ℕ) → over_on new other ≡ (if other == id then Some value else over_on old other))
+    × Hears old id new
 
 -- a call begins, on whose stream credit may be owed unless it was reset
 abbrev pub Opens : States → ℕ → States → Type 0
@@ -183,7 +238,10 @@ Opens old id new = (other : ℕ) → (owed_on new other ≡ owed_on old other)
 -- n bytes more are owed on a stream that may be owed something
 abbrev pub Grants : States → ℕ → ℕ → States → Type 0
 Grants old id n new = SameStreams old new
-    × ((other : ℕ) → owed_on new other ≡ (if other == id then (if pays old id then more (owed_on old id) n else 0) else owed_on old other))
+    × ((other : ℕ)
+    → owed_on new other
+    ≡ (if other == id then (if pays old id then more (owed_on old id) n else 0)
+    else owed_on old other))
 
 -- a stream is reset, and nothing is owed on it any more
 abbrev pub Resets : States → ℕ → States → Type 0
@@ -194,35 +252,50 @@ Resets old id new = (other : ℕ) → (knows new other ≡ knows old other)
 
 -- all that is owed on a stream is taken, or nothing is owed at all
 abbrev pub TakesAll : States → Option (ℕ × ℕ) → States → Type 0
-TakesAll old None new = ((id : ℕ) → owed_on old id ≡ 0) × ((id : ℕ) → owed_on new id ≡ 0) × SameStreams old new
-TakesAll old (Some taken) new = (0 < taken.1) × (taken.1 ≤ MAX_WINDOW) × (pays old taken.0 ≡ true) × (owed_on old taken.0 ≡ taken.1)
-    × ((id : ℕ) → owed_on new id ≡ (if id == taken.0 then 0 else owed_on old id)) × SameStreams old new
+TakesAll old None new =
+    ((id : ℕ) → owed_on old id ≡ 0) × ((id : ℕ) → owed_on new id ≡ 0) × SameStreams old new
+TakesAll old (Some taken) new =
+    (0 < taken.1) × (taken.1 ≤ MAX_WINDOW) × (pays old taken.0 ≡ true)
+    × (owed_on old taken.0 ≡ taken.1)
+    × ((id : ℕ) → owed_on new id ≡ (if id == taken.0 then 0 else owed_on old id))
+    × SameStreams old new
 
 -- a state is put at a stream
 abbrev pub Puts : States → ℕ → StreamState → States → Type 0
-Puts old id state new = (other : ℕ) → lookup (nat_eq other) new.streams ≡ (if nat_eq id other then Some state else lookup (nat_eq other) old.streams)
+Puts old id state new =
+    (other : ℕ)
+    → lookup (nat_eq other) new.streams
+    ≡ (if nat_eq id other then Some state else lookup (nat_eq other) old.streams)
 
 -- a stream becomes open of which nothing was heard
 abbrev pub BecomesOpen : States → ℕ → Option OpenStream → States → Type 0
-BecomesOpen old id opened new = (other : ℕ) → open_at new other ≡ (if not (is_heard old id) && (other == id) then opened else open_at old other)
+BecomesOpen old id opened new =
+    (other : ℕ)
+    → open_at new other
+    ≡ (if not (is_heard old id) && (other == id) then opened else open_at old other)
 
 -- ---- what changes a stream's state
 
 abbrev pub HasParts : Option Over → ℕ → Bool → Bool → Bool → StreamState → Type 0
 HasParts over amount call paid was_reset state =
-    (end_of state ≡ over) × (amount_of state ≡ amount) × (is_of_call state ≡ call) × (is_paid state ≡ paid) × (is_reset_state state ≡ was_reset)
+    (end_of state ≡ over) × (amount_of state ≡ amount) × (is_of_call state ≡ call)
+    × (is_paid state ≡ paid) × (is_reset_state state ≡ was_reset)
 
 -- a stream's state after a change
 abbrev pub IsAfter : Change → StreamState → StreamState → Type 0
-IsAfter change.Open old new = HasParts (end_of old) (amount_of old) true (not (is_reset_state old)) (is_reset_state old) new
-IsAfter change.Hear old new = HasParts (end_of old) (amount_of old) (is_of_call old) (is_paid old) (is_reset_state old) new
+IsAfter change.Open old new =
+    HasParts (end_of old) (amount_of old) true (not (is_reset_state old)) (is_reset_state old) new
+IsAfter change.Hear old new =
+    HasParts (end_of old) (amount_of old) (is_of_call old) (is_paid old) (is_reset_state old) new
 IsAfter change.Reset old new = HasParts (end_of old) 0 (is_of_call old) false true new
-IsAfter (change.End by) old new = HasParts (Some by) (amount_of old) (is_of_call old) (is_paid old) (is_reset_state old) new
+IsAfter (change.End by) old new =
+    HasParts (Some by) (amount_of old) (is_of_call old) (is_paid old) (is_reset_state old) new
 
 -- the balance of a stream's window after a change: an Open opens the window, unless it is open, or
 -- the stream is over or was reset; a reset and the stream's end close it
 abbrev pub balance_after : Change → StreamState → Option ℤ → Option ℤ
-balance_after change.Open state kept = if can_write state && not (is_some kept) then Some (pos 0) else kept
+balance_after change.Open state kept =
+    if can_write state && not (is_some kept) then Some (pos 0) else kept
 balance_after change.Hear state kept = kept
 balance_after change.Reset state kept = None
 balance_after (change.End by) state kept = None
@@ -236,13 +309,15 @@ steps_of (change.End by) states id = Closing id ∷ []
 
 -- the state after a change is put at a stream
 abbrev pub PutsAfter : Change → States → ℕ → States → Type 0
-PutsAfter change old id new = (state : StreamState) × IsAfter change (state_on old id) state × Puts old id state new
+PutsAfter change old id new =
+    (state : StreamState) × IsAfter change (state_on old id) state × Puts old id state new
 
 -- ---- the window of one stream, by its balance
 
 -- how many bytes may be sent on it: none, if its window isn't open
 abbrev pub room_in : Shared → Option ℤ → ℕ
-room_in shared kept = lesser_if_open shared.connection (option_map (λ b. pos shared.initial +ℤ b) kept)
+room_in shared kept =
+    lesser_if_open shared.connection (option_map (λ b. pos shared.initial +ℤ b) kept)
 
 -- with this initial size it is at most 2^31 - 1, if it is open
 abbrev pub fits_with : ℕ → Option ℤ → Bool
@@ -252,8 +327,10 @@ fits_with size (Some b) = int_le (pos size +ℤ b) (pos MAX_WINDOW)
 -- it is credited, or isn't open, or would be larger than 2^31 - 1
 abbrev pub CreditsStream : Shared → Option ℤ → Option ℤ → ℕ → Result (Unit {0}) WindowFault → Type 0
 CreditsStream shared None new n answer = (new ≡ None) × (answer ≡ Err Unknown)
-CreditsStream shared (Some b) new n (Ok done) = (new ≡ Some (b +ℤ pos n)) × FitsWindow ((pos shared.initial +ℤ b) +ℤ pos n)
-CreditsStream shared (Some b) new n (Err fault) = (new ≡ Some b) × (fault ≡ Overflow) × (pos MAX_WINDOW <ℤ ((pos shared.initial +ℤ b) +ℤ pos n))
+CreditsStream shared (Some b) new n (Ok done) =
+    (new ≡ Some (b +ℤ pos n)) × FitsWindow ((pos shared.initial +ℤ b) +ℤ pos n)
+CreditsStream shared (Some b) new n (Err fault) =
+    (new ≡ Some b) × (fault ≡ Overflow) × (pos MAX_WINDOW <ℤ ((pos shared.initial +ℤ b) +ℤ pos n))
 
 -- ---- the streams as entries
 
@@ -267,7 +344,11 @@ balances_of [] = []
 balances_of (entry ∷ entries) = balance_first entry.0 entry.1.balance (balances_of entries)
 
 abbrev pub windows_of : Shared → List (ℕ × Stream) → Windows
-windows_of shared streams = record { connection = shared.connection; initial = shared.initial; balances = balances_of streams }
+windows_of shared streams = record {
+  connection = shared.connection;
+  initial = shared.initial;
+  balances = balances_of streams;
+}
 
 abbrev pub balance_in : Option Stream → Option ℤ
 balance_in None = None
@@ -291,7 +372,10 @@ opened_of (Some stream) = stream.opened
 
 -- the entries with this put at a stream
 abbrev pub PutsEntry : List (ℕ × Stream) → ℕ → Stream → List (ℕ × Stream) → Type 0
-PutsEntry old id stream new = (other : ℕ) → lookup (nat_eq other) new ≡ (if nat_eq id other then Some stream else lookup (nat_eq other) old)
+PutsEntry old id stream new =
+    (other : ℕ)
+    → lookup (nat_eq other) new
+    ≡ (if nat_eq id other then Some stream else lookup (nat_eq other) old)
 
 -- a stream: one of which nothing was heard is no call's, and may be given as open
 abbrev pub stream_in : Option OpenStream → Option Stream → Stream
@@ -300,34 +384,48 @@ stream_in opened (Some stream) = stream
 
 -- a stream changes its state
 abbrev pub IsChanged : Change → Stream → Stream → Type 0
-IsChanged change old new = (new.opened ≡ old.opened) × IsAfter change old.state new.state × (new.balance ≡ balance_after change old.state old.balance)
+IsChanged change old new =
+    (new.opened ≡ old.opened) × IsAfter change old.state new.state
+    × (new.balance ≡ balance_after change old.state old.balance)
 
 -- the entries after a stream changes its state
 abbrev pub Changes : List (ℕ × Stream) → ℕ → Change → Option OpenStream → List (ℕ × Stream) → Type 0
-Changes old id change opened new = (now : Stream) × IsChanged change (stream_in opened (lookup (nat_eq id) old)) now × PutsEntry old id now new × (new ≡ insert_entry nat_eq old id now)
+Changes old id change opened new =
+    (now : Stream) × IsChanged change (stream_in opened (lookup (nat_eq id) old)) now
+    × PutsEntry old id now new × (new ≡ insert_entry nat_eq old id now)
 
 -- the balance of a window is set, if the stream is there
 abbrev pub SetsBalance : List (ℕ × Stream) → ℕ → Option ℤ → List (ℕ × Stream) → Type 0
-SetsBalance old id kept new = MatchOption (lookup (nat_eq id) old) (new ≡ old) (λ was. new ≡ set_value (nat_eq id) old (record was { balance = kept }))
+SetsBalance old id kept new =
+    MatchOption (lookup (nat_eq id) old) (new ≡ old)
+    (λ was. new ≡ set_value (nat_eq id) old (record was { balance = kept }))
 
 -- the window of a stream is credited, if the stream is there
-abbrev pub CreditsEntry : Shared → List (ℕ × Stream) → ℕ → List (ℕ × Stream) → ℕ → Result (Unit {0}) WindowFault → Type 0
-CreditsEntry shared old id new n answer = MatchOption (lookup (nat_eq id) old) ((new ≡ old) × (answer ≡ Err Unknown))
-    (λ was. (kept : Option ℤ) × (new ≡ set_value (nat_eq id) old (record was { balance = kept })) × CreditsStream shared was.balance kept n answer)
+abbrev pub CreditsEntry : Shared → List (ℕ × Stream) → ℕ → List (ℕ × Stream) → ℕ
+    → Result (Unit {0}) WindowFault → Type 0
+CreditsEntry shared old id new n answer =
+    MatchOption (lookup (nat_eq id) old) ((new ≡ old) × (answer ≡ Err Unknown))
+    (λ was.
+    (kept : Option ℤ) × (new ≡ set_value (nat_eq id) old (record was { balance = kept }))
+    × CreditsStream shared was.balance kept n answer)
 
 -- at most, what is kept of an open stream changes
 abbrev pub Edits : List (ℕ × Stream) → ℕ → List (ℕ × Stream) → Type 0
-Edits old id new = (new ≡ old) ⊎ ((was : Stream) × (opened : Option OpenStream) × (lookup (nat_eq id) old ≡ Some was)
+Edits old id new =
+    (new ≡ old)
+    ⊎ ((was : Stream) × (opened : Option OpenStream) × (lookup (nat_eq id) old ≡ Some was)
     × (new ≡ set_value (nat_eq id) old (record was { opened = opened })))
 
 -- all of a stream changes but the amount that is owed on it
 abbrev pub KeepsAmount : List (ℕ × Stream) → ℕ → List (ℕ × Stream) → Type 0
 KeepsAmount old id new = (new ≡ old)
-    ⊎ ((was : Stream) × (now : Stream) × (lookup (nat_eq id) old ≡ Some was) × (amount_of now.state ≡ amount_of was.state) × (new ≡ set_value (nat_eq id) old now))
+    ⊎ ((was : Stream) × (now : Stream) × (lookup (nat_eq id) old ≡ Some was)
+    × (amount_of now.state ≡ amount_of was.state) × (new ≡ set_value (nat_eq id) old now))
 
 -- n more are owed on a stream that may be owed something, at its place
 abbrev pub Adds : List (ℕ × Stream) → ℕ → ℕ → Option ℕ → List (ℕ × Stream) → Type 0
-Adds old id n None new = (new ≡ old) × (is_paid (state_in (state_of (lookup (nat_eq id) old))) ≡ false)
+Adds old id n None new =
+    (new ≡ old) × (is_paid (state_in (state_of (lookup (nat_eq id) old))) ≡ false)
 Adds old id n (Some place) new = (owed : ℕ) × (over : Option Over) × (was : Stream)
     × (lookup (nat_eq id) old ≡ Some (record was { state = Call owed over })) × (place < length old)
     × PutsEntry old id (record was { state = Call (more owed n) over }) new
@@ -339,17 +437,21 @@ IsSettled stream = amount_of stream.state ≡ 0
 
 -- nothing is owed on the streams from a place on, but perhaps at the place `but`
 abbrev pub IsSettledFrom : ℕ → List (ℕ × Stream) → Type 0
-IsSettledFrom owing streams = (k : ℕ) (d : ℕ × Stream) → owing ≤ k → k < length streams → IsSettled (get_or streams k d).1
+IsSettledFrom owing streams =
+    (k : ℕ) (d : ℕ × Stream) → owing ≤ k → k < length streams → IsSettled (get_or streams k d).1
 
 abbrev pub IsSettledBut : ℕ → ℕ → List (ℕ × Stream) → Type 0
-IsSettledBut but owing streams = (k : ℕ) (d : ℕ × Stream) → owing ≤ k → k < length streams → k ≢ but → IsSettled (get_or streams k d).1
+IsSettledBut but owing streams =
+    (k : ℕ) (d : ℕ × Stream) → owing ≤ k → k < length streams → k ≢ but
+    → IsSettled (get_or streams k d).1
 
 -- all that is owed at a place is taken, or nothing is owed there
 abbrev pub TakesAt : List (ℕ × Stream) → ℕ → Option (ℕ × ℕ) → List (ℕ × Stream) → Type 0
 TakesAt old place None new = (new ≡ old) × ((d : ℕ × Stream) → IsSettled (get_or old place d).1)
 TakesAt old place (Some taken) new = (over : Option Over) × (was : Stream) × (0 < taken.1)
     × (lookup (nat_eq taken.0) old ≡ Some (record was { state = Call taken.1 over }))
-    × PutsEntry old taken.0 (record was { state = Call 0 over }) new × (new ≡ set_value_at old place (record was { state = Call 0 over }))
+    × PutsEntry old taken.0 (record was { state = Call 0 over }) new
+    × (new ≡ set_value_at old place (record was { state = Call 0 over }))
 
 -- all that is owed at the last of the first places that owe something is taken, or nothing is owed
 -- there

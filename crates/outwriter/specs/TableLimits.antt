@@ -1,6 +1,22 @@
 -- The limit of the header table that the peer's SETTINGS set (RFC 9113, section 6.5.2; RFC 7541,
 -- section 4.2).
-use Rattle.std.specs.Prelude.{◌≡◌, ℕ, min, List, [], ◌∷◌, Option, IfSome, Result, Ok, Err, if◌then◌else◌, Bool, true, false}
+use Rattle.std.specs.Prelude.{
+  ◌≡◌,
+  ℕ,
+  min,
+  List,
+  [],
+  ◌∷◌,
+  Option,
+  IfSome,
+  Result,
+  Ok,
+  Err,
+  if◌then◌else◌,
+  Bool,
+  true,
+  false,
+}
 use Rattle.hpack_codec.specs.Codec.{Encoding, limited}
 use Rattle.h2frame.specs.declared.kind.FrameKind.{FrameKind}
 use Rattle.h2frame.specs.declared.kind.FrameKind.TheVariants.{Headers}
@@ -29,7 +45,8 @@ module _ {S : Type 0} where
   limits_of _ = []
 
   -- the encoder gets the limits of a control that is taken, and nothing else changes it
-  abbrev pub TakesLimits : Result (Unit {0}) (OutFault S) → Control S → Option Encoding → Option Encoding → Type 0
+  abbrev pub TakesLimits : Result (Unit {0}) (OutFault S) → Control S → Option Encoding
+      → Option Encoding → Type 0
   TakesLimits (Ok done) taken old new = new ≡ limited_by old (limits_of taken)
   TakesLimits (Err (PeerWindow id)) taken old new = new ≡ limited_by old (limits_of taken)
   TakesLimits (Err (OutOfMemory back)) taken old new = new ≡ old
@@ -54,7 +71,8 @@ least_begun [] = 4096
 least_begun (Taken order ∷ before) = least_begun before
 least_begun (Granted id n ∷ before) = least_begun before
 least_begun (Returned id items ∷ before) = least_begun before
-least_begun (Written frame ∷ before) = if begins_block frame.head.kind then least_table before else least_begun before
+least_begun (Written frame ∷ before) =
+    if begins_block frame.head.kind then least_table before else least_begun before
 
 -- the limit that an encoder, as long as it lives, sets with its next header block is the least by
 -- the run

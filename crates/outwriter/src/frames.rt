@@ -1,7 +1,19 @@
 //! The frames that a writer makes (RFC 9113, section 6).
 
 ghost use Rattle.std.specs.Prelude.{◌≡◌, ◌≤◌, ◌<◌, length, IfOk};
-ghost use Rattle.outwriter.specs.Frames.{first_settings, settings_ack, ping_ack, ping_frame, reset_frame, goaway_frame, update_frame, data_frame, headers_frame, continuation_frame, block_bits};
+ghost use Rattle.outwriter.specs.Frames.{
+  first_settings,
+  settings_ack,
+  ping_ack,
+  ping_frame,
+  reset_frame,
+  goaway_frame,
+  update_frame,
+  data_frame,
+  headers_frame,
+  continuation_frame,
+  block_bits,
+};
 
 use crate::out_frame::OutFrame;
 use bytes::Bytes;

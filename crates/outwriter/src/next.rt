@@ -4,7 +4,20 @@
 //! one is looked at with each frame. A stream that a window holds takes no turns, so it costs the
 //! others no more than that look.
 
-ghost use Rattle.std.specs.Prelude.{◌≡◌, ◌<◌, ℕ, List, true, false, None, Err, IfOk, IfErr, IfSome, IfNone};
+ghost use Rattle.std.specs.Prelude.{
+  ◌≡◌,
+  ◌<◌,
+  ℕ,
+  List,
+  true,
+  false,
+  None,
+  Err,
+  IfOk,
+  IfErr,
+  IfSome,
+  IfNone,
+};
 
 use crate::control::OutFault;
 use crate::out_core::OutCore;
@@ -89,7 +102,16 @@ impl<L: Lane<Item = OutItem>> OutCore<L> {
 impl<L: Lane<Item = OutItem>> Sending<L> {
     ghost use Rattle.outwriter.specs.Frames.{IsSound};
     ghost use Rattle.outwriter.specs.Polls.{coming};
-    ghost use Rattle.outwriter.specs.StreamLooks.{AllStuck, GetsQuiet, GetsStuck, Gives, HoldsOn, LooksAt, Picks, frame_in};
+    ghost use Rattle.outwriter.specs.StreamLooks.{
+      AllStuck,
+      GetsQuiet,
+      GetsStuck,
+      Gives,
+      HoldsOn,
+      LooksAt,
+      Picks,
+      frame_in,
+    };
     ghost use Rattle.outwriter.specs.RunState.{IsSpent, Progresses, IsBetween};
 
     /// Chooses the next frame: SETTINGS first; then the rest of a header block; what is due;

@@ -7,9 +7,37 @@
 //! A dead core hands each control back, since nothing that it keeps is known to follow from its
 //! run. What was written of each call stays a prefix, so its senders can be given back.
 
-ghost use Rattle.std.specs.Prelude.{◌≡◌, ◌≢◌, ◌&&◌, ◌||◌, not, ℕ, List, [], ◌∷◌, Some, None, Err, false, true, IsOk, OnOk, IfErr, IfSome};
+ghost use Rattle.std.specs.Prelude.{
+  ◌≡◌,
+  ◌≢◌,
+  ◌&&◌,
+  ◌||◌,
+  not,
+  ℕ,
+  List,
+  [],
+  ◌∷◌,
+  Some,
+  None,
+  Err,
+  false,
+  true,
+  IsOk,
+  OnOk,
+  IfErr,
+  IfSome,
+};
 ghost use Rattle.outwriter.specs.CallState.{Takes, none_is_new};
-ghost use Rattle.outwriter.specs.Cores.{Brings, Leads, LeadsControl, LeadsOn, LeadsStill, calls, open_stream, takes_credit};
+ghost use Rattle.outwriter.specs.Cores.{
+  Brings,
+  Leads,
+  LeadsControl,
+  LeadsOn,
+  LeadsStill,
+  calls,
+  open_stream,
+  takes_credit,
+};
 ghost use Rattle.outwriter.specs.declared.control.OutFault.TheVariants as out_fault;
 ghost use Rattle.outwriter.specs.Runs.{may_owe};
 ghost use Rattle.outwriter.specs.RunState.{Blames, Concerns, HasRoom, is_held};
@@ -202,7 +230,8 @@ impl<L: Lane<Item = OutItem>> OutCore<L> {
 
     /// Whether a Goaway with an error was taken, once one for this reason is.
     fn fails_by(&self, reason: Reason) -> bool
-        ensures { (last : ℕ) → result ≡ (self.now.has_failed || is_last (goaway_frame last reason)) }
+        ensures { (last : ℕ)
+            → result ≡ (self.now.has_failed || is_last (goaway_frame last reason)) }
     {
         self.has_failed || reason.number() != 0
     }

@@ -5,10 +5,47 @@
 //! whose clause is the law for that frame: whatever run led to the state before, the frame may be
 //! written after it, and the run with the frame leads to the state after it.
 
-ghost use Rattle.std.specs.Prelude.{Err, ◌==◌, ◌∷◌, if◌then◌else◌, ◌≢◌, ◌≡◌, ◌<◌, ◌^◌, ◌&&◌, ◌||◌, not, true, false, nat_lt, nat_le, ℕ, All, List, [], Some, None, OnOk, OnErr, IfErr};
+ghost use Rattle.std.specs.Prelude.{
+  Err,
+  ◌==◌,
+  ◌∷◌,
+  if◌then◌else◌,
+  ◌≢◌,
+  ◌≡◌,
+  ◌<◌,
+  ◌^◌,
+  ◌&&◌,
+  ◌||◌,
+  not,
+  true,
+  false,
+  nat_lt,
+  nat_le,
+  ℕ,
+  All,
+  List,
+  [],
+  Some,
+  None,
+  OnOk,
+  OnErr,
+  IfErr,
+};
 ghost use Rattle.flow.specs.WindowHistory.{Follows, CanCredit, CanResize, Closing};
 ghost use Rattle.flow.specs.WindowHistory.{Step as WindowStep};
-ghost use Rattle.outwriter.specs.States.{Moves, SameOpen, SameOver, opening, open_at, is_heard, is_reset, knows, owed_on, nothing_known, pays};
+ghost use Rattle.outwriter.specs.States.{
+  Moves,
+  SameOpen,
+  SameOver,
+  opening,
+  open_at,
+  is_heard,
+  is_reset,
+  knows,
+  owed_on,
+  nothing_known,
+  pays,
+};
 ghost use Rattle.outwriter.specs.OpenStreams.{stream_at};
 ghost use Rattle.outwriter.specs.Histories.{is_stream as is_number, table_sizes};
 ghost use Rattle.outwriter.specs.TableLimits.{limited_by};
@@ -50,7 +87,12 @@ impl Outbound {
     ghost use Rattle.outwriter.specs.Histories.{HasWindow, Overflows, window_sizes};
     ghost use Rattle.outwriter.specs.RunState.{IsBetween, MirrorsOf, MirrorsOn, Stays};
     ghost use Rattle.outwriter.specs.CallState.{Takes, none_is_new};
-    ghost use Rattle.outwriter.specs.CoreChanges.{KeptOn, becomes_open, due_reset, is_new_call as is_new_call_of};
+    ghost use Rattle.outwriter.specs.CoreChanges.{
+      KeptOn,
+      becomes_open,
+      due_reset,
+      is_new_call as is_new_call_of,
+    };
     ghost use Rattle.outwriter.specs.declared.control.OutFault.TheVariants as out_fault;
     ghost use Rattle.outwriter.specs.declared.control.Control.TheVariants as order;
     ghost use Rattle.outwriter.specs.declared.due.Due.TheVariants as due_kind;

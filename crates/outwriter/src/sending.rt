@@ -1,6 +1,19 @@
 //! What a writer sends: the connection's state, the senders of its calls, and whose turn it is.
 
-ghost use Rattle.std.specs.Prelude.{◌≡◌, ◌<◌, List, [], ◌∷◌, Some, OnOk, OnErr, IfErr, length, vec_len, vec_capacity};
+ghost use Rattle.std.specs.Prelude.{
+  ◌≡◌,
+  ◌<◌,
+  List,
+  [],
+  ◌∷◌,
+  Some,
+  OnOk,
+  OnErr,
+  IfErr,
+  length,
+  vec_len,
+  vec_capacity,
+};
 
 use crate::control::{Control, OutFault};
 use crate::outbound::Outbound;

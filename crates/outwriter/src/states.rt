@@ -2,20 +2,114 @@
 //! 9113, section 5.1), the credit that is owed to the peer, and the windows of what is sent
 //! (section 6.9).
 
-ghost use Rattle.std.specs.Prelude.{◌≡◌, ◌<◌, ◌≤◌, ◌^◌, ℕ, pos, ◌&&◌, if◌then◌else◌, List, [], ◌∷◌, Option, None, Some, false, true, not, is_some, IfSome, IfOk, OnOk, OnErr, length, nat_eq};
+ghost use Rattle.std.specs.Prelude.{
+  ◌≡◌,
+  ◌<◌,
+  ◌≤◌,
+  ◌^◌,
+  ℕ,
+  pos,
+  ◌&&◌,
+  if◌then◌else◌,
+  List,
+  [],
+  ◌∷◌,
+  Option,
+  None,
+  Some,
+  false,
+  true,
+  not,
+  is_some,
+  IfSome,
+  IfOk,
+  OnOk,
+  OnErr,
+  length,
+  nat_eq,
+};
 ghost use Rattle.std.specs.List.{list_all};
 ghost use Rattle.std.specs.Map.{lookup, values_of};
 ghost use Rattle.indexmap.specs.IndexMap.{IsUnique};
-ghost use Rattle.flow.specs.WindowHistory.{CanCredit, CanResize, Closing, Credit, Follows, Resizing};
+ghost use Rattle.flow.specs.WindowHistory.{
+  CanCredit,
+  CanResize,
+  Closing,
+  Credit,
+  Follows,
+  Resizing,
+};
 ghost use Rattle.flow.specs.WindowHistory.{Step as WindowStep};
 ghost use Rattle.flow.specs.Windows.{CreditFault, Meets, room};
-ghost use Rattle.outwriter.specs.States.{nothing_known, open_at, is_reset, pays, state_on, amount_of, by_reset, more, is_heard, can_write, balance_after as balance_after_of, fits_with, room_in, steps_of, Changes, CreditsEntry, CreditsStream, IsAfter, KeepsAmount, PutsAfter, SetsBalance, Hears, Opens, BecomesOpen, Grants, Moves, Resets, SameButWindows, SameEnds, SameOver, SameOwed, SameOpen, StandAs, SetsEnd, Edits, TakesAll, Adds, AllFit, IsSettledBut, IsSettledFrom, TakesAt, TakesLast, opened_of, opening};
+ghost use Rattle.outwriter.specs.States.{
+  nothing_known,
+  open_at,
+  is_reset,
+  pays,
+  state_on,
+  amount_of,
+  by_reset,
+  more,
+  is_heard,
+  can_write,
+  balance_after as balance_after_of,
+  fits_with,
+  room_in,
+  steps_of,
+  Changes,
+  CreditsEntry,
+  CreditsStream,
+  IsAfter,
+  KeepsAmount,
+  PutsAfter,
+  SetsBalance,
+  Hears,
+  Opens,
+  BecomesOpen,
+  Grants,
+  Moves,
+  Resets,
+  SameButWindows,
+  SameEnds,
+  SameOver,
+  SameOwed,
+  SameOpen,
+  StandAs,
+  SetsEnd,
+  Edits,
+  TakesAll,
+  Adds,
+  AllFit,
+  IsSettledBut,
+  IsSettledFrom,
+  TakesAt,
+  TakesLast,
+  opened_of,
+  opening,
+};
 ghost use Rattle.outwriter.specs.Resizes.{FitsOn};
 ghost use Rattle.outwriter.specs.Cores.{calls, lanes};
 ghost use Rattle.outwriter.specs.Data.{BeginsOnStream, LooksAtStream};
-ghost use Rattle.outwriter.specs.NextOn.{EndsStream, GetsOne, NextAtEntry, NextOnStream, TakesNext, TakesUpStream};
+ghost use Rattle.outwriter.specs.NextOn.{
+  EndsStream,
+  GetsOne,
+  NextAtEntry,
+  NextOnStream,
+  TakesNext,
+  TakesUpStream,
+};
 ghost use Rattle.outwriter.specs.Polls.{coming};
-ghost use Rattle.outwriter.specs.OpenStreams.{Closes, PlaceIs, SameHands, has_hand, kept as kept_of, shown, stream_at, with_hand, with_place};
+ghost use Rattle.outwriter.specs.OpenStreams.{
+  Closes,
+  PlaceIs,
+  SameHands,
+  has_hand,
+  kept as kept_of,
+  shown,
+  stream_at,
+  with_hand,
+  with_place,
+};
 
 use crate::stream::{Found, Hand, Looked, Opened, Polled, next_data, poll_at};
 use crate::stream_state::{Change, Over, StreamState};

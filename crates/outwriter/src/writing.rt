@@ -1,6 +1,24 @@
 //! The frames of a connection, each with what it changes.
 
-ghost use Rattle.std.specs.Prelude.{◌≡◌, ℕ, List, [], ◌∷◌, ◌<◌, ◌^◌, ◌&&◌, not, is_some, true, false, Some, None, IfOk, IfSome, IfNone};
+ghost use Rattle.std.specs.Prelude.{
+  ◌≡◌,
+  ℕ,
+  List,
+  [],
+  ◌∷◌,
+  ◌<◌,
+  ◌^◌,
+  ◌&&◌,
+  not,
+  is_some,
+  true,
+  false,
+  Some,
+  None,
+  IfOk,
+  IfSome,
+  IfNone,
+};
 ghost use Rattle.outwriter.specs.States.{over_on};
 
 use crate::blocks::HeaderBlock;
@@ -28,7 +46,17 @@ impl Outbound {
     ghost use Rattle.outwriter.specs.Histories.{is_stream as is_number};
     ghost use Rattle.outwriter.specs.CallState.{AreOver, IsOwn, OwnOrRests};
     ghost use Rattle.outwriter.specs.ToldByNow.{TellsBlock, OwnByDue, OwnOfDue};
-    ghost use Rattle.outwriter.specs.RunState.{BeginsBlock, Progress, Stays, IsBetween, Writes, WritesIf, WritesDue, WritesOrSkips, MirrorsOf};
+    ghost use Rattle.outwriter.specs.RunState.{
+      BeginsBlock,
+      Progress,
+      Stays,
+      IsBetween,
+      Writes,
+      WritesIf,
+      WritesDue,
+      WritesOrSkips,
+      MirrorsOf,
+    };
 
     /// SETTINGS, which come first.
     pub(crate) fn first_frame(&mut self) -> OutFrame

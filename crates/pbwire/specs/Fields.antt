@@ -1,5 +1,28 @@
 -- The fields of a byte list (Protocol Buffers encoding guide, "Message Structure").
-use Rattle.std.specs.Prelude.{◌≡◌, ◌≢◌, ℕ, ◌+◌, ◌*◌, ◌/◌, ◌%◌, ◌^◌, ◌<◌, ◌≤◌, ◌⊎◌, List, [], ◌∷◌, ◌++◌, length, Option, Some, None, Result, Ok, Err}
+use Rattle.std.specs.Prelude.{
+  ◌≡◌,
+  ◌≢◌,
+  ℕ,
+  ◌+◌,
+  ◌*◌,
+  ◌/◌,
+  ◌%◌,
+  ◌^◌,
+  ◌<◌,
+  ◌≤◌,
+  ◌⊎◌,
+  List,
+  [],
+  ◌∷◌,
+  ◌++◌,
+  length,
+  Option,
+  Some,
+  None,
+  Result,
+  Ok,
+  Err,
+}
 use Rattle.std.specs.Int.{w32, w64, from_le_bytes}
 use Rattle.pbwire.specs.declared.fault.WireFault.{WireFault}
 use Rattle.pbwire.specs.declared.fault.WireFault.TheVariants.{Truncated, BadTag, Group}
@@ -79,28 +102,38 @@ pub record IsTag (tag : ℕ) (type : ℕ) : Type 0 where
 pub data FaultAt (input : List ℕ) : WireFault → Type 0 where
   -- no varint stands in the place of the tag
   no_tag : (fault : WireFault) → input ≢ [] → VarintFault input fault → FaultAt input fault
-  bad_tag : (tag : ℕ) (rest : List ℕ) → StartsWithVarint input tag rest → IsBadTag tag → FaultAt input BadTag
+  bad_tag : (tag : ℕ) (rest : List ℕ) → StartsWithVarint input tag rest → IsBadTag tag
+      → FaultAt input BadTag
   -- the wire types of the start and the end of a group
-  start_group : (tag : ℕ) (rest : List ℕ) → StartsWithVarint input tag rest → IsTag tag 3 → FaultAt input Group
-  end_group : (tag : ℕ) (rest : List ℕ) → StartsWithVarint input tag rest → IsTag tag 4 → FaultAt input Group
+  start_group : (tag : ℕ) (rest : List ℕ) → StartsWithVarint input tag rest → IsTag tag 3
+      → FaultAt input Group
+  end_group : (tag : ℕ) (rest : List ℕ) → StartsWithVarint input tag rest → IsTag tag 4
+      → FaultAt input Group
   -- no varint follows the tag
-  no_varint : (fault : WireFault) (tag : ℕ) (rest : List ℕ) → StartsWithVarint input tag rest → IsTag tag 0 → VarintFault rest fault → FaultAt input fault
-  cut_eight_bytes : (tag : ℕ) (rest : List ℕ) → StartsWithVarint input tag rest → IsTag tag 1 → length rest < 8 → FaultAt input Truncated
+  no_varint : (fault : WireFault) (tag : ℕ) (rest : List ℕ) → StartsWithVarint input tag rest
+      → IsTag tag 0 → VarintFault rest fault → FaultAt input fault
+  cut_eight_bytes : (tag : ℕ) (rest : List ℕ) → StartsWithVarint input tag rest → IsTag tag 1
+      → length rest < 8 → FaultAt input Truncated
   -- no length follows the tag
-  no_length : (fault : WireFault) (tag : ℕ) (rest : List ℕ) → StartsWithVarint input tag rest → IsTag tag 2 → VarintFault rest fault → FaultAt input fault
+  no_length : (fault : WireFault) (tag : ℕ) (rest : List ℕ) → StartsWithVarint input tag rest
+      → IsTag tag 2 → VarintFault rest fault → FaultAt input fault
   -- fewer bytes follow the length than it says
-  cut_bytes : (tag : ℕ) (rest : List ℕ) (len : ℕ) (left : List ℕ) → StartsWithVarint input tag rest → IsTag tag 2 → StartsWithVarint rest len left → length left < len → FaultAt input Truncated
-  cut_four_bytes : (tag : ℕ) (rest : List ℕ) → StartsWithVarint input tag rest → IsTag tag 5 → length rest < 4 → FaultAt input Truncated
+  cut_bytes : (tag : ℕ) (rest : List ℕ) (len : ℕ) (left : List ℕ) → StartsWithVarint input tag rest
+      → IsTag tag 2 → StartsWithVarint rest len left → length left < len → FaultAt input Truncated
+  cut_four_bytes : (tag : ℕ) (rest : List ℕ) → StartsWithVarint input tag rest → IsTag tag 5
+      → length rest < 4 → FaultAt input Truncated
 
 -- the bytes are the joined spellings of the fields, and then the rest
 abbrev pub StartsWithFields : List ℕ → List Field → List ℕ → Type 0
 StartsWithFields input [] rest = input ≡ rest
-StartsWithFields input (field ∷ fields) rest = (more : List ℕ) × StartsWithField input field more × StartsWithFields more fields rest
+StartsWithFields input (field ∷ fields) rest =
+    (more : List ℕ) × StartsWithField input field more × StartsWithFields more fields rest
 
 -- The bytes are the joined spellings of the fields, or after these whole fields stands the fault.
 abbrev pub IsReading : List ℕ → List Field → Option WireFault → Type 0
 IsReading input fields None = StartsWithFields input fields []
-IsReading input fields (Some fault) = (rest : List ℕ) × StartsWithFields input fields rest × FaultAt rest fault
+IsReading input fields (Some fault) =
+    (rest : List ℕ) × StartsWithFields input fields rest × FaultAt rest fault
 
 -- what a reader answered is this field
 abbrev pub IsField : Option (Result FieldItem WireFault) → Field → Type 0

@@ -1,8 +1,29 @@
 -- Varints (Protocol Buffers encoding guide, "Base 128 Varints").
-use Rattle.std.specs.Prelude.{◌≡◌, ℕ, ◌*◌, ◌%◌, ◌^◌, ◌<◌, ◌≤◌, List, [], ◌∷◌, ◌++◌, length, take, sum_by}
+use Rattle.std.specs.Prelude.{
+  ◌≡◌,
+  ℕ,
+  ◌*◌,
+  ◌%◌,
+  ◌^◌,
+  ◌<◌,
+  ◌≤◌,
+  List,
+  [],
+  ◌∷◌,
+  ◌++◌,
+  length,
+  take,
+  sum_by,
+}
 use Rattle.std.specs.List.{AllByRecursion, enumerate_from}
 use Rattle.pbwire.specs.declared.fault.WireFault.{WireFault}
-use Rattle.pbwire.specs.declared.fault.WireFault.TheVariants.{Truncated, VarintTooLong, BadTag, Group, OutOfMemory}
+use Rattle.pbwire.specs.declared.fault.WireFault.TheVariants.{
+  Truncated,
+  VarintTooLong,
+  BadTag,
+  Group,
+  OutOfMemory,
+}
 
 -- a byte with the top bit: another byte of the varint follows it
 abbrev pub HasTopBit : ℕ → Type 0

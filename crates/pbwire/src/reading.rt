@@ -3,10 +3,36 @@
 //! `Fields` keeps the unread bytes and nothing else. A fault uses up nothing, so the next call
 //! finds it again at its place, and reads at most some twenty bytes for it.
 
-ghost use Rattle.std.specs.Prelude.{◌≡◌, ◌≢◌, ◌↔◌, ◌<◌, ℕ, List, [], length, IsNone, IfNone, IfSome, IfOk, IfErr, OnOk, OnErr, Some, Ok, Err};
+ghost use Rattle.std.specs.Prelude.{
+  ◌≡◌,
+  ◌≢◌,
+  ◌↔◌,
+  ◌<◌,
+  ℕ,
+  List,
+  [],
+  length,
+  IsNone,
+  IfNone,
+  IfSome,
+  IfOk,
+  IfErr,
+  OnOk,
+  OnErr,
+  Some,
+  Ok,
+  Err,
+};
 ghost use Rattle.pbwire.specs.declared.fault.WireFault.{WireFault as Fault};
 ghost use Rattle.pbwire.specs.declared.field.FieldItem.{FieldItem as Item};
-ghost use Rattle.pbwire.specs.Fields.{Field, field_of, content_of, StartsWithField, FaultAt, IsField};
+ghost use Rattle.pbwire.specs.Fields.{
+  Field,
+  field_of,
+  content_of,
+  StartsWithField,
+  FaultAt,
+  IsField,
+};
 ghost use Rattle.pbwire.specs.Reading.{Gives, content_at, field_at};
 
 use crate::fault::WireFault;

@@ -3,10 +3,28 @@
 //! Where the second part of a field finds no room, the buffer is taken back to its old length; the
 //! room isn't asked for first, so a buffer with room is never grown.
 
-ghost use Rattle.std.specs.Prelude.{◌≡◌, ◌+◌, ◌<◌, ◌≤◌, ◌++◌, length, take, vec_len, vec_capacity, OnOk, OnErr, IfErr};
+ghost use Rattle.std.specs.Prelude.{
+  ◌≡◌,
+  ◌+◌,
+  ◌<◌,
+  ◌≤◌,
+  ◌++◌,
+  length,
+  take,
+  vec_len,
+  vec_capacity,
+  OnOk,
+  OnErr,
+  IfErr,
+};
 ghost use Rattle.pbwire.specs.declared.fault.WireFault.TheVariants.{OutOfMemory};
 ghost use Rattle.pbwire.specs.Fields.{content_of, field_with};
-ghost use Rattle.pbwire.specs.Spelling.{varint_spelling, content_spelling, spelling_of, IsFieldNumber};
+ghost use Rattle.pbwire.specs.Spelling.{
+  varint_spelling,
+  content_spelling,
+  spelling_of,
+  IsFieldNumber,
+};
 
 use crate::fault::WireFault;
 use crate::field::FieldValue;

@@ -1,5 +1,17 @@
 -- Which ends of the unsettled calls are still to come back, by the calls' numbers.
-use Rattle.std.specs.Prelude.{◌≡◌, ◌-◌, ◌≤◌, ◌&&◌, ℕ, Bool, nat_eq, List, if◌then◌else◌, is_none, count_by}
+use Rattle.std.specs.Prelude.{
+  ◌≡◌,
+  ◌-◌,
+  ◌≤◌,
+  ◌&&◌,
+  ℕ,
+  Bool,
+  nat_eq,
+  List,
+  if◌then◌else◌,
+  is_none,
+  count_by,
+}
 use Rattle.callparts.specs.declared.register.Naming.{Ghosts}
 use Rattle.readerloop.specs.declared.call.Call.{Call}
 

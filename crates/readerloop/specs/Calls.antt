@@ -1,6 +1,26 @@
 -- A call of a connection, as the reading side has it, and what the steps that were heard make of
 -- it. A list of steps has the latest first.
-use Rattle.std.specs.Prelude.{◌≡◌, ◌≢◌, ◌<◌, ◌≤◌, ◌&&◌, ℕ, Bool, true, nat_eq, List, [], length, Contains, Option, None, Some, IfSome, IsSomeAnd, MatchOption}
+use Rattle.std.specs.Prelude.{
+  ◌≡◌,
+  ◌≢◌,
+  ◌<◌,
+  ◌≤◌,
+  ◌&&◌,
+  ℕ,
+  Bool,
+  true,
+  nat_eq,
+  List,
+  [],
+  length,
+  Contains,
+  Option,
+  None,
+  Some,
+  IfSome,
+  IsSomeAnd,
+  MatchOption,
+}
 use Rattle.std.specs.List.{list_any, AllWithin, HoldsAt}
 use Rattle.std.specs.Option.{is_some}
 use Rattle.account.specs.declared.call.OutItem.{OutItem}
@@ -16,7 +36,16 @@ use Rattle.handlers.specs.declared.step.Step.{Step as Answer}
 use Rattle.lane.specs.RingLane.{got, put_shut}
 use Rattle.readerloop.specs.declared.call.Call.{Call}
 use Rattle.readerloop.specs.Halves.{IsHalf, Shown, is_closed, shown}
-use Rattle.readerloop.specs.Steps.{Step, admitted, admitted_by, closing_at, data_at, head_of, last_of, since}
+use Rattle.readerloop.specs.Steps.{
+  Step,
+  admitted,
+  admitted_by,
+  closing_at,
+  data_at,
+  head_of,
+  last_of,
+  since,
+}
 
 -- where a step admits a call, its id is above those before it
 abbrev pub Rises : List Step → Step → Type 0
@@ -34,7 +63,8 @@ pub record Passes (id : ℕ) (step : Step) : Type 0 where
 -- ---- the method of a call
 
 -- The method of this index has this path, and no method before it does.
-pub record IsFirstWith {A : Type 0} (name_of : A → List ℕ) (methods : List A) (path : List ℕ) (index : ℕ) : Type 0 where
+pub record IsFirstWith {A : Type 0} (name_of : A → List ℕ) (methods : List A) (path : List ℕ)
+    (index : ℕ) : Type 0 where
   pub within : index < length methods
   pub found : HoldsAt (λ method. name_of method ≡ path) methods index
   pub least : AllWithin (λ method. name_of method ≢ path) methods 0 index
@@ -58,7 +88,8 @@ module _ {J : Type 0} {book : Ghosts J} where
   -- its worker answered what its client asked for
   abbrev pub HasAnswered : (ℕ → List (List ℕ) → Bool → Answer → Type 0) → Finished J book → Type 0
   HasAnswered known finished =
-      AnswersAt known finished.number.seen.log finished.number.value (got finished.taker.rx) finished.taker.progress (put_shut finished.given.shut) finished.status
+      AnswersAt known finished.number.seen.log finished.number.value (got finished.taker.rx)
+      finished.taker.progress (put_shut finished.given.shut) finished.status
 
   -- its sender is there, and got what is carried of its stream
   abbrev pub HasReturned : (ℕ → List OutItem → Type 0) → Sending J book → Type 0
@@ -71,11 +102,14 @@ module _ {J : Type 0} {book : Ghosts J} where
   abbrev pub is_over : Call J book → Bool
   is_over call = is_some call.finished && (is_some call.returning && is_closed call.half)
 
-  module _ (known : ℕ → List (List ℕ) → Bool → Answer → Type 0) (names : List ℕ → ℕ → Type 0) (carries : ℕ → List OutItem → Type 0) where
+  module _ (known : ℕ → List (List ℕ) → Bool → Answer → Type 0) (names : List ℕ → ℕ → Type 0)
+      (carries : ℕ → List OutItem → Type 0) where
     -- The call of this stream and method was admitted with the head that it has in the register,
     -- whose path names its method. Its half is what the steps since make of it. What came back of
     -- it is as its worker and the writing side may hand it back.
-    pub record IsCallOf (told : List Step) (id method : ℕ) (number : CallNumber J book) (half : Shown) (finished : Option (Finished J book)) (returning : Option (Returning J book)) : Type 0 where
+    pub record IsCallOf (told : List Step) (id method : ℕ) (number : CallNumber J book)
+        (half : Shown) (finished : Option (Finished J book))
+        (returning : Option (Returning J book)) : Type 0 where
       pub request : Request
       pub asked : request_at number.seen.log number.value ≡ Some request
       pub same_id : request.id ≡ id
@@ -89,4 +123,5 @@ module _ {J : Type 0} {book : Ghosts J} where
       pub returned : IfSome returning (λ returning. HasReturned carries returning.sending.value)
 
     abbrev pub IsCall : List Step → Call J book → Type 0
-    IsCall told call = IsCallOf told call.id call.method call.number (shown call.half) call.finished call.returning
+    IsCall told call =
+        IsCallOf told call.id call.method call.number (shown call.half) call.finished call.returning

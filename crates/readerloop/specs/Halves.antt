@@ -1,6 +1,21 @@
 -- The client's half of a call, as the reading side has it, and what the steps that were heard make
 -- of it.
-use Rattle.std.specs.Prelude.{◌≡◌, ◌≢◌, ℕ, Bool, true, false, List, [], ◌∷◌, ◌++◌, Option, Some, None, All}
+use Rattle.std.specs.Prelude.{
+  ◌≡◌,
+  ◌≢◌,
+  ℕ,
+  Bool,
+  true,
+  false,
+  List,
+  [],
+  ◌∷◌,
+  ◌++◌,
+  Option,
+  Some,
+  None,
+  All,
+}
 use Rattle.callbox.specs.declared.piece.InPiece.{InPiece}
 use Rattle.callbox.specs.declared.piece.InPiece.TheVariants as in_piece
 use Rattle.callbox.specs.InSides.{bytes_of, pieces_of}
@@ -19,7 +34,8 @@ pub record Shown : Type 0 where
 
 abbrev pub shown : Half → Shown
 shown (Open feeder) = record { there = true; items = put_in feeder.tx; closing = None }
-shown (Closed end) = record { there = true; items = put_shut end.shut; closing = Some (ShutAs end.kind) }
+shown (Closed end) =
+    record { there = true; items = put_shut end.shut; closing = Some (ShutAs end.kind) }
 shown (Missed feeder) = record { there = true; items = put_in feeder.tx; closing = Some Misses }
 shown Moving = record { there = false; items = []; closing = None }
 

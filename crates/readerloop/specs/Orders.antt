@@ -3,18 +3,57 @@
 -- connection for its cause, and has GOAWAY name the last call where the server drains (RFC 9113,
 -- sections 5.4, 6.8, 6.9.1, 8.1.1 and 8.7; gRPC over HTTP/2, "Responses"). A list of steps has the
 -- latest first, a list of orders the earliest.
-use Rattle.std.specs.Prelude.{◌≡◌, ◌≢◌, ◌⊎◌, ◌&&◌, ℕ, ◌==◌, Bool, true, false, List, [], ◌∷◌, ◌++◌, length, Option, Some, None, is_none, if◌then◌else◌, max}
+use Rattle.std.specs.Prelude.{
+  ◌≡◌,
+  ◌≢◌,
+  ◌⊎◌,
+  ◌&&◌,
+  ℕ,
+  ◌==◌,
+  Bool,
+  true,
+  false,
+  List,
+  [],
+  ◌∷◌,
+  ◌++◌,
+  length,
+  Option,
+  Some,
+  None,
+  is_none,
+  if◌then◌else◌,
+  max,
+}
 use Rattle.connbook.specs.declared.answers.AdmitFault.{AdmitFault}
 use Rattle.connbook.specs.declared.answers.AdmitFault.TheVariants as refused
 use Rattle.connbook.specs.declared.answers.Receipt.TheVariants.{CallWindow, Overrun}
 use Rattle.callhead.specs.declared.fault.HeadFault.{HeadFault}
 use Rattle.callhead.specs.StatusFields.{refusal_of, unknown_method}
 use Rattle.callparts.specs.declared.report.Ending.{Ending}
-use Rattle.callparts.specs.declared.report.Ending.TheVariants.{ProtocolError as Failed, OutOfMemory as RanOut}
+use Rattle.callparts.specs.declared.report.Ending.TheVariants.{
+  ProtocolError as Failed,
+  OutOfMemory as RanOut,
+}
 use Rattle.h2frame.specs.declared.error_code.ErrorCode.{ErrorCode}
-use Rattle.h2frame.specs.declared.error_code.ErrorCode.TheVariants.{NoError, ProtocolError, FlowControlError, RefusedStream, Cancel, EnhanceYourCalm}
+use Rattle.h2frame.specs.declared.error_code.ErrorCode.TheVariants.{
+  NoError,
+  ProtocolError,
+  FlowControlError,
+  RefusedStream,
+  Cancel,
+  EnhanceYourCalm,
+}
 use Rattle.lists.specs.declared.field.Field.{Field}
-use Rattle.outwriter.specs.declared.control.Control.TheVariants.{Settings, Ping, Window, Open, Refuse, Reset, Goaway}
+use Rattle.outwriter.specs.declared.control.Control.TheVariants.{
+  Settings,
+  Ping,
+  Window,
+  Open,
+  Refuse,
+  Reset,
+  Goaway,
+}
 use Rattle.outwriter.specs.Steps.{Order}
 use Rattle.reasons.specs.declared.Reason.TheVariants as reason
 use Rattle.reasons.specs.Codes.{code_of}
@@ -22,7 +61,27 @@ use Rattle.session.specs.declared.event.Control.{Control}
 use Rattle.session.specs.declared.event.Control.TheVariants as controls
 use Rattle.session.specs.declared.event.InEvent.TheVariants as events
 use Rattle.readerloop.specs.Calls.{is_admitted}
-use Rattle.readerloop.specs.Steps.{NoWorker, Stopped, Fate, Admitted, Unserved, Unknown, TurnedAway, Received, Missed, Lacking, Step, Told, CutOff, Drains, Lacks, closing_by, is_draining, reported, since}
+use Rattle.readerloop.specs.Steps.{
+  NoWorker,
+  Stopped,
+  Fate,
+  Admitted,
+  Unserved,
+  Unknown,
+  TurnedAway,
+  Received,
+  Missed,
+  Lacking,
+  Step,
+  Told,
+  CutOff,
+  Drains,
+  Lacks,
+  closing_by,
+  is_draining,
+  reported,
+  since,
+}
 
 -- ---- streams that were begun
 
@@ -50,7 +109,8 @@ named_with id false last = max id last
 abbrev pub named : List Step → ℕ
 named [] = 0
 named (Told (events.Open id head) fate ∷ before) = named_with id (is_draining before) (named before)
-named (Told (events.BadHead id fault) fate ∷ before) = named_with id (is_draining before) (named before)
+named (Told (events.BadHead id fault) fate ∷ before) =
+    named_with id (is_draining before) (named before)
 named (Drains ∷ before) = greatest (reported before)
 named (step ∷ before) = named before
 
@@ -61,7 +121,8 @@ most_streams = 4096
 
 abbrev pub last_stream : ℕ → Bool → List ℕ → List Order
 last_stream id true before = []
-last_stream id false before = if length before == 4095 then Goaway id (reason.Code NoError) ∷ [] else []
+last_stream id false before =
+    if length before == 4095 then Goaway id (reason.Code NoError) ∷ [] else []
 
 -- ---- the order of a step
 
@@ -123,9 +184,11 @@ came_loose last _ = []
 -- which more could be fed is cancelled.
 abbrev pub orders_at : List Step → Step → List Order
 orders_at before (Told (events.Open id head) fate) =
-    last_stream id (is_draining before) (begun before) ++ opened (named_with id (is_draining before) (named before)) id fate
+    last_stream id (is_draining before) (begun before)
+    ++ opened (named_with id (is_draining before) (named before)) id fate
 orders_at before (Told (events.BadHead id fault) fate) =
-    last_stream id (is_draining before) (begun before) ++ refused_head (named_with id (is_draining before) (named before)) id fault fate
+    last_stream id (is_draining before) (begun before)
+    ++ refused_head (named_with id (is_draining before) (named before)) id fault fate
 orders_at before (Told (events.Data id piece counted) fate) = came (named before) id fate
 orders_at before (Told (events.Loose counted) fate) = came_loose (named before) fate
 orders_at before (Told (events.Reset id code) fate) = Reset id code false ∷ []
@@ -168,4 +231,5 @@ ends_at Lacks = Some RanOut
 -- a reset of this stream that is to be written is among these orders
 abbrev pub IsReset : ℕ → List Order → Type 0
 IsReset id [] = ⊥
-IsReset id (order ∷ orders) = ((code : ErrorCode) × (order ≡ Reset id code true)) ⊎ IsReset id orders
+IsReset id (order ∷ orders) =
+    ((code : ErrorCode) × (order ≡ Reset id code true)) ⊎ IsReset id orders

@@ -1,7 +1,24 @@
 -- What the steps that were heard make of the reading side of a connection, and what it decides of
 -- each step.
 use Rattle.reasons.specs.declared.Reason.TheVariants as reason
-use Rattle.std.specs.Prelude.{◌≡◌, ◌<◌, ℕ, Bool, true, false, List, [], ◌∷◌, ◌++◌, All, length, min, Option, None, Some}
+use Rattle.std.specs.Prelude.{
+  ◌≡◌,
+  ◌<◌,
+  ℕ,
+  Bool,
+  true,
+  false,
+  List,
+  [],
+  ◌∷◌,
+  ◌++◌,
+  All,
+  length,
+  min,
+  Option,
+  None,
+  Some,
+}
 use Rattle.account.specs.declared.call.OutItem.{OutItem}
 use Rattle.callparts.specs.declared.order.Opening.{Opening}
 use Rattle.callparts.specs.declared.order.Returning.{Returning}
@@ -25,8 +42,28 @@ use Rattle.lane.specs.Ring.{out_name, taken}
 use Rattle.readerloop.specs.Calls.{HasReturned, Sent, carried_in}
 use Rattle.readerloop.specs.Concerns.{Concerns}
 use Rattle.readerloop.specs.Kept.{Keeps, Kept}
-use Rattle.readerloop.specs.Orders.{IsDue, begun, ends_at, most_streams, named, named_with, orders_at}
-use Rattle.readerloop.specs.Steps.{Fate, Lacking, Missed, Received, ShutAs, Step, TurnedAway, Unknown, WasTold, closing_at, is_draining}
+use Rattle.readerloop.specs.Orders.{
+  IsDue,
+  begun,
+  ends_at,
+  most_streams,
+  named,
+  named_with,
+  orders_at,
+}
+use Rattle.readerloop.specs.Steps.{
+  Fate,
+  Lacking,
+  Missed,
+  Received,
+  ShutAs,
+  Step,
+  TurnedAway,
+  Unknown,
+  WasTold,
+  closing_at,
+  is_draining,
+}
 use Rattle.session.specs.declared.event.InEvent.TheVariants.{PeerGoaway}
 
 -- ---- what is decided
@@ -78,7 +115,10 @@ module _ {J : Type 0} {book : Ghosts J} where
   -- The order opens the stream of this request, and its sender has the call's number in the
   -- register.
   abbrev pub Opens : Request → Control (Opening J book) → Type 0
-  Opens request (Open id opening) = (id ≡ request.id) × (request_at opening.sending.value.number.seen.log opening.sending.value.number.value ≡ Some request)
+  Opens request (Open id opening) =
+      (id ≡ request.id)
+      × (request_at opening.sending.value.number.seen.log opening.sending.value.number.value
+      ≡ Some request)
   Opens request _ = ⊥
 
 module _ {J M : Type 0} {book : Ghosts J} where
@@ -90,7 +130,10 @@ module _ {J M : Type 0} {book : Ghosts J} where
   -- a call of this stream may be admitted: its id is above those before it, there is room for its
   -- account, and the server doesn't drain
   abbrev pub IsNext : ℕ → Reading J M book → Type 0
-  IsNext id reading = (reading.calls.last < id) × (has_room reading.calls.accounts.count reading.calls.accounts.last ≡ true) × (reading.is_draining ≡ false)
+  IsNext id reading =
+      (reading.calls.last < id)
+      × (has_room reading.calls.accounts.count reading.calls.accounts.last ≡ true)
+      × (reading.is_draining ≡ false)
 
   abbrev pub KeepsNext : Reading J M book → Reading J M book → Type 0
   KeepsNext old new = (id : ℕ) → IsNext id old → IsNext id new
@@ -103,7 +146,8 @@ module _ {J M : Type 0} {book : Ghosts J} where
     pub goaway : new.peer_goaway ≡ old.peer_goaway
     pub home : new.home ≡ old.home
 
-  module _ (known : ℕ → List (List ℕ) → Bool → Answer → Type 0) (names : List ℕ → ℕ → Type 0) (carries : ℕ → List OutItem → Type 0) where
+  module _ (known : ℕ → List (List ℕ) → Bool → Answer → Type 0) (names : List ℕ → ℕ → Type 0)
+      (carries : ℕ → List OutItem → Type 0) where
     -- These steps led to the reading side. It takes the peer as one that opens no more streams only
     -- after its GOAWAY.
     pub record Reads (told : List Step) (reading : Reading J M book) : Type 0 where
@@ -113,7 +157,8 @@ module _ {J M : Type 0} {book : Ghosts J} where
       pub goaway : reading.peer_goaway ≡ true → WasTold PeerGoaway told
 
     -- These steps led to it, and with this step they do once the half is shut as the decision says.
-    pub record Awaits (told : List Step) (step : Step) (cut : Cut) (reading : Reading J M book) : Type 0 where
+    pub record Awaits (told : List Step) (step : Step) (cut : Cut)
+        (reading : Reading J M book) : Type 0 where
       pub calls : Kept known names carries told reading.calls
       pub drains : reading.is_draining ≡ is_draining told
       pub counts : Counts (named (step ∷ told)) (begun (step ∷ told)) reading
@@ -122,7 +167,8 @@ module _ {J M : Type 0} {book : Ghosts J} where
       pub closes : closing_at cut.id step ≡ Some (ShutAs cut.kind)
 
     -- This step begins a stream, and the calls are what the step makes of them.
-    pub record Begins (told : List Step) (step : Step) (id : ℕ) (reading : Reading J M book) : Type 0 where
+    pub record Begins (told : List Step) (step : Step) (id : ℕ)
+        (reading : Reading J M book) : Type 0 where
       pub calls : Kept known names carries (step ∷ told) reading.calls
       pub drains : reading.is_draining ≡ is_draining told
       pub counts : Counts (named told) (begun told) reading
@@ -137,7 +183,8 @@ module _ {J M : Type 0} {book : Ghosts J} where
 
     -- The decision is what a step leads to after these: its orders, and how the connection ends, if
     -- it does.
-    pub record Decides (told : List Step) (step : Step) (decided : Decided J book) (reading : Reading J M book) : Type 0 where
+    pub record Decides (told : List Step) (step : Step) (decided : Decided J book)
+        (reading : Reading J M book) : Type 0 where
       pub orders : orders_in decided ≡ orders_at told step
       pub ends : decided.ends ≡ ends_at step
       pub stands : Stands told step decided.cut reading
@@ -145,14 +192,20 @@ module _ {J M : Type 0} {book : Ghosts J} where
   module _ (known : ℕ → List (List ℕ) → Bool → Answer → Type 0) (names : List ℕ → ℕ → Type 0) where
     -- whatever steps led to it before, and whatever is carried
     abbrev pub DecidesOn : Step → Decided J book → Reading J M book → Reading J M book → Type 0
-    DecidesOn step decided old new = (sent : List Sent) (told : List Step) → Reads known names (carried_in sent) told old → Decides known names (carried_in sent) told step decided new
+    DecidesOn step decided old new =
+        (sent : List Sent) (told : List Step) → Reads known names (carried_in sent) told old
+        → Decides known names (carried_in sent) told step decided new
 
     -- the steps that led to it before lead to it after: with this step, or alone
     abbrev pub ReadsOn : Step → Reading J M book → Reading J M book → Type 0
-    ReadsOn step old new = (sent : List Sent) (told : List Step) → Reads known names (carried_in sent) told old → Reads known names (carried_in sent) (step ∷ told) new
+    ReadsOn step old new =
+        (sent : List Sent) (told : List Step) → Reads known names (carried_in sent) told old
+        → Reads known names (carried_in sent) (step ∷ told) new
 
     abbrev pub Stays : Reading J M book → Reading J M book → Type 0
-    Stays old new = (sent : List Sent) (told : List Step) → Reads known names (carried_in sent) told old → Reads known names (carried_in sent) told new
+    Stays old new =
+        (sent : List Sent) (told : List Step) → Reads known names (carried_in sent) told old
+        → Reads known names (carried_in sent) told new
 
     -- More calls came back from workers, and more senders, which got what is carried. All but the
     -- calls, the workers and the ring of senders is unchanged, and what may be admitted is too.
@@ -160,7 +213,9 @@ module _ {J M : Type 0} {book : Ghosts J} where
       pub more : List (Returning J book)
       pub took : taken new.home ≡ taken old.home ++ more
       pub name : out_name new.home ≡ out_name old.home
-      pub keeps : (sent : List Sent) → All (λ returning. HasReturned (carried_in sent) returning.sending.value) more → Keeps known names (carried_in sent) old.calls new.calls
+      pub keeps : (sent : List Sent)
+          → All (λ returning. HasReturned (carried_in sent) returning.sending.value) more
+          → Keeps known names (carried_in sent) old.calls new.calls
       pub accounts : new.calls.accounts ≡ old.calls.accounts
       pub above : new.calls.last ≡ old.calls.last
       pub draining : new.is_draining ≡ old.is_draining
@@ -171,6 +226,9 @@ module _ {J M : Type 0} {book : Ghosts J} where
     -- the steps that led to it before still do once more came back, where the senders got what is
     -- carried
     abbrev pub CollectsTo : Reading J M book → Reading J M book → Type 0
-    CollectsTo old new = (more : List (Returning J book)) × (taken new.home ≡ taken old.home ++ more)
-        × ((sent : List Sent) (told : List Step) → All (λ returning. HasReturned (carried_in sent) returning.sending.value) more
-        → Reads known names (carried_in sent) told old → Reads known names (carried_in sent) told new)
+    CollectsTo old new =
+        (more : List (Returning J book)) × (taken new.home ≡ taken old.home ++ more)
+        × ((sent : List Sent) (told : List Step)
+        → All (λ returning. HasReturned (carried_in sent) returning.sending.value) more
+        → Reads known names (carried_in sent) told old
+        → Reads known names (carried_in sent) told new)

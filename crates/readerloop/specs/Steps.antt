@@ -1,6 +1,26 @@
 -- What the reader of a connection hears, and what it makes of the client's half of each call (RFC
 -- 9113, sections 5.1, 5.4.2, 6.4, 6.8 and 6.9.1). A list of steps has the latest first.
-use Rattle.std.specs.Prelude.{◌≡◌, ◌<◌, ◌&&◌, ◌||◌, ℕ, Bool, true, false, nat_eq, if◌then◌else◌, List, [], ◌∷◌, ◌++◌, Option, Some, None, MatchOption, unwrap_or}
+use Rattle.std.specs.Prelude.{
+  ◌≡◌,
+  ◌<◌,
+  ◌&&◌,
+  ◌||◌,
+  ℕ,
+  Bool,
+  true,
+  false,
+  nat_eq,
+  if◌then◌else◌,
+  List,
+  [],
+  ◌∷◌,
+  ◌++◌,
+  Option,
+  Some,
+  None,
+  MatchOption,
+  unwrap_or,
+}
 use Rattle.std.specs.List.{list_any}
 use Rattle.std.specs.Option.{is_some}
 use Rattle.account.specs.declared.call.Shut.{Shut}
@@ -10,7 +30,12 @@ use Rattle.connbook.specs.declared.answers.AdmitFault.{AdmitFault}
 use Rattle.connbook.specs.declared.answers.Receipt.{Receipt}
 use Rattle.connbook.specs.declared.answers.Receipt.TheVariants.{Discard, CallWindow, Overrun}
 use Rattle.h2frame.specs.declared.error_code.ErrorCode.{ErrorCode}
-use Rattle.h2frame.specs.declared.error_code.ErrorCode.TheVariants.{InternalError, FlowControlError, Cancel, EnhanceYourCalm}
+use Rattle.h2frame.specs.declared.error_code.ErrorCode.TheVariants.{
+  InternalError,
+  FlowControlError,
+  Cancel,
+  EnhanceYourCalm,
+}
 use Rattle.h2frame.specs.ErrorCode.{error_number}
 use Rattle.session.specs.declared.event.InEvent.{InEvent}
 use Rattle.session.specs.declared.event.InEvent.TheVariants as events
@@ -73,7 +98,9 @@ reported (step ∷ before) = reported before ++ once (reported_by step)
 
 -- a call was admitted with this head, and no worker serves it
 abbrev pub WasUnserved : ℕ → CallHead → List Step → Type 0
-WasUnserved id head told = (before : List Step) × (after : List Step) × (why : Lack) × (told ≡ after ++ Told (events.Open id head) (Unserved why) ∷ before)
+WasUnserved id head told =
+    (before : List Step) × (after : List Step) × (why : Lack)
+    × (told ≡ after ++ Told (events.Open id head) (Unserved why) ∷ before)
 
 -- the ids of those that are served, the earliest first, and the latest of them, 0 for none
 abbrev pub admitted : List Step → List ℕ
@@ -87,7 +114,8 @@ last_of (step ∷ before) = unwrap_or (admitted_by step) (last_of before)
 -- each id is above those before it (section 5.1.1)
 abbrev pub IsRising : List Step → Type 0
 IsRising [] = Unit {0}
-IsRising (step ∷ before) = MatchOption (admitted_by step) (Unit {0}) (λ id. last_of before < id) × IsRising before
+IsRising (step ∷ before) =
+    MatchOption (admitted_by step) (Unit {0}) (λ id. last_of before < id) × IsRising before
 
 -- ---- the end while calls go on
 
@@ -103,7 +131,8 @@ is_draining (step ∷ before) = is_drain step || is_draining before
 -- after a drain no call is admitted
 abbrev pub AdmitsNoMore : List Step → Type 0
 AdmitsNoMore [] = Unit {0}
-AdmitsNoMore (step ∷ before) = (is_draining before ≡ true → reported_by step ≡ None) × AdmitsNoMore before
+AdmitsNoMore (step ∷ before) =
+    (is_draining before ≡ true → reported_by step ≡ None) × AdmitsNoMore before
 
 -- ---- since a call was admitted
 
@@ -156,10 +185,14 @@ lost piece _ = None
 
 -- how a step closes the half, if it does
 abbrev pub closing_at : ℕ → Step → Option Closing
-closing_at id (Told (events.Data other piece counted) fate) = if nat_eq id other then lost piece fate else None
-closing_at id (Told (events.End other) fate) = if nat_eq id other then Some (ShutAs shut.End) else None
-closing_at id (Told (events.Reset other code) fate) = if nat_eq id other then Some (fails_as code) else None
-closing_at id (Told (events.StreamError other code) fate) = if nat_eq id other then Some (fails_as code) else None
+closing_at id (Told (events.Data other piece counted) fate) =
+    if nat_eq id other then lost piece fate else None
+closing_at id (Told (events.End other) fate) =
+    if nat_eq id other then Some (ShutAs shut.End) else None
+closing_at id (Told (events.Reset other code) fate) =
+    if nat_eq id other then Some (fails_as code) else None
+closing_at id (Told (events.StreamError other code) fate) =
+    if nat_eq id other then Some (fails_as code) else None
 closing_at id (CutOff other) = if nat_eq id other then Some (fails_as Cancel) else None
 closing_at id _ = None
 
@@ -189,7 +222,8 @@ unless (Some closing) bytes = []
 -- what it is fed: the data that came before it was closed
 abbrev pub fed_by : ℕ → List Step → List ℕ
 fed_by id [] = []
-fed_by id (step ∷ before) = fed_by id before ++ unless (closing_by id (step ∷ before)) (data_at id step)
+fed_by id (step ∷ before) =
+    fed_by id before ++ unless (closing_by id (step ∷ before)) (data_at id step)
 
 -- the events that came, the earliest first
 abbrev pub events_of : List Step → List InEvent
@@ -201,14 +235,16 @@ events_of (Lacks ∷ before) = events_of before
 
 -- this event came
 abbrev pub WasTold : InEvent → List Step → Type 0
-WasTold event told = (before : List InEvent) × (after : List InEvent) × (events_of told ≡ before ++ event ∷ after)
+WasTold event told =
+    (before : List InEvent) × (after : List InEvent) × (events_of told ≡ before ++ event ∷ after)
 
 -- ---- what lets a call's half go
 
 -- whether a step lets the half go, whatever the client does to the stream: a piece is lost, or no
 -- more of the stream is heard
 abbrev pub lets_go : ℕ → Step → Bool
-lets_go id (Told (events.Data other piece counted) fate) = nat_eq id other && is_some (lost piece fate)
+lets_go id (Told (events.Data other piece counted) fate) =
+    nat_eq id other && is_some (lost piece fate)
 lets_go id (CutOff other) = nat_eq id other
 lets_go id _ = false
 

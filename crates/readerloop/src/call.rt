@@ -1,6 +1,25 @@
 //! A call, as the reading side has it.
 
-ghost use Rattle.std.specs.Prelude.{◌≡◌, ◌≢◌, ℕ, Bool, List, [], ◌∷◌, if◌then◌else◌, true, false, None, Some, IsSome, OnErr, OnOk, nat_eq, option_map, unwrap_or};
+ghost use Rattle.std.specs.Prelude.{
+  ◌≡◌,
+  ◌≢◌,
+  ℕ,
+  Bool,
+  List,
+  [],
+  ◌∷◌,
+  if◌then◌else◌,
+  true,
+  false,
+  None,
+  Some,
+  IsSome,
+  OnErr,
+  OnOk,
+  nat_eq,
+  option_map,
+  unwrap_or,
+};
 ghost use Rattle.callbox.specs.OutSides.{has_trailers};
 ghost use Rattle.connbook.specs.declared.answers.Receipt.TheVariants.{Feed};
 ghost use Rattle.lane.specs.RingLane.{put_shut};
@@ -37,7 +56,9 @@ pub struct Call<J: Naming> {
     /// Its sender, once the writing side has handed it back.
     pub(crate) returning: Option<Returning<J>>,
     /// Its half feeds the lane that it has in the register.
-    ghost one_lane: { in_lane_at number.seen.log number.value ≡ lane_of half } by { OptionalName_set (in_lane_at number.seen.log number.value) (lane_of half) },
+    ghost one_lane: { in_lane_at number.seen.log number.value
+        ≡ lane_of half } by { OptionalName_set
+            (in_lane_at number.seen.log number.value) (lane_of half) },
     /// What came back has its number.
     ghost one_finished: { unwrap_or (option_map (λ f. f.number.value) finished) number.value
         ≡ number.value },
@@ -47,7 +68,15 @@ pub struct Call<J: Naming> {
 
 impl<J: Naming> Call<J> {
     ghost use Rattle.readerloop.specs.Awaited.{HasSameEnds, is_undone, is_unsent};
-    ghost use Rattle.readerloop.specs.Calls.{HasAnswered, HasReturned, IsCall, Rises, Sent, carried_in, is_over};
+    ghost use Rattle.readerloop.specs.Calls.{
+      HasAnswered,
+      HasReturned,
+      IsCall,
+      Rises,
+      Sent,
+      carried_in,
+      is_over,
+    };
     ghost use Rattle.readerloop.specs.Reports.{IsSettled};
 
     /// Whether this is its number.
@@ -172,7 +201,8 @@ impl<J: Naming> Call<J> {
         requires over { is_over self ≡ true }
         ensures id { result.id ≡ self.id }
         ensures settled { (sent : List Sent) (told : List Step)
-            → IsCall M.known M.names (carried_in sent) told self → IsSettled M.known M.names (carried_in sent) told result }
+            → IsCall M.known M.names (carried_in sent) told self
+            → IsSettled M.known M.names (carried_in sent) told result }
     {
         let Call {
             id,

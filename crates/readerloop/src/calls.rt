@@ -1,6 +1,31 @@
 //! The calls of a connection, as its reading side has them.
 
-ghost use Rattle.std.specs.Prelude.{◌≡◌, ◌<◌, ◌+◌, ℕ, Bool, List, [], ◌∷◌, ◌++◌, true, false, length, None, Some, All, IfNone, IfSome, OnErr, OnOk, nat_eq, position, set, vec_capacity, vec_len};
+ghost use Rattle.std.specs.Prelude.{
+  ◌≡◌,
+  ◌<◌,
+  ◌+◌,
+  ℕ,
+  Bool,
+  List,
+  [],
+  ◌∷◌,
+  ◌++◌,
+  true,
+  false,
+  length,
+  None,
+  Some,
+  All,
+  IfNone,
+  IfSome,
+  OnErr,
+  OnOk,
+  nat_eq,
+  position,
+  set,
+  vec_capacity,
+  vec_len,
+};
 ghost use Rattle.std.specs.List.{IsDistinct};
 ghost use Rattle.callhead.specs.declared.head.CallHead.{CallHead as Head};
 ghost use Rattle.callparts.specs.Blocks.{has_room};
@@ -9,10 +34,32 @@ ghost use Rattle.session.specs.declared.event.InEvent.TheVariants as events;
 ghost use Rattle.readerloop.specs.Awaited.{AwaitsAll, IsDone, IsSent, is_undone, is_unsent};
 ghost use Rattle.readerloop.specs.Calls.{HasAnswered, HasReturned, Sent, carried_in, is_over};
 ghost use Rattle.readerloop.specs.Concerns.{Concerns};
-ghost use Rattle.readerloop.specs.Kept.{AreCut, Hears, IsFresh, Keeps, Kept, accounts_of, fed_at, fed_but, ids_of, unsettled};
+ghost use Rattle.readerloop.specs.Kept.{
+  AreCut,
+  Hears,
+  IsFresh,
+  Keeps,
+  Kept,
+  accounts_of,
+  fed_at,
+  fed_but,
+  ids_of,
+  unsettled,
+};
 ghost use Rattle.readerloop.specs.Orders.{IsDue, is_fed};
 ghost use Rattle.readerloop.specs.Reports.{IsSettled};
-ghost use Rattle.readerloop.specs.Steps.{Admitted, Lack, Misses, Received, ShutAs, Step, Told, Unserved, closing_at, is_draining};
+ghost use Rattle.readerloop.specs.Steps.{
+  Admitted,
+  Lack,
+  Misses,
+  Received,
+  ShutAs,
+  Step,
+  Told,
+  Unserved,
+  closing_at,
+  is_draining,
+};
 
 use crate::call::Call;
 use account::Shut;
@@ -84,7 +131,8 @@ impl<J: Naming> Calls<J> {
         ensures heard { (sent : List Sent) (head : Head)
             (told : List Step) → IsFresh M.names head call → is_draining told ≡ false
             → Kept M.known M.names (carried_in sent) told self.old
-            → Kept M.known M.names (carried_in sent) (Told (events.Open call.id head) Admitted ∷ told)
+            → Kept M.known M.names (carried_in sent)
+            (Told (events.Open call.id head) Admitted ∷ told)
             self.new }
         ensures calls { unsettled self.new ≡ unsettled self.old ++ call ∷ [] }
     {
@@ -102,7 +150,8 @@ impl<J: Naming> Calls<J> {
         ensures heard { (sent : List Sent) (head : Head)
             (why : Lack) (told : List Step) → M.names head.path method → is_draining told ≡ false
             → Kept M.known M.names (carried_in sent) told self.old
-            → Kept M.known M.names (carried_in sent) (Told (events.Open id head) (Unserved why) ∷ told)
+            → Kept M.known M.names (carried_in sent)
+            (Told (events.Open id head) (Unserved why) ∷ told)
             self.new }
         ensures calls { unsettled self.new ≡ unsettled self.old }
     {
@@ -134,7 +183,8 @@ impl<J: Naming> Calls<J> {
         piece: Bytes,
     ) -> Result<Option<usize>, FeedFault>
         ensures heard { OnOk result ((sent : List Sent) (counted : ℕ)
-            → Hears M.known M.names (carried_in sent) (Told (events.Data id piece counted) (Received Feed))
+            → Hears M.known M.names (carried_in sent)
+            (Told (events.Data id piece counted) (Received Feed))
             self.old self.new) }
         ensures stays { OnErr result ((sent : List Sent)
             → Keeps M.known M.names (carried_in sent) self.old self.new) }
@@ -224,7 +274,8 @@ impl<J: Naming> Calls<J> {
     /// A worker has handed a call back.
     pub(crate) fn finish<M: Answering>(&mut self, finished: Finished<J>)
         ensures stays { (sent : List Sent)
-            → HasAnswered M.known finished → Keeps M.known M.names (carried_in sent) self.old self.new }
+            → HasAnswered M.known finished
+            → Keeps M.known M.names (carried_in sent) self.old self.new }
         ensures accounts { self.new.accounts ≡ self.old.accounts }
         ensures last { self.new.last ≡ self.old.last }
         ensures cut { AreCut (unsettled self.old) → AreCut (unsettled self.new) }

@@ -1,6 +1,20 @@
 //! The half of a call that its client sends, as the reading side has it.
 
-ghost use Rattle.std.specs.Prelude.{◌≡◌, ◌≢◌, ℕ, List, [], ◌∷◌, true, false, None, Some, IsSome, OnOk, OnErr};
+ghost use Rattle.std.specs.Prelude.{
+  ◌≡◌,
+  ◌≢◌,
+  ℕ,
+  List,
+  [],
+  ◌∷◌,
+  true,
+  false,
+  None,
+  Some,
+  IsSome,
+  OnOk,
+  OnErr,
+};
 ghost use Rattle.lane.specs.RingLane.{in_name, put_in, put_shut, shut_name};
 ghost use Rattle.callbox.specs.InSides.{pieces_of};
 ghost use Rattle.readerloop.specs.Steps.{Misses, ShutAs, Step, closing_at, shut_in};

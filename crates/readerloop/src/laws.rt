@@ -18,7 +18,22 @@ ghost use Rattle.readerloop.specs.AccountFrames.{HasFrames};
 ghost use Rattle.readerloop.specs.Calls.{is_admitted};
 ghost use Rattle.readerloop.specs.Orders.{orders_by};
 ghost use Rattle.readerloop.specs.Reports.{AreCalm, AreHeard, WasResetFor, is_heard_out};
-ghost use Rattle.readerloop.specs.Steps.{Admitted, Closing, IsRising, ShutAs, Step, Told, WasLetGo, admitted, closing_by, events_of, fed_by, head_of, shut_by, since};
+ghost use Rattle.readerloop.specs.Steps.{
+  Admitted,
+  Closing,
+  IsRising,
+  ShutAs,
+  Step,
+  Told,
+  WasLetGo,
+  admitted,
+  closing_by,
+  events_of,
+  fed_by,
+  head_of,
+  shut_by,
+  since,
+};
 ghost use Rattle.readerloop.specs.Streams.{HasEnd, HasStreamData};
 
 /// As long as a half isn't closed, it is fed all data that the events have of its stream.

@@ -6,11 +6,42 @@
 //! An order that resets a stream is to be put before its call sees the reset. So a decision names
 //! the half that it shuts (`Decided::cut`), and `Reading::shut` shuts it once the order was put.
 
-ghost use Rattle.std.specs.Prelude.{◌≡◌, ◌⊎◌, ◌<◌, ℕ, List, [], ◌∷◌, ◌++◌, true, false, length, Option, None, Some, IfErr, IfNone, IfOk, IfSome, IsSomeAnd, OnErr, OnOk, option_map, slice_get, vec_capacity, vec_len};
+ghost use Rattle.std.specs.Prelude.{
+  ◌≡◌,
+  ◌⊎◌,
+  ◌<◌,
+  ℕ,
+  List,
+  [],
+  ◌∷◌,
+  ◌++◌,
+  true,
+  false,
+  length,
+  Option,
+  None,
+  Some,
+  IfErr,
+  IfNone,
+  IfOk,
+  IfSome,
+  IsSomeAnd,
+  OnErr,
+  OnOk,
+  option_map,
+  slice_get,
+  vec_capacity,
+  vec_len,
+};
 ghost use Rattle.callhead.specs.declared.head.CallHead.{CallHead as Head};
 ghost use Rattle.callhead.specs.StatusFields.{refusal_of, unknown_method as unknown_fields};
 ghost use mathlib.Core.List.{IsPrefix};
-ghost use Rattle.lane.specs.Ring.{in_name as way_in, out_name as way_out, put_in as put_home, taken};
+ghost use Rattle.lane.specs.Ring.{
+  in_name as way_in,
+  out_name as way_out,
+  put_in as put_home,
+  taken,
+};
 ghost use Rattle.lane.specs.RingLane.{got, in_name, out_name, put_in};
 ghost use Rattle.callparts.specs.Blocks.{items_of};
 ghost use Rattle.callparts.specs.Workers.{IsFreshWork};
@@ -23,11 +54,59 @@ ghost use Rattle.outwriter.specs.declared.control.Control.TheVariants as orders;
 ghost use Rattle.session.specs.declared.event.InEvent.TheVariants as events;
 ghost use Rattle.readerloop.specs.Calls.{HasReturned, Sent, carried_in};
 ghost use Rattle.readerloop.specs.Kept.{Kept, fed_at, unsettled};
-ghost use Rattle.readerloop.specs.Orders.{begun, ends_at, last_stream, named, named_with, news_of, orders_at, without_head};
-ghost use Rattle.readerloop.specs.Readings.{Awaits, Begins, CollectsTo, Counts, Decides, DecidesOn, HasCollected, HasSameRest, IsNext, KeepsNext, MayMiss, Opens, Reads, ReadsOn, Stays, fate_of, goaway_in, order_in, refused_by, unless_ended};
+ghost use Rattle.readerloop.specs.Orders.{
+  begun,
+  ends_at,
+  last_stream,
+  named,
+  named_with,
+  news_of,
+  orders_at,
+  without_head,
+};
+ghost use Rattle.readerloop.specs.Readings.{
+  Awaits,
+  Begins,
+  CollectsTo,
+  Counts,
+  Decides,
+  DecidesOn,
+  HasCollected,
+  HasSameRest,
+  IsNext,
+  KeepsNext,
+  MayMiss,
+  Opens,
+  Reads,
+  ReadsOn,
+  Stays,
+  fate_of,
+  goaway_in,
+  order_in,
+  refused_by,
+  unless_ended,
+};
 ghost use Rattle.readerloop.specs.Reports.{AreAccounts, IsSettled};
 ghost use Rattle.readerloop.specs.Seats.{HasPlaces, HasPlacesAt};
-ghost use Rattle.readerloop.specs.Steps.{Admitted, CutOff, Drains, Lacking, Lacks, NoWorker, Plain, Received, Step, Stopped, Told, TurnedAway, Unknown, Unserved, WasTold, is_draining, reported};
+ghost use Rattle.readerloop.specs.Steps.{
+  Admitted,
+  CutOff,
+  Drains,
+  Lacking,
+  Lacks,
+  NoWorker,
+  Plain,
+  Received,
+  Step,
+  Stopped,
+  Told,
+  TurnedAway,
+  Unknown,
+  Unserved,
+  WasTold,
+  is_draining,
+  reported,
+};
 
 use crate::call::Call;
 use crate::calls::Calls;

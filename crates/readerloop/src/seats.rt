@@ -1,6 +1,22 @@
 //! The workers of a connection, as its reading side has them.
 
-ghost use Rattle.std.specs.Prelude.{◌≡◌, ◌<◌, ◌≤◌, ℕ, true, false, None, Some, IfSome, IsSome, OnOk, slice_get, vec_capacity, vec_len, length};
+ghost use Rattle.std.specs.Prelude.{
+  ◌≡◌,
+  ◌<◌,
+  ◌≤◌,
+  ℕ,
+  true,
+  false,
+  None,
+  Some,
+  IfSome,
+  IsSome,
+  OnOk,
+  slice_get,
+  vec_capacity,
+  vec_len,
+  length,
+};
 ghost use Rattle.rtrb.specs.Ring.{IsPair, known_free, sent};
 ghost use Rattle.callparts.specs.Workers.{IsFreshWork};
 ghost use Rattle.readerloop.specs.Calls.{HasAnswered};

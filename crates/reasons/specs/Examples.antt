@@ -1,6 +1,13 @@
 -- Worked examples of the definitions, computed.
 use Rattle.std.specs.Prelude.{◌≡◌, [], refl, codes}
-use Rattle.h2frame.specs.declared.error_code.ErrorCode.TheVariants.{NoError, ProtocolError, FrameSizeError, FlowControlError, CompressionError, EnhanceYourCalm}
+use Rattle.h2frame.specs.declared.error_code.ErrorCode.TheVariants.{
+  NoError,
+  ProtocolError,
+  FrameSizeError,
+  FlowControlError,
+  CompressionError,
+  EnhanceYourCalm,
+}
 use Rattle.h2frame.specs.declared.fault.FrameFault.TheVariants.{TooLong}
 use Rattle.h2frame.specs.declared.setting.SettingId.TheVariants.{EnablePush, InitialWindowSize}
 use Rattle.hpack_codec.specs.declared.fault.HpackFault.TheVariants.{Index, TooLarge}

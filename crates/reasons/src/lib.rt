@@ -6,7 +6,14 @@
 ghost use Rattle.std.specs.Prelude.{◌≡◌, ◌≤◌, length};
 ghost use Rattle.h2frame.specs.ErrorCode.{error_number};
 ghost use Rattle.reasons.specs.Codes.{code_of};
-ghost use Rattle.reasons.specs.Texts.{text_of, max_text, frame_text, hpack_text, setting_text, unbegun_text};
+ghost use Rattle.reasons.specs.Texts.{
+  text_of,
+  max_text,
+  frame_text,
+  hpack_text,
+  setting_text,
+  unbegun_text,
+};
 
 use h2frame::{ErrorCode, FrameFault, FrameKind, SettingId};
 use hpack_codec::HpackFault;

@@ -1,6 +1,18 @@
 //! The lines that wait for standard error, which nobody may read.
 
-ghost use Rattle.std.specs.Prelude.{◌≡◌, ◌≤◌, ◌+◌, ◌^◌, ◌<◌, ◌++◌, ◌⊎◌, IfSome, OnOk, OnErr, string_bytes};
+ghost use Rattle.std.specs.Prelude.{
+  ◌≡◌,
+  ◌≤◌,
+  ◌+◌,
+  ◌^◌,
+  ◌<◌,
+  ◌++◌,
+  ◌⊎◌,
+  IfSome,
+  OnOk,
+  OnErr,
+  string_bytes,
+};
 
 use lane::Bell;
 use std::alloc::{AllocError, Global};

@@ -63,7 +63,8 @@ fn push_rule(text: &mut String, rule: &Option<Rule>) -> Result<(), AllocError>
 /// Adds what is known of an outcome, in lines `wanted: ..`, `came: ..`, `reason: ..`, `rule: ..`,
 /// `sentence: ..`.
 pub fn push_details(text: &mut String, outcome: &Outcome) -> Result<(), AllocError>
-    ensures { OnOk result (string_bytes text.new ≡ string_bytes text.old ++ details_of outcome.now) }
+    ensures { OnOk result
+        (string_bytes text.new ≡ string_bytes text.old ++ details_of outcome.now) }
 {
     push_detail(text, "wanted", &outcome.wanted)?;
     push_detail(text, "came", &outcome.came)?;

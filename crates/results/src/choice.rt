@@ -1,7 +1,16 @@
 //! Which cases are run.
 
 ghost use Rattle.std.specs.Prelude.{◌≡◌, ◌≢◌, ◌↔◌, [], IfErr, IfOk, Any, IfNone, IfSome, IsTrue};
-ghost use Rattle.results.specs.Choices.{AllChoose, ArePlaces, Explains, IsChosen, IsChosenBy, IsFirstIdle, IsOfLevel, rank};
+ghost use Rattle.results.specs.Choices.{
+  AllChoose,
+  ArePlaces,
+  Explains,
+  IsChosen,
+  IsChosenBy,
+  IsFirstIdle,
+  IsOfLevel,
+  rank,
+};
 ghost use Rattle.results.specs.declared.choice.ChoiceFault.TheVariants.{OutOfMemory};
 
 use crate::pattern::is_match;

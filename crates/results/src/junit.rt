@@ -7,7 +7,26 @@
 ghost use Rattle.std.specs.Prelude.{◌≡◌, ◌++◌, IfOk, OnOk, count_by, string_bytes};
 ghost use Rattle.std.specs.List.{flat_map};
 ghost use Rattle.results.specs.Causes.{details_of};
-ghost use Rattle.results.specs.Junit.{case_attributes, case_element, case_line, counts, document, failure, inside, is_skipped, is_told, known_message, level_note, message_of, plain_message, seconds, skipped, suite_element, suites_element, type_by};
+ghost use Rattle.results.specs.Junit.{
+  case_attributes,
+  case_element,
+  case_line,
+  counts,
+  document,
+  failure,
+  inside,
+  is_skipped,
+  is_told,
+  known_message,
+  level_note,
+  message_of,
+  plain_message,
+  seconds,
+  skipped,
+  suite_element,
+  suites_element,
+  type_by,
+};
 ghost use Rattle.results.specs.Standings.{standing_of};
 ghost use Rattle.results.specs.Xml.{attributes, xml_text};
 

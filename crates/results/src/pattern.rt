@@ -1,7 +1,16 @@
 //! Words that choose cases by their names.
 
 ghost use Rattle.std.specs.Prelude.{◌<◌, ◌↔◌, ℕ, List, IfNone, IfSome, IsTrue};
-ghost use Rattle.results.specs.Patterns.{CutsAt, IsAtMost, IsGlob, IsInRange, IsOfGroup, IsRangeOf, Matches, Writes};
+ghost use Rattle.results.specs.Patterns.{
+  CutsAt,
+  IsAtMost,
+  IsGlob,
+  IsInRange,
+  IsOfGroup,
+  IsRangeOf,
+  Matches,
+  Writes,
+};
 
 /// Whether a word chooses the case of this name: it is the name, or the group that the name has
 /// before its `/`, or a range of a group, as `grpc/4-6`, in which the name's number is, or a text

@@ -7,7 +7,22 @@
 ghost use Rattle.std.specs.Prelude.{◌≡◌, ◌||◌, ◌++◌, [], ◌∷◌, IfOk, OnOk, map, string_bytes};
 ghost use Rattle.std.specs.List.{filter_map, flat_map, list_any};
 ghost use Rattle.results.specs.KnownList.{entry, has_name};
-ghost use Rattle.results.specs.Renewals.{HaveOwnNames, entry_after, failed_entries, failed_entry, is_of, is_ok_of, line_of, list_text, listing, reason_of, renewal, unrun_entry, with_entries, with_entry};
+ghost use Rattle.results.specs.Renewals.{
+  HaveOwnNames,
+  entry_after,
+  failed_entries,
+  failed_entry,
+  is_of,
+  is_ok_of,
+  line_of,
+  list_text,
+  listing,
+  reason_of,
+  renewal,
+  unrun_entry,
+  with_entries,
+  with_entry,
+};
 
 use crate::cause::cause_text;
 use crate::known::Known;

@@ -1,7 +1,19 @@
 //! How many cases ended in which way.
 
 ghost use Rattle.std.specs.Prelude.{◌≡◌, ◌++◌, OnOk, count_by, string_bytes};
-ghost use Rattle.results.specs.Summaries.{CountsLevels, CountsOnce, counted, fails_at, first_counts, is_found, levels_of, levels_text, other_counts, stands, summary_line};
+ghost use Rattle.results.specs.Summaries.{
+  CountsLevels,
+  CountsOnce,
+  counted,
+  fails_at,
+  first_counts,
+  is_found,
+  levels_of,
+  levels_text,
+  other_counts,
+  stands,
+  summary_line,
+};
 ghost use Rattle.results.specs.Summaries as whole;
 
 use crate::outcome::Outcome;
@@ -89,7 +101,8 @@ pub fn summary_of(outcomes: &[Outcome]) -> Summary
 
 /// Adds `, COUNT WHAT`, where the count isn't 0.
 fn push_count(text: &mut String, count: usize, what: &str) -> Result<(), AllocError>
-    ensures { OnOk result (string_bytes text.new ≡ string_bytes text.old ++ counted count what.now) }
+    ensures { OnOk result
+        (string_bytes text.new ≡ string_bytes text.old ++ counted count what.now) }
 {
     if count == 0 {
         return Ok(());

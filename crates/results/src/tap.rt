@@ -3,12 +3,39 @@
 //! A test point is `not ok` without a directive exactly where the case fails the run, so that a
 //! harness and the exit status agree.
 
-ghost use Rattle.std.specs.Prelude.{◌≡◌, ◌++◌, [], ◌∷◌, IfOk, OnOk, Some, codes, option_map, string_bytes};
+ghost use Rattle.std.specs.Prelude.{
+  ◌≡◌,
+  ◌++◌,
+  [],
+  ◌∷◌,
+  IfOk,
+  OnOk,
+  Some,
+  codes,
+  option_map,
+  string_bytes,
+};
 ghost use Rattle.std.specs.Fmt.{decimal};
 ghost use Rattle.std.specs.List.{flat_map};
 ghost use Rattle.serde_json.specs.Data.{string};
 ghost use Rattle.serde_json.specs.Written.{compact_text};
-ghost use Rattle.results.specs.Tap.{block_of, char_text, directive, entry, escaped, known_why, plain_why, point_line, point_of, point_text, rule_entries, status, verdict_note, why, yaml_block};
+ghost use Rattle.results.specs.Tap.{
+  block_of,
+  char_text,
+  directive,
+  entry,
+  escaped,
+  known_why,
+  plain_why,
+  point_line,
+  point_of,
+  point_text,
+  rule_entries,
+  status,
+  verdict_note,
+  why,
+  yaml_block,
+};
 ghost use Rattle.results.specs.Standings.{standing_of};
 
 use crate::cause::cause_text;

@@ -3,7 +3,15 @@
 ghost use Rattle.std.specs.Prelude.{◌≡◌, ◌++◌, IfOk, OnOk, string_bytes};
 ghost use Rattle.std.specs.Fmt.{decimal};
 ghost use Rattle.std.specs.List.{flat_map};
-ghost use Rattle.results.specs.Xml.{attribute, char_text, declaration, end_tag, is_allowed, open_tag, xml_text};
+ghost use Rattle.results.specs.Xml.{
+  attribute,
+  char_text,
+  declaration,
+  end_tag,
+  is_allowed,
+  open_tag,
+  xml_text,
+};
 
 use std::alloc::{AllocError, Global};
 

@@ -35,8 +35,10 @@ after_bad_head _ id history = history
 -- the fields are the head of a call, or have this first fault
 abbrev pub HeadGives : FrameHead → List Field → List Event → List InEvent → List Event → Type 0
 HeadGives head fields history given next =
-    ((call : CallHead) × IsHead fields call × (given ≡ events.Open head.stream call ∷ end_of head) × (next ≡ history))
-    ⊎ ((fault : HeadFault) × IsFirstHeadFault fields fault × (given ≡ bad_head_events fault head) × (next ≡ after_bad_head fault head.stream history))
+    ((call : CallHead) × IsHead fields call × (given ≡ events.Open head.stream call ∷ end_of head)
+    × (next ≡ history))
+    ⊎ ((fault : HeadFault) × IsFirstHeadFault fields fault × (given ≡ bad_head_events fault head)
+    × (next ≡ after_bad_head fault head.stream history))
 
 -- malformed trailers are an error of the stream, which resets it; other trailers end it
 abbrev pub trailer_events : Bool → FrameHead → List InEvent
@@ -48,15 +50,20 @@ after_trailers true id history = Cut id ∷ history
 after_trailers false id history = history
 
 -- the fields of a refused block aren't looked at
-abbrev pub FieldsGive : HalfVerdict → FrameHead → List Field → List Event → List InEvent → List Event → Type 0
+abbrev pub FieldsGive : HalfVerdict → FrameHead → List Field → List Event → List InEvent
+    → List Event → Type 0
 FieldsGive Open head fields history given next = HeadGives head fields history given next
 FieldsGive Accept head fields history given next =
-    (given ≡ trailer_events (are_malformed_trailers fields) head) × (next ≡ after_trailers (are_malformed_trailers fields) head.stream history)
+    (given ≡ trailer_events (are_malformed_trailers fields) head)
+    × (next ≡ after_trailers (are_malformed_trailers fields) head.stream history)
 FieldsGive judged head fields history given next = (given ≡ refusal judged head) × (next ≡ history)
 
 -- The block is read with the decoder's table, whatever its stream. Its first fault ends the
 -- connection.
-abbrev pub BlockGives : Option Table → FrameHead → HalfVerdict → List ℕ → List Event → List InEvent → List Event → Option Table → Type 0
+abbrev pub BlockGives : Option Table → FrameHead → HalfVerdict → List ℕ → List Event → List InEvent
+    → List Event → Option Table → Type 0
 BlockGives kept head judged block history given next kept_next =
-    ((fields : List Field) × Reads kept block fields kept_next × FieldsGive judged head fields history given next)
-    ⊎ ((fault : HpackFault) × IsFirstFault fault kept block × (fault ≢ OutOfMemory) × (given ≡ fatal (reason.Hpack fault)) × (next ≡ history))
+    ((fields : List Field) × Reads kept block fields kept_next
+    × FieldsGive judged head fields history given next)
+    ⊎ ((fault : HpackFault) × IsFirstFault fault kept block × (fault ≢ OutOfMemory)
+    × (given ≡ fatal (reason.Hpack fault)) × (next ≡ history))

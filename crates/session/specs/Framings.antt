@@ -14,7 +14,8 @@ abbrev pub IsUnread : List ℕ → List InEvent → Type 0
 IsUnread bytes given =
     ((due : List ℕ) × (preface ≡ bytes ++ due) × (given ≡ []))
     ⊎ (Departs preface bytes × (given ≡ fatal reason.Preface))
-    ⊎ ((text : List ℕ) × (entries : List Entry) × (rest : List ℕ) × (bytes ≡ preface ++ text) × Joined text entries rest × IsUnsettled entries × (given ≡ fatal reason.First))
+    ⊎ ((text : List ℕ) × (entries : List Entry) × (rest : List ℕ) × (bytes ≡ preface ++ text)
+    × Joined text entries rest × IsUnsettled entries × (given ≡ fatal reason.First))
 
 -- After the preface the bytes are these entries, which are whole groups with the first events, and
 -- then what closes them, with the last events: a header block that isn't whole, a fault, or what is

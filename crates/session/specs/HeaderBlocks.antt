@@ -9,7 +9,11 @@ use Rattle.h2frame.specs.Flags.{has, end_headers}
 use Rattle.reasons.specs.declared.Reason.{Reason}
 use Rattle.reasons.specs.declared.Reason.TheVariants as reason
 use Rattle.session.specs.declared.header_block.FragmentFault.{FragmentFault}
-use Rattle.session.specs.declared.header_block.FragmentFault.TheVariants.{Interrupted, TooLong, OutOfMemory}
+use Rattle.session.specs.declared.header_block.FragmentFault.TheVariants.{
+  Interrupted,
+  TooLong,
+  OutOfMemory,
+}
 
 -- the most bytes of a header block that the server takes (a limit of our own)
 abbrev pub max_block : ℕ
@@ -29,7 +33,8 @@ IsContinuation id frame = (frame.head.kind ≡ Continuation) × (frame.head.stre
 abbrev pub AreMarked : List Frame → Bool → Type 0
 AreMarked [] ended = ⊥
 AreMarked (frame ∷ []) ended = has end_headers frame.head.flags ≡ ended
-AreMarked (frame ∷ next ∷ frames) ended = (has end_headers frame.head.flags ≡ false) × AreMarked (next ∷ frames) ended
+AreMarked (frame ∷ next ∷ frames) ended =
+    (has end_headers frame.head.flags ≡ false) × AreMarked (next ∷ frames) ended
 
 abbrev pub fragments : List Frame → List ℕ
 fragments frames = flat_map (λ (frame : Frame). frame.content) frames
@@ -50,8 +55,12 @@ pub record Collects (frames : List Frame) (pending : Pending) : Type 0 where
 -- bytes
 abbrev pub Stands : FragmentFault → Pending → Frame → Type 0
 Stands Interrupted pending frame = IsContinuation pending.head.stream frame → ⊥
-Stands TooLong pending frame = IsContinuation pending.head.stream frame × (max_block < length pending.block + length frame.content)
-Stands OutOfMemory pending frame = IsContinuation pending.head.stream frame × (length pending.block + length frame.content ≤ max_block)
+Stands TooLong pending frame =
+    IsContinuation pending.head.stream frame
+    × (max_block < length pending.block + length frame.content)
+Stands OutOfMemory pending frame =
+    IsContinuation pending.head.stream frame
+    × (length pending.block + length frame.content ≤ max_block)
 
 -- the reason for which a fault ends the connection
 abbrev pub fragment_reason : FragmentFault → Reason

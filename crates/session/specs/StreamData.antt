@@ -1,7 +1,20 @@
 -- The data of a stream (RFC 9113, sections 5.1, 6.1 and 8.1), on the whole list of frames. Data and
 -- end are defined on the frame list alone, without verdicts: on an open stream DATA are lawful, and
 -- HEADERS, RST_STREAM and a WINDOW_UPDATE without an increment each end it.
-use Rattle.std.specs.Prelude.{ℕ, Bool, true, false, nat_eq, ◌&&◌, if◌then◌else◌, List, [], ◌∷◌, ◌++◌, flat_map}
+use Rattle.std.specs.Prelude.{
+  ℕ,
+  Bool,
+  true,
+  false,
+  nat_eq,
+  ◌&&◌,
+  if◌then◌else◌,
+  List,
+  [],
+  ◌∷◌,
+  ◌++◌,
+  flat_map,
+}
 use Rattle.h2frame.specs.declared.frame.Frame.{Frame}
 use Rattle.h2frame.specs.declared.kind.FrameKind.{FrameKind}
 use Rattle.h2frame.specs.declared.kind.FrameKind.TheVariants.{Data, Headers, RstStream}
@@ -17,7 +30,8 @@ use Rattle.session.specs.declared.event.InEvent.TheVariants as events
 -- of it, up to END_STREAM; RST_STREAM ends it, and so do HEADERS, which are trailers or an error of
 -- the stream.
 abbrev pub data_with : FrameKind → Frame → List ℕ → List ℕ
-data_with Data frame behind = frame.content ++ (if has end_stream frame.head.flags then [] else behind)
+data_with Data frame behind =
+    frame.content ++ (if has end_stream frame.head.flags then [] else behind)
 data_with RstStream frame behind = []
 data_with Headers frame behind = []
 data_with _ frame behind = behind
@@ -27,8 +41,10 @@ data_with _ frame behind = behind
 abbrev pub data_behind : ℕ → List Entry → List ℕ
 data_behind id [] = []
 data_behind id (Whole frame ∷ entries) =
-    if nat_eq id frame.head.stream then data_with frame.head.kind frame (data_behind id entries) else data_behind id entries
-data_behind id (NoIncrement other ∷ entries) = if nat_eq id other then [] else data_behind id entries
+    if nat_eq id frame.head.stream then data_with frame.head.kind frame (data_behind id entries)
+    else data_behind id entries
+data_behind id (NoIncrement other ∷ entries) =
+    if nat_eq id other then [] else data_behind id entries
 
 -- The data of the stream: those after its first HEADERS, if these don't end it.
 abbrev pub data_of : ℕ → List Entry → List ℕ
@@ -76,8 +92,10 @@ ending_with _ frame behind = behind
 abbrev pub ending_behind : ℕ → List Entry → Ending
 ending_behind id [] = Unended
 ending_behind id (Whole frame ∷ entries) =
-    if nat_eq id frame.head.stream then ending_with frame.head.kind frame (ending_behind id entries) else ending_behind id entries
-ending_behind id (NoIncrement other ∷ entries) = if nat_eq id other then Aborted else ending_behind id entries
+    if nat_eq id frame.head.stream then ending_with frame.head.kind frame (ending_behind id entries)
+    else ending_behind id entries
+ending_behind id (NoIncrement other ∷ entries) =
+    if nat_eq id other then Aborted else ending_behind id entries
 
 -- The end of the stream, by its first HEADERS or by what follows them.
 abbrev pub ending_of : ℕ → List Entry → Ending

@@ -11,7 +11,12 @@ use Rattle.h2frame.specs.ErrorCode.{error_of}
 use Rattle.h2frame.specs.Faults.{increment_of}
 use Rattle.h2frame.specs.Flags.{has, end_stream}
 use Rattle.flow.specs.declared.halves.HalfVerdict.{HalfVerdict}
-use Rattle.flow.specs.declared.halves.HalfVerdict.TheVariants.{Open, Accept, StreamError, ConnectionError}
+use Rattle.flow.specs.declared.halves.HalfVerdict.TheVariants.{
+  Open,
+  Accept,
+  StreamError,
+  ConnectionError,
+}
 use Rattle.flow.specs.Halves.{Event, Received, Cut, verdict}
 use Rattle.reasons.specs.declared.Reason.TheVariants as reason
 use Rattle.session.specs.declared.event.Control.TheVariants.{Window}
@@ -47,13 +52,17 @@ end_of head = if has end_stream head.flags then events.End head.stream ∷ [] el
 
 -- DATA on a stream that takes no more still count on the connection
 abbrev pub data_events : HalfVerdict → Frame → List InEvent
-data_events Accept frame = counted frame.head.length (events.Data frame.head.stream frame.content frame.head.length) ++ end_of frame.head
+data_events Accept frame =
+    counted frame.head.length (events.Data frame.head.stream frame.content frame.head.length)
+    ++ end_of frame.head
 data_events (ConnectionError error) frame = refusal (ConnectionError error) frame.head
-data_events judged frame = counted frame.head.length (events.Loose frame.head.length) ++ refusal judged frame.head
+data_events judged frame =
+    counted frame.head.length (events.Loose frame.head.length) ++ refusal judged frame.head
 
 -- RST_STREAM has the error in four bytes
 abbrev pub reset_events : HalfVerdict → Frame → List InEvent
-reset_events Accept frame = events.Reset frame.head.stream (error_of (from_be_bytes w32 frame.content)) ∷ []
+reset_events Accept frame =
+    events.Reset frame.head.stream (error_of (from_be_bytes w32 frame.content)) ∷ []
 reset_events judged frame = refusal judged frame.head
 
 abbrev pub window_event : Frame → InEvent
@@ -66,7 +75,8 @@ window_events judged frame = refusal judged frame.head
 -- WINDOW_UPDATE without an increment is judged as one with it, and where that is lawful it is an
 -- error of the stream
 abbrev pub credit_head : ℕ → FrameHead
-credit_head id = record { kind = WindowUpdate; flags = record { bits = 0 }; stream = id; length = 4 }
+credit_head id =
+    record { kind = WindowUpdate; flags = record { bits = 0 }; stream = id; length = 4 }
 
 abbrev pub without_increment : HalfVerdict → HalfVerdict
 without_increment Accept = StreamError ProtocolError

@@ -49,4 +49,5 @@ pub record RefusesTrailers (id : ℕ) (entries : List Entry) (given : List InEve
 
 -- A stream's end in the events is the one by its frames, but for malformed trailers.
 abbrev pub EndsAs : ℕ → List Entry → List InEvent → Type 0
-EndsAs id entries given = (ending_told id given ≡ ending_of id entries) ⊎ RefusesTrailers id entries given
+EndsAs id entries given =
+    (ending_told id given ≡ ending_of id entries) ⊎ RefusesTrailers id entries given

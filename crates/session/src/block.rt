@@ -5,7 +5,14 @@ ghost use Rattle.callhead.specs.MalformedHeads.{are_malformed_trailers};
 ghost use Rattle.flow.specs.Halves.{Event, Stands, half_of};
 ghost use Rattle.session.specs.declared.event.InEvent.{InEvent};
 ghost use Rattle.session.specs.Streams.{end_of, is_accepted};
-ghost use Rattle.session.specs.Blocks.{HeadGives, BlockGives, bad_head_events, after_bad_head, trailer_events, after_trailers};
+ghost use Rattle.session.specs.Blocks.{
+  HeadGives,
+  BlockGives,
+  bad_head_events,
+  after_bad_head,
+  trailer_events,
+  after_trailers,
+};
 
 use crate::event::InEvent;
 use crate::judge::refuse;

@@ -9,7 +9,15 @@ ghost use Rattle.flow.specs.Halves.{Stands, half_of};
 ghost use Rattle.session.specs.declared.context.Position.TheVariants.{Inside};
 ghost use Rattle.session.specs.Streams.{is_accepted};
 ghost use Rattle.session.specs.Frames.{fatal};
-ghost use Rattle.session.specs.CoreStates.{IsSound, IsSoundNext, Advances, Begins, Collected, IsEnd, position_behind};
+ghost use Rattle.session.specs.CoreStates.{
+  IsSound,
+  IsSoundNext,
+  Advances,
+  Begins,
+  Collected,
+  IsEnd,
+  position_behind,
+};
 
 use crate::block::block_events;
 use crate::event::InEvent;

@@ -1,6 +1,21 @@
 //! A header block over its frames (RFC 9113, section 4.3).
 
-ghost use Rattle.std.specs.Prelude.{◌≡◌, ◌≤◌, ◌↔◌, ◌++◌, ◌∷◌, [], false, length, List, IfOk, IfErr, OnOk, OnErr, IsTrue};
+ghost use Rattle.std.specs.Prelude.{
+  ◌≡◌,
+  ◌≤◌,
+  ◌↔◌,
+  ◌++◌,
+  ◌∷◌,
+  [],
+  false,
+  length,
+  List,
+  IfOk,
+  IfErr,
+  OnOk,
+  OnErr,
+  IsTrue,
+};
 ghost use Rattle.h2frame.specs.declared.frame.Frame.{Frame as FrameOf};
 ghost use Rattle.h2frame.specs.declared.kind.FrameKind.TheVariants.{Headers};
 ghost use Rattle.session.specs.declared.header_block.FragmentFault.TheVariants.{OutOfMemory};

@@ -4,13 +4,32 @@
 //! before. The loop that feeds the pieces names the list, and `laws::answers` then gives the
 //! events. After `Fatal` no piece is kept.
 
-ghost use Rattle.std.specs.Prelude.{◌≡◌, List, ℕ, [], ◌++◌, length, true, IfOk, IsErrOf, IsOk, OnErr};
+ghost use Rattle.std.specs.Prelude.{
+  ◌≡◌,
+  List,
+  ℕ,
+  [],
+  ◌++◌,
+  length,
+  true,
+  IfOk,
+  IsErrOf,
+  IsOk,
+  OnErr,
+};
 ghost use Rattle.std.specs.Io.KnownBytes.{Consumes, IsAtEnd};
 ghost use Rattle.device.specs.Bytes.{ConsumesSome};
 ghost use Rattle.device.specs.declared.whole.ReadFault.TheVariants.{Device};
 ghost use Rattle.session.specs.declared.event.InEvent.{InEvent as InEventOf};
 ghost use Rattle.session.specs.declared.in_core.Stage.TheVariants.{Dead, Greeting, Reading};
-ghost use Rattle.session.specs.CoreStates.{Reached, IsSound, IsSoundStage, Feeds, ReadsWaiting, core_of};
+ghost use Rattle.session.specs.CoreStates.{
+  Reached,
+  IsSound,
+  IsSoundStage,
+  Feeds,
+  ReadsWaiting,
+  core_of,
+};
 
 use crate::context::{Context, Position};
 use crate::event::InEvent;
@@ -71,8 +90,9 @@ impl InCore {
         }
     }
 
-    /// Reads once. Answers how many bytes came, none at the end of the input, and their events, as `feed` does. Once the
-    /// preface is whole, what comes isn't copied: contents of 256 bytes and more are parts of the block that was read into.
+    /// Reads once. Answers how many bytes came, none at the end of the input, and their events, as
+    /// `feed` does. Once the preface is whole, what comes isn't copied: contents of 256 bytes and
+    /// more are parts of the block that was read into.
     pub fn read_from<I: ConnRead>(
         &mut self,
         input: &mut I,
@@ -101,7 +121,8 @@ impl InCore {
         Ok((count, events))
     }
 
-    /// The events of the next piece of the connection's bytes. After `Fatal` and after an `Err` there are none.
+    /// The events of the next piece of the connection's bytes. After `Fatal` and after an `Err`
+    /// there are none.
     pub fn feed(&mut self, piece: &[u8]) -> Result<Vec<InEvent>, AllocError>
         // However the bytes before the piece were cut, they and the piece have the events before
         // and these.

@@ -5,10 +5,27 @@ ghost use Rattle.std.specs.Int.{w32, from_be_bytes};
 ghost use Rattle.h2frame.specs.ErrorCode.{error_of};
 ghost use Rattle.h2frame.specs.Flags.{has, ack};
 ghost use Rattle.h2frame.specs.FrameList.{IsLawful};
-ghost use Rattle.h2frame.specs.declared.kind.FrameKind.TheVariants.{Data, Headers, Ping, RstStream, Settings, WindowUpdate};
+ghost use Rattle.h2frame.specs.declared.kind.FrameKind.TheVariants.{
+  Data,
+  Headers,
+  Ping,
+  RstStream,
+  Settings,
+  WindowUpdate,
+};
 ghost use Rattle.flow.specs.Halves.{Event, IsJudged, Stands, half_of, verdict};
 ghost use Rattle.session.specs.declared.event.InEvent.{InEvent};
-ghost use Rattle.session.specs.Streams.{after_frame, is_accepted, data_events, reset_events, window_events, refusal, credit_head, credit_verdict, without_increment};
+ghost use Rattle.session.specs.Streams.{
+  after_frame,
+  is_accepted,
+  data_events,
+  reset_events,
+  window_events,
+  refusal,
+  credit_head,
+  credit_verdict,
+  without_increment,
+};
 ghost use Rattle.session.specs.Frames.{Gives, SettingsGive, WindowGives, ping_events};
 
 use crate::event::{Control, InEvent};

@@ -4,9 +4,24 @@ ghost use Rattle.std.specs.Prelude.{◌≡◌, ◌≢◌, ◌<◌, ◌≤◌, �
 ghost use Rattle.std.specs.List.{list_any};
 ghost use Rattle.session.specs.declared.event.InEvent.{InEvent as InEventOf};
 ghost use Rattle.h2frame.specs.FrameList.{Entry, Joined};
-ghost use Rattle.session.specs.Events.{Events, Group, GroupGives, IsCalm, Passes, Situation, is_fatal};
+ghost use Rattle.session.specs.Events.{
+  Events,
+  Group,
+  GroupGives,
+  IsCalm,
+  Passes,
+  Situation,
+  is_fatal,
+};
 ghost use Rattle.session.specs.Framings.{Framed};
-ghost use Rattle.session.specs.StreamData.{Unended, data_of, end_told, ending_told, is_opening, pieces};
+ghost use Rattle.session.specs.StreamData.{
+  Unended,
+  data_of,
+  end_told,
+  ending_told,
+  is_opening,
+  pieces,
+};
 ghost use Rattle.session.specs.Trailers.{EndsAs};
 ghost use Rattle.session.specs.Openings.{AreRising, openings};
 ghost use Rattle.session.specs.FlowBytes.{counted_told, payloads};

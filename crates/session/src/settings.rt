@@ -2,7 +2,14 @@
 
 ghost use Rattle.std.specs.Prelude.{◌≡◌, ◌%◌, length, IfOk, IfErr};
 ghost use Rattle.session.specs.declared.settings.SettingsFault.TheVariants.{OutOfMemory};
-ghost use Rattle.session.specs.Settings.{IsParameter, parameter_text, parameter_fault, parameter_told, IsSettingsFault, Tells};
+ghost use Rattle.session.specs.Settings.{
+  IsParameter,
+  parameter_text,
+  parameter_fault,
+  parameter_told,
+  IsSettingsFault,
+  Tells,
+};
 
 use h2frame::{PeerSetting, PeerSettings, SettingId};
 use reasons::Reason;

@@ -196,7 +196,8 @@ impl<'a, R: Files + Clock + Eprint + AllocGlobal + Drop> Sinks<'a, R> {
         lines: &[u8],
         output: &mut W,
     ) -> Result<(), SinkFault>
-        ensures kept { OnOk result (self.new.outcomes.items ≡ self.old.outcomes.items ++ outcome ∷ []) }
+        ensures kept { OnOk result
+            (self.new.outcomes.items ≡ self.old.outcomes.items ++ outcome ∷ []) }
         ensures text { OnOk result (self.old.form ≡ forms.Text
             → Appends (W.contents output.old) (W.contents output.new)
             (lines.now ++ standing_line outcome)) }
@@ -263,7 +264,8 @@ impl<'a, R: Files + Clock + Eprint + AllocGlobal + Drop> Sinks<'a, R> {
     /// Prints how many cases ended in which way, and writes the files that are written at the end.
     /// It answers whether the run hasn't failed.
     pub fn close<W: ConnWrite>(&mut self, output: &mut W) -> Result<bool, SinkFault>
-        ensures { IfOk result (λ passes. passes ≡ not (list_any fails_the_run self.old.outcomes.items)) }
+        ensures { IfOk result
+            (λ passes. passes ≡ not (list_any fails_the_run self.old.outcomes.items)) }
     {
         let passes = !fail_the_run(self.outcomes.as_slice());
         let milliseconds = self.progress.milliseconds(&self.rt);

@@ -26,7 +26,8 @@ Sees (Some old) None way bytes = ⊥
 Sees (Some old) (Some new) way bytes = new ≡ old ++ (record { way = way; bytes = bytes } ∷ [])
 
 -- The tap of a device, if it has one, sees these bytes.
-abbrev pub IsShown : {T : Type 0} → (T → Option (List Piece)) → Option T → Option T → Way → List ℕ → Type 0
+abbrev pub IsShown : {T : Type 0} → (T → Option (List Piece)) → Option T → Option T
+    → Way → List ℕ → Type 0
 IsShown seen None new way bytes = new ≡ None
 IsShown seen (Some old) None way bytes = ⊥
 IsShown seen (Some old) (Some new) way bytes = Sees (seen old) (seen new) way bytes

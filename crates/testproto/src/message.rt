@@ -2,7 +2,25 @@
 //!
 //! `size` answers no length where that passes a `usize`; `encode` then answers out of memory.
 
-ghost use Rattle.std.specs.Prelude.{◌≡◌, ◌≢◌, ◌++◌, ◌∷◌, [], ◌^◌, ◌≤◌, List, length, take, IfOk, IfErr, IfSome, IfNone, OnOk, OnErr, MatchResult};
+ghost use Rattle.std.specs.Prelude.{
+  ◌≡◌,
+  ◌≢◌,
+  ◌++◌,
+  ◌∷◌,
+  [],
+  ◌^◌,
+  ◌≤◌,
+  List,
+  length,
+  take,
+  IfOk,
+  IfErr,
+  IfSome,
+  IfNone,
+  OnOk,
+  OnErr,
+  MatchResult,
+};
 ghost use Rattle.pbwire.specs.Fields.{Field, field_of};
 ghost use Rattle.pbwire.specs.Spelling.{spelling_of_all};
 ghost use Rattle.testproto.specs.declared.fault.ProtoFault.{ProtoFault as Fault};

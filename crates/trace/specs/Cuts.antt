@@ -9,7 +9,9 @@ use Rattle.trace.specs.declared.item.Stage.TheVariants.{BeforePreface, InFrames}
 
 -- `PRI * HTTP/2.0`, an empty line, `SM`, an empty line: the hexadecimal digits of the standard
 abbrev pub preface : List ℕ
-preface = 0x50 ∷ 0x52 ∷ 0x49 ∷ 0x20 ∷ 0x2a ∷ 0x20 ∷ 0x48 ∷ 0x54 ∷ 0x54 ∷ 0x50 ∷ 0x2f ∷ 0x32 ∷ 0x2e ∷ 0x30 ∷ 0x0d ∷ 0x0a ∷ 0x0d ∷ 0x0a ∷ 0x53 ∷ 0x4d ∷ 0x0d ∷ 0x0a ∷ 0x0d ∷ 0x0a ∷ []
+preface =
+    0x50 ∷ 0x52 ∷ 0x49 ∷ 0x20 ∷ 0x2a ∷ 0x20 ∷ 0x48 ∷ 0x54 ∷ 0x54 ∷ 0x50 ∷ 0x2f ∷ 0x32 ∷ 0x2e ∷ 0x30
+    ∷ 0x0d ∷ 0x0a ∷ 0x0d ∷ 0x0a ∷ 0x53 ∷ 0x4d ∷ 0x0d ∷ 0x0a ∷ 0x0d ∷ 0x0a ∷ []
 
 -- At this stage the text is the item: the preface, or a head and as many bytes as it says.
 abbrev pub Spells : Stage → List ℕ → Item → Type 0
@@ -17,7 +19,8 @@ Spells BeforePreface text Preface = text ≡ preface
 Spells BeforePreface text (Frame head payload) = ⊥
 Spells BeforePreface text (Rest bytes) = ⊥
 Spells InFrames text Preface = ⊥
-Spells InFrames text (Frame head payload) = BeginsWith text head payload × (length payload ≡ head.length)
+Spells InFrames text (Frame head payload) =
+    BeginsWith text head payload × (length payload ≡ head.length)
 Spells InFrames text (Rest bytes) = ⊥
 
 -- From one stage on the bytes are the joined texts of the items, and then the rest, which is to be
@@ -25,7 +28,8 @@ Spells InFrames text (Rest bytes) = ⊥
 abbrev pub Cut : Stage → List ℕ → List Item → Stage → List ℕ → Type 0
 Cut stage bytes [] next rest = (next ≡ stage) × (rest ≡ bytes)
 Cut stage bytes (item ∷ items) next rest =
-    (text more : List ℕ) × (bytes ≡ text ++ more) × Spells stage text item × Cut InFrames more items next rest
+    (text more : List ℕ) × (bytes ≡ text ++ more) × Spells stage text item
+    × Cut InFrames more items next rest
 
 -- The bytes begin with the item, and the rest is after it.
 abbrev pub Takes : Stage → List ℕ → Item → List ℕ → Type 0
@@ -33,7 +37,8 @@ Takes stage bytes item rest = (text : List ℕ) × (bytes ≡ text ++ rest) × S
 
 -- The bytes begin with no whole item.
 abbrev pub IsUnfinished : Stage → List ℕ → Type 0
-IsUnfinished stage bytes = (text more : List ℕ) (item : Item) → bytes ≡ text ++ more → Spells stage text item → ⊥
+IsUnfinished stage bytes =
+    (text more : List ℕ) (item : Item) → bytes ≡ text ++ more → Spells stage text item → ⊥
 
 -- what is kept of one side: what comes next, and the bytes that are no whole item
 pub record Pending : Type 0 where

@@ -1,7 +1,24 @@
 //! Cutting the bytes of one side into its preface and frames, in whatever pieces they come (RFC
 //! 9113, sections 3.4 and 4.1).
 
-ghost use Rattle.std.specs.Prelude.{◌≡◌, ◌<◌, ◌≤◌, ◌^◌, ◌++◌, ℕ, List, [], false, length, drop, IfOk, IfNone, IfSome, IsTrue, OnOk};
+ghost use Rattle.std.specs.Prelude.{
+  ◌≡◌,
+  ◌<◌,
+  ◌≤◌,
+  ◌^◌,
+  ◌++◌,
+  ℕ,
+  List,
+  [],
+  false,
+  length,
+  drop,
+  IfOk,
+  IfNone,
+  IfSome,
+  IsTrue,
+  OnOk,
+};
 ghost use Rattle.h2frame.specs.FrameList.{BeginsWith};
 ghost use Rattle.h2frame.specs.Reading.{head_at};
 ghost use Rattle.trace.specs.declared.item.Stage.TheVariants as stages;
@@ -52,7 +69,8 @@ impl Cutter {
     pub fn cut(&mut self, piece: &[u8]) -> Result<Vec<Item>, AllocError>
         // Each byte of what was kept and of the piece is in one of them, in order, or is kept.
         ensures cut { IfOk result (λ cut.
-            Cut self.old.stage (self.old.bytes ++ piece.now) cut.items self.new.stage self.new.bytes) }
+            Cut self.old.stage (self.old.bytes ++ piece.now) cut.items
+            self.new.stage self.new.bytes) }
         ensures all { OnOk result (IsUnfinished self.new.stage self.new.bytes) }
     {
         self.kept.extend_from_slice(piece)?;

@@ -69,7 +69,14 @@ pub struct Seen {
 }
 
 impl Seen {
-    ghost use Rattle.wire.specs.Reactions.{IsLawful, IsUnlawful, Judges, has_ended, was_reset, was_shut};
+    ghost use Rattle.wire.specs.Reactions.{
+      IsLawful,
+      IsUnlawful,
+      Judges,
+      has_ended,
+      was_reset,
+      was_shut,
+    };
 
     pub fn new(alloc: Global) -> Seen {
         Seen {

@@ -1,6 +1,21 @@
 -- The options that `serve`, `case`, `wire` and `misbehave` share: `--trace`, also `--trace short`
 -- and `--trace full`, `--trace-file FILE` and `--pcap FILE`
-use Rattle.std.specs.Prelude.{◌&&◌, Bool, is_none, is_some, List, [], ◌∷◌, Option, Some, None, if◌then◌else◌, codes, option_map, option_and_then}
+use Rattle.std.specs.Prelude.{
+  ◌&&◌,
+  Bool,
+  is_none,
+  is_some,
+  List,
+  [],
+  ◌∷◌,
+  Option,
+  Some,
+  None,
+  if◌then◌else◌,
+  codes,
+  option_map,
+  option_and_then,
+}
 use Rattle.std.specs.Str.{bytes_eq}
 use Rattle.clap.specs.Walk.{Row, Rule, Text}
 use Rattle.clap.specs.Simple.{App, with_rule}

@@ -1,10 +1,33 @@
 -- `wire CASES.. --port P`, with `--host H`, `--silence S`, `--timeout T`, `--jobs N` and
 -- `--verbose`; or `wire --list`
-use Rattle.std.specs.Prelude.{◌≤◌, ⊤, ℕ, Bool, List, Option, if◌then◌else◌, codes, is_none, map, option_map, option_and_then}
+use Rattle.std.specs.Prelude.{
+  ◌≤◌,
+  ⊤,
+  ℕ,
+  Bool,
+  List,
+  Option,
+  if◌then◌else◌,
+  codes,
+  is_none,
+  map,
+  option_map,
+  option_and_then,
+}
 use Rattle.std.specs.Bool.{then_some}
 use Rattle.clap.specs.Walk.{Row, Rule, Text}
 use Rattle.clap.specs.Simple.{App, new_app, with_rule}
-use Rattle.words.specs.Options.{by_default, flag, has_flag, number_of, number_option, several, some_texts_of, text_of, text_option}
+use Rattle.words.specs.Options.{
+  by_default,
+  flag,
+  has_flag,
+  number_of,
+  number_option,
+  several,
+  some_texts_of,
+  text_of,
+  text_option,
+}
 use Rattle.words.specs.Reporting as reporting
 use Rattle.words.specs.Reporting.{with_reporting}
 use Rattle.words.specs.Tracing as tracing
@@ -29,7 +52,8 @@ jobs_option = by_default (codes "8") (number_option (codes "jobs") 65535)
 
 abbrev pub wire_command : App
 wire_command = with_reporting (with_tracing (
-    with_rule (with_rule (with_rule (with_rule (with_rule (with_rule (with_rule (with_rule (new_app (codes "wire"))
+    with_rule (with_rule
+    (with_rule (with_rule (with_rule (with_rule (with_rule (with_rule (new_app (codes "wire"))
     (several (codes "CASES")))
     (flag (codes "list")))
     (number_option (codes "port") 65535))
@@ -97,12 +121,15 @@ run_of names told rows =
 abbrev pub told_of : List Row → Option Told
 told_of rows =
     if has_flag (codes "list") rows then then_some (is_none (text_of (codes "CASES") rows)) list
-    else option_and_then (λ names. option_and_then (λ told. option_map run (run_of names told rows)) (reporting.reporting_of rows))
+    else option_and_then (λ names.
+    option_and_then (λ told. option_map run (run_of names told rows)) (reporting.reporting_of rows))
     (some_texts_of (codes "CASES") rows)
 
 -- the numbers are not 0
 abbrev pub IsRun : WireRun → Type 0
-IsRun words = (1 ≤ words.port) × (1 ≤ words.silence) × (1 ≤ words.limit) × (1 ≤ words.jobs) × (1 ≤ words.reporting.repeat)
+IsRun words =
+    (1 ≤ words.port) × (1 ≤ words.silence) × (1 ≤ words.limit) × (1 ≤ words.jobs)
+    × (1 ≤ words.reporting.repeat)
 
 abbrev pub IsInRange : WireWords → Type 0
 IsInRange wire_words.List = ⊤

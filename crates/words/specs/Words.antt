@@ -1,6 +1,21 @@
 -- What the words of a command line mean: `clap`'s meaning of a simple command, at the command line
 -- of this program.
-use Rattle.std.specs.Prelude.{◌≤◌, ⊤, ℕ, true, List, [], ◌∷◌, Option, Some, None, if◌then◌else◌, codes, option_map, option_and_then}
+use Rattle.std.specs.Prelude.{
+  ◌≤◌,
+  ⊤,
+  ℕ,
+  true,
+  List,
+  [],
+  ◌∷◌,
+  Option,
+  Some,
+  None,
+  if◌then◌else◌,
+  codes,
+  option_map,
+  option_and_then,
+}
 use Rattle.std.specs.Str.{bytes_eq}
 use Rattle.clap.specs.Walk.{Row, Text}
 use Rattle.clap.specs.Simple.{App, new_app, on_top, subcommand_of, with_subcommand}
@@ -10,7 +25,13 @@ use Rattle.words.specs.Body.{body_command, cut_of}
 use Rattle.words.specs.Case.{IsTrial, Trial, case_command, trial, trial_of}
 use Rattle.words.specs.Frames as frames
 use Rattle.words.specs.Frames.{frames_command, frames_of}
-use Rattle.words.specs.Misbehave.{IsPlayable, Misbehaving, misbehave_command, misbehaving, misbehaving_of}
+use Rattle.words.specs.Misbehave.{
+  IsPlayable,
+  Misbehaving,
+  misbehave_command,
+  misbehaving,
+  misbehaving_of,
+}
 use Rattle.words.specs.OwnServer.{own_command, own_port_of}
 use Rattle.words.specs.Serve.{Serving, IsServing, serve_command, serving, serving_of}
 use Rattle.words.specs.Wire.{Told, told, told_of, wire_command}
@@ -32,7 +53,8 @@ bare_line = on_top (λ top. record top {
 
 abbrev pub command_line : App
 command_line =
-    with_subcommand (with_subcommand (with_subcommand (with_subcommand (with_subcommand (with_subcommand (with_subcommand (with_subcommand (with_subcommand bare_line
+    with_subcommand (with_subcommand (with_subcommand (with_subcommand
+    (with_subcommand (with_subcommand (with_subcommand (with_subcommand (with_subcommand bare_line
     body_command.top)
     (new_app (codes "parts")).top)
     serve_command.top)

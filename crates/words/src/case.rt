@@ -8,7 +8,34 @@ ghost use Rattle.clap.specs.Simple.{App};
 ghost use Rattle.clap.specs.Words.{app_of, found_of, rows_of};
 ghost use Rattle.words.specs.Options.{IsCommand, IsOption};
 ghost use Rattle.words.specs.Reporting.{reporting as reporting_told};
-ghost use Rattle.words.specs.Case.{IsRun, IsTrial, acceptable_option, case_command, gap_option, host_option, is_cleartext, iterations_option, max_failures_option, names_of, overall_option, port_option, request_size_option, response_size_option, run_of, soak, soak_of, streams_option, timeout_option, times_option, tls_option, trial, trial_of, trial_run, with_credentials, with_soak};
+ghost use Rattle.words.specs.Case.{
+  IsRun,
+  IsTrial,
+  acceptable_option,
+  case_command,
+  gap_option,
+  host_option,
+  is_cleartext,
+  iterations_option,
+  max_failures_option,
+  names_of,
+  overall_option,
+  port_option,
+  request_size_option,
+  response_size_option,
+  run_of,
+  soak,
+  soak_of,
+  streams_option,
+  timeout_option,
+  times_option,
+  tls_option,
+  trial,
+  trial_of,
+  trial_run,
+  with_credentials,
+  with_soak,
+};
 
 use crate::options::{
     LOOPBACK, amount_of, amount_option, flag, has_flag, number_option, several, small_number_of,

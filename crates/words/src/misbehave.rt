@@ -3,7 +3,17 @@
 
 ghost use Rattle.std.specs.Prelude.{◌≡◌, ◌≤◌, false, IfOk, IfSome, map, option_map};
 ghost use Rattle.clap.specs.Words.{app_of, found_of, rows_of};
-ghost use Rattle.words.specs.Misbehave.{IsPlayable, IsRun, host_option, misbehave_command, misbehaving, misbehaving_of, run_of, run_told, seconds_option};
+ghost use Rattle.words.specs.Misbehave.{
+  IsPlayable,
+  IsRun,
+  host_option,
+  misbehave_command,
+  misbehaving,
+  misbehaving_of,
+  run_of,
+  run_told,
+  seconds_option,
+};
 ghost use Rattle.words.specs.Options.{IsCommand, IsOption};
 ghost use Rattle.words.specs.Reporting.{reporting as reporting_told};
 

@@ -5,7 +5,20 @@
 
 ghost use Rattle.std.specs.Prelude.{◌≡◌, ◌≢◌, ◌≤◌, false, IfOk, IfSome, map, option_map};
 ghost use Rattle.clap.specs.Words.{found_of, rows_of, rule_of};
-ghost use Rattle.words.specs.Options.{IsOption, amount_of, amount_option, flag, has_flag, number_of, number_option, several, some_texts_of, text_of, text_option, texts_of};
+ghost use Rattle.words.specs.Options.{
+  IsOption,
+  amount_of,
+  amount_option,
+  flag,
+  has_flag,
+  number_of,
+  number_option,
+  several,
+  some_texts_of,
+  text_of,
+  text_option,
+  texts_of,
+};
 
 use clap::builder::ValueParser;
 use clap::{Arg, ArgAction, ArgMatches, value_parser};
@@ -99,7 +112,8 @@ pub(crate) fn amount_of(options: &ArgMatches<'_>, name: &str) -> Option<u32>
 
 // The text of an option, or of the word at a place.
 pub(crate) fn text_of<'a>(options: &ArgMatches<'a>, name: &str) -> Option<&'a str>
-    ensures { option_map (λ text. text.now) result ≡ text_of name.now (rows_of (found_of options.now)) }
+    ensures { option_map (λ text. text.now) result
+        ≡ text_of name.now (rows_of (found_of options.now)) }
 {
     options.get_str(name)
 }

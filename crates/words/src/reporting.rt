@@ -3,12 +3,33 @@
 //! `--save DIR`, `--known FILE`, `--write-known FILE`, `--skip WORDS`, `--level LEVEL`,
 //! `--repeat N`, `--fail-fast`.
 
-ghost use Rattle.std.specs.Prelude.{◌≡◌, ◌==◌, ◌≤◌, ◌++◌, false, IfOk, IfSome, OnOk, map, option_map};
+ghost use Rattle.std.specs.Prelude.{
+  ◌≡◌,
+  ◌==◌,
+  ◌≤◌,
+  ◌++◌,
+  false,
+  IfOk,
+  IfSome,
+  OnOk,
+  map,
+  option_map,
+};
 ghost use Rattle.std.specs.List.{flat_map, slice_split};
 ghost use Rattle.clap.specs.Simple.{App};
 ghost use Rattle.clap.specs.Words.{found_of, rows_of};
 ghost use Rattle.words.specs.Options.{IsCommand, IsOption};
-ghost use Rattle.words.specs.Reporting.{level_of, repeat_option, reporting, reporting_of, skip_option, skipped_of, wants_output_twice, with_forms, with_reporting};
+ghost use Rattle.words.specs.Reporting.{
+  level_of,
+  repeat_option,
+  reporting,
+  reporting_of,
+  skip_option,
+  skipped_of,
+  wants_output_twice,
+  with_forms,
+  with_reporting,
+};
 
 use crate::options::{
     flag, has_flag, number_option, small_number_of, text_of, text_option, texts_of,
@@ -83,7 +104,8 @@ pub(crate) fn with_reporting<'a>(
     alloc: Global,
     command: Command<'a>,
 ) -> Result<Command<'a>, AllocError>
-    ensures { (app : App) → IsCommand app command.entry → IfOk result (IsCommand (with_reporting app)) }
+    ensures { (app : App) → IsCommand app command.entry
+        → IfOk result (IsCommand (with_reporting app)) }
 {
     with_forms(alloc, command)?
         .arg(skip_option(alloc))?

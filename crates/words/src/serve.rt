@@ -5,7 +5,22 @@
 ghost use Rattle.std.specs.Prelude.{◌≡◌, ◌≤◌, false, IfOk, IfSome, option_map};
 ghost use Rattle.clap.specs.Words.{app_of, found_of, rows_of};
 ghost use Rattle.words.specs.Options.{IsCommand, IsOption};
-ghost use Rattle.words.specs.Serve.{IsPort, IsServing, form_of, host_option, log_of, log_option, patience_option, port_of, serve_command, serving, serving_of, time_form_of, time_of, time_option};
+ghost use Rattle.words.specs.Serve.{
+  IsPort,
+  IsServing,
+  form_of,
+  host_option,
+  log_of,
+  log_option,
+  patience_option,
+  port_of,
+  serve_command,
+  serving,
+  serving_of,
+  time_form_of,
+  time_of,
+  time_option,
+};
 
 use crate::files::{Files, files_of, with_files};
 use crate::options::{

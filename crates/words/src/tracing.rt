@@ -5,7 +5,15 @@ ghost use Rattle.std.specs.Prelude.{◌≡◌, IfOk, option_map};
 ghost use Rattle.clap.specs.Simple.{App};
 ghost use Rattle.clap.specs.Words.{found_of, rows_of};
 ghost use Rattle.words.specs.Options.{IsCommand, IsOption};
-ghost use Rattle.words.specs.Tracing.{form_of, is_shown, trace_of, trace_option, tracing, tracing_of, with_tracing};
+ghost use Rattle.words.specs.Tracing.{
+  form_of,
+  is_shown,
+  trace_of,
+  trace_option,
+  tracing,
+  tracing_of,
+  with_tracing,
+};
 
 use crate::options::{text_of, text_option};
 use clap::{Arg, ArgMatches, Command};
@@ -60,7 +68,8 @@ pub(crate) fn with_tracing<'a>(
     alloc: Global,
     command: Command<'a>,
 ) -> Result<Command<'a>, AllocError>
-    ensures { (app : App) → IsCommand app command.entry → IfOk result (IsCommand (with_tracing app)) }
+    ensures { (app : App) → IsCommand app command.entry
+        → IfOk result (IsCommand (with_tracing app)) }
 {
     command
         .arg(trace_option(alloc))?

@@ -5,7 +5,16 @@ ghost use Rattle.std.specs.Prelude.{◌≡◌, ◌≤◌, false, IfOk, IfSome, m
 ghost use Rattle.clap.specs.Words.{app_of, found_of, rows_of};
 ghost use Rattle.words.specs.Options.{IsCommand, IsOption};
 ghost use Rattle.words.specs.Reporting.{reporting as reporting_told};
-ghost use Rattle.words.specs.Wire.{IsInRange, IsRun, host_option, jobs_option, limit_option, run_of, run_told, silence_option};
+ghost use Rattle.words.specs.Wire.{
+  IsInRange,
+  IsRun,
+  host_option,
+  jobs_option,
+  limit_option,
+  run_of,
+  run_told,
+  silence_option,
+};
 ghost use Rattle.words.specs.Wire.{told, told_of, wire_command};
 
 use crate::options::{

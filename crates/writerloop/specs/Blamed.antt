@@ -1,5 +1,5 @@
--- The stream that the writer ends by itself, or the connection as stream 0, since a window of the peer's would be too large (RFC 9113, sections
--- 6.9.1 and 6.9.2).
+-- The stream that the writer ends by itself, or the connection as stream 0, since a window of the
+-- peer's would be too large (RFC 9113, sections 6.9.1 and 6.9.2).
 -- A run has the latest first.
 use Rattle.reasons.specs.declared.Reason.TheVariants as reason
 use Rattle.std.specs.Prelude.{◌≡◌, ◌||◌, ℕ, Bool, true, false, List, [], ◌∷◌, ◌++◌}

@@ -3,7 +3,11 @@ use Rattle.std.specs.Prelude.{Option, None, Some}
 use Rattle.callparts.specs.declared.report.Ending.{Ending}
 use Rattle.callparts.specs.declared.report.Ending.TheVariants as endings
 use Rattle.writerloop.specs.declared.writer_ending.WriterEnding.{WriterEnding}
-use Rattle.writerloop.specs.declared.writer_ending.WriterEnding.TheVariants.{OutOfMemory, WriteFailed, ProtocolError}
+use Rattle.writerloop.specs.declared.writer_ending.WriterEnding.TheVariants.{
+  OutOfMemory,
+  WriteFailed,
+  ProtocolError,
+}
 
 abbrev pub ending_of : WriterEnding → Ending
 ending_of OutOfMemory = endings.OutOfMemory

@@ -3,12 +3,36 @@
 -- large, its reset of a call that was left without trailers, and its warning that this side is to
 -- end the connection. Lists of orders have the earliest first, runs the latest.
 use Rattle.reasons.specs.declared.Reason.TheVariants as reason
-use Rattle.std.specs.Prelude.{◌≡◌, ◌⊎◌, ℕ, Bool, true, false, List, [], ◌∷◌, ◌++◌, map, Option, None, Some}
+use Rattle.std.specs.Prelude.{
+  ◌≡◌,
+  ◌⊎◌,
+  ℕ,
+  Bool,
+  true,
+  false,
+  List,
+  [],
+  ◌∷◌,
+  ◌++◌,
+  map,
+  Option,
+  None,
+  Some,
+}
 use Rattle.std.specs.List.{list_any}
 use Rattle.lane.specs.Ring.{taken, out_name}
 use Rattle.h2frame.specs.declared.error_code.ErrorCode.TheVariants.{InternalError}
 use Rattle.outwriter.specs.declared.control.Control.{Control}
-use Rattle.outwriter.specs.declared.control.Control.TheVariants.{Probe, Open, Settings, Window, Reset, Goaway, InputEnded, Close}
+use Rattle.outwriter.specs.declared.control.Control.TheVariants.{
+  Probe,
+  Open,
+  Settings,
+  Window,
+  Reset,
+  Goaway,
+  InputEnded,
+  Close,
+}
 use Rattle.outwriter.specs.declared.control.OutFault.TheVariants.{PeerWindow}
 use Rattle.outwriter.specs.Drains.{draining, is_going_away, warning, was_probed}
 use Rattle.outwriter.specs.RunState.{Blames, Concerns, HasRoom}
@@ -27,7 +51,8 @@ use Rattle.writerloop.specs.declared.steps.Waiting.TheVariants as waiting
 -- connection (RFC 9113, sections 6.9.1 and 6.9.2).
 abbrev pub IsAnswer : Order → List Step → Type 0
 IsAnswer order (Taken blamed ∷ before) =
-    (last : ℕ) × (id : ℕ) × (order ≡ own_order last id) × Concerns (PeerWindow id) blamed × Blames (PeerWindow id) blamed before
+    (last : ℕ) × (id : ℕ) × (order ≡ own_order last id) × Concerns (PeerWindow id) blamed
+    × Blames (PeerWindow id) blamed before
 IsAnswer order _ = ⊥
 
 -- the order is one of these
@@ -48,20 +73,25 @@ closes _ = false
 -- The writer resets the stream of a call that one of these orders opened, none of which ends the
 -- peer's input.
 abbrev pub ResetsCall : Order → List Order → Type 0
-ResetsCall order orders = (id : ℕ) × (order ≡ Reset id InternalError true) × IsAmong (Open id tt) orders × (list_any ends_input orders ≡ false)
+ResetsCall order orders =
+    (id : ℕ) × (order ≡ Reset id InternalError true) × IsAmong (Open id tt) orders
+    × (list_any ends_input orders ≡ false)
 
 -- The writer warns its peer that this side is to end the connection while calls go on (RFC 9113,
 -- section 6.8): by the GOAWAY that names the greatest number of a stream, where no GOAWAY was
 -- ordered before; and by a PING, once.
 abbrev pub Warns : Order → List Step → Type 0
-Warns order before = ((order ≡ warning) × (is_going_away before ≡ false)) ⊎ ((order ≡ Probe draining) × (was_probed before ≡ false))
+Warns order before =
+    ((order ≡ warning) × (is_going_away before ≡ false))
+    ⊎ ((order ≡ Probe draining) × (was_probed before ≡ false))
 
 -- each of these orders was taken, in order, and between them the writer's own
 abbrev pub HasTaken : List Order → List Step → Type 0
 HasTaken orders [] = orders ≡ []
 HasTaken orders (Taken order ∷ before) =
     ((earlier : List Order) × (orders ≡ earlier ++ order ∷ []) × HasTaken earlier before)
-    ⊎ ((IsAnswer order before ⊎ (ResetsCall order orders ⊎ Warns order before)) × HasTaken orders before)
+    ⊎ ((IsAnswer order before ⊎ (ResetsCall order orders ⊎ Warns order before))
+    × HasTaken orders before)
 HasTaken orders (Granted id n ∷ before) = HasTaken orders before
 HasTaken orders (Written frame ∷ before) = HasTaken orders before
 HasTaken orders (Returned id items ∷ before) = HasTaken orders before
@@ -69,14 +99,16 @@ HasTaken orders (Returned id items ∷ before) = HasTaken orders before
 -- an order concerns the stream, or the connection, that the next one ends
 abbrev pub EndsBy : Order → Option Order → Type 0
 EndsBy order None = ⊥
-EndsBy order (Some own) = (last : ℕ) × (id : ℕ) × (own ≡ own_order last id) × Concerns (PeerWindow id) order
+EndsBy order (Some own) =
+    (last : ℕ) × (id : ℕ) × (own ≡ own_order last id) × Concerns (PeerWindow id) order
 
 -- Each order that was taken makes no window too large, or the writer's own answer was taken next.
 -- To the last order the answer may lack.
 abbrev pub AreAnswered : Bool → Option Order → List Step → Type 0
 AreAnswered lacks next [] = Unit {0}
 AreAnswered lacks next (Taken order ∷ before) =
-    (HasRoom order before ⊎ (EndsBy order next ⊎ (lacks ≡ true))) × AreAnswered false (Some order) before
+    (HasRoom order before ⊎ (EndsBy order next ⊎ (lacks ≡ true)))
+    × AreAnswered false (Some order) before
 AreAnswered lacks next (Granted id n ∷ before) = AreAnswered lacks None before
 AreAnswered lacks next (Written frame ∷ before) = AreAnswered lacks None before
 AreAnswered lacks next (Returned id items ∷ before) = AreAnswered lacks None before
@@ -86,7 +118,8 @@ AreAnswered lacks next (Returned id items ∷ before) = AreAnswered lacks None b
 abbrev pub AreLast : List Order → List Step → Type 0
 AreLast orders [] = Unit {0}
 AreLast orders (Taken order ∷ before) =
-    (((last : ℕ) × (order ≡ Goaway last reason.Memory)) ⊎ ((order ≡ Close) × IsAmong order orders)) × AreLast orders before
+    (((last : ℕ) × (order ≡ Goaway last reason.Memory)) ⊎ ((order ≡ Close) × IsAmong order orders))
+    × AreLast orders before
 AreLast orders (Granted id n ∷ before) = AreLast orders before
 AreLast orders (Written frame ∷ before) = AreLast orders before
 AreLast orders (Returned id items ∷ before) = AreLast orders before
@@ -140,7 +173,8 @@ module _ {S : Type 0} where
     pub name : out_name new.ring ≡ out_name old.ring
     pub lost : new.has_lost ≡ old.has_lost
     pub none_aside : new.set_aside ≡ None
-    pub given : (given : List (Control S)) → HasGiven given old → HasGiven (given ++ order_in next) new
+    pub given : (given : List (Control S)) → HasGiven given old
+        → HasGiven (given ++ order_in next) new
 
   -- an inbox gives no order
   pub record Keeps (old new : Inbox S) : Type 0 where

@@ -24,7 +24,8 @@ own_order last id = own_control last id
 -- The last word of a writer whose core ran out of memory, if it is said: the order for GOAWAY with
 -- INTERNAL_ERROR, and then that frame.
 abbrev pub parting : ℕ → Bool → List Step
-parting last true = Written (goaway_frame last reason.Memory) ∷ Taken (Goaway last reason.Memory) ∷ []
+parting last true =
+    Written (goaway_frame last reason.Memory) ∷ Taken (Goaway last reason.Memory) ∷ []
 parting last false = []
 
 module _ {S : Type 0} where
@@ -39,8 +40,10 @@ module _ {S : Type 0} where
   -- bytes, or there is room for its credit
   abbrev pub Blamed : Taking S → Control S → List Step → Type 0
   Blamed Done control run = HasRoom control run
-  Blamed (Ended id) control run = Concerns (PeerWindow id) control × Blames (PeerWindow id) control run
-  Blamed (Unanswered id) control run = Concerns (PeerWindow id) control × Blames (PeerWindow id) control run
+  Blamed (Ended id) control run =
+      Concerns (PeerWindow id) control × Blames (PeerWindow id) control run
+  Blamed (Unanswered id) control run =
+      Concerns (PeerWindow id) control × Blames (PeerWindow id) control run
   Blamed (HandedBack back) control run = back ≡ control
 
   -- only an order that gives credit has a fault of the peer's, and what is handed back is the order

@@ -19,10 +19,14 @@ module _ {J : Type 0} {naming : Ghosts J} where
 
   -- the streams of these, with what their senders got
   abbrev pub rest_calls : Senders J naming → List (ℕ × List OutItem)
-  rest_calls senders = map (λ call. (call.1, [])) (opens (order_in senders.aside)) ++ calls got senders.core.items
+  rest_calls senders =
+      map (λ call. (call.1, [])) (opens (order_in senders.aside)) ++ calls got senders.core.items
 
   -- one of the senders is handed over
   pub record HandsOver (old new : Senders J naming) (returning : Returning J naming) : Type 0 where
     pub id : ℕ
-    pub number : IsPermutation (rest_numbers old) (numbered id returning.sending.value ∷ rest_numbers new)
-    pub call : IsPermutation (rest_calls old) ((id, got_of returning.sending.value.sender) ∷ rest_calls new)
+    pub number :
+        IsPermutation (rest_numbers old) (numbered id returning.sending.value ∷ rest_numbers new)
+    pub call :
+        IsPermutation (rest_calls old)
+        ((id, got_of returning.sending.value.sender) ∷ rest_calls new)

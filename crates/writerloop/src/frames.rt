@@ -3,7 +3,32 @@
 //! `fill` stops where a frame of the greatest length might not fit, so the buffer never has more
 //! bytes than seven of those. It is used again for the next frames.
 
-ghost use Rattle.std.specs.Prelude.{◌≡◌, ◌≢◌, ◌≤◌, ◌<◌, ◌+◌, ℕ, true, false, not, ◌&&◌, List, [], ◌∷◌, Option, Some, IsErr, OnOk, OnErr, OnSome, IfSome, IfNone, length, vec_len, vec_capacity};
+ghost use Rattle.std.specs.Prelude.{
+  ◌≡◌,
+  ◌≢◌,
+  ◌≤◌,
+  ◌<◌,
+  ◌+◌,
+  ℕ,
+  true,
+  false,
+  not,
+  ◌&&◌,
+  List,
+  [],
+  ◌∷◌,
+  Option,
+  Some,
+  IsErr,
+  OnOk,
+  OnErr,
+  OnSome,
+  IfSome,
+  IfNone,
+  length,
+  vec_len,
+  vec_capacity,
+};
 ghost use Rattle.std.specs.Io.KnownBytes.{Appends};
 ghost use Rattle.device.specs.Bytes.{AppendsPrefix};
 ghost use Rattle.flow.specs.Windows.{room};
@@ -18,7 +43,15 @@ ghost use Rattle.outwriter.specs.RunState.{is_held};
 ghost use Rattle.outwriter.specs.Steps.{Step, Taken, Granted, Returned, order_of, frames_of};
 ghost use Rattle.writerloop.specs.declared.standing.Standing.TheVariants as stands;
 ghost use Rattle.writerloop.specs.declared.filled.Filled.TheVariants as filled;
-ghost use Rattle.writerloop.specs.OwnOrders.{own_control, own_order, parting, steps_of, Blamed, IsOfOrder, Stops};
+ghost use Rattle.writerloop.specs.OwnOrders.{
+  own_control,
+  own_order,
+  parting,
+  steps_of,
+  Blamed,
+  IsOfOrder,
+  Stops,
+};
 ghost use Rattle.writerloop.specs.Spelled.{IsFront, IsAll};
 ghost use Rattle.writerloop.specs.Wrote.{Wrote, WritesOn, BringsBy, Fills, Puts};
 
@@ -167,8 +200,9 @@ impl<L: Lane<Item = OutItem>, W: ConnWrite> Frames<L, W> {
         self.core.may_probe()
     }
 
-    /// Takes an order. Where the peer's window overflows by it, the writer ends the stream or the connection by an order
-    /// of its own; `last` is the greatest stream that was looked at, which a GOAWAY then tells.
+    /// Takes an order. Where the peer's window overflows by it, the writer ends the stream or the
+    /// connection by an order of its own; `last` is the greatest stream that was looked at, which a
+    /// GOAWAY then tells.
     pub fn take(&mut self, control: Control<Sender<L>>, last: StreamId) -> Taking<Sender<L>>
         // The order is the next step of the run, unless it is handed back, and the writer's own
         // order follows it.

@@ -27,12 +27,14 @@ pub(crate) fn begin<J: Naming, W: ConnWrite>(
     id: StreamId,
     opening: Opening<J>,
 ) -> Result<(), Order<J>>
-    requires aligned { keys sends.old.calls.items ≡ core_keys frames.old.core.sending.senders.items }
+    requires aligned { keys sends.old.calls.items
+        ≡ core_keys frames.old.core.sending.senders.items }
     ensures aligned { keys sends.new.calls.items ≡ core_keys frames.new.core.sending.senders.items }
     ensures wrote { OnOk result
         (WritesOn got W.contents W.failed (Taken (orders.Open id tt) ∷ []) frames.old frames.new) }
     ensures still { OnErr result (WritesOn got W.contents W.failed [] frames.old frames.new) }
-    ensures adds { OnOk result (Adds id opening.sending.value sends.old.calls.items sends.new.calls.items) }
+    ensures adds { OnOk result
+        (Adds id opening.sending.value sends.old.calls.items sends.new.calls.items) }
     ensures brings { OnOk result ((sender : OutSender) × (frames.new.core.sending.senders.items
         ≡ frames.old.core.sending.senders.items ++ (id, sender) ∷ [])) }
     ensures same { OnErr result ((sends.new.calls.items ≡ sends.old.calls.items)

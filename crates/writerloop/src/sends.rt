@@ -30,10 +30,27 @@ pub(crate) struct Sends<J: Naming> {
 }
 
 impl<J: Naming> Sends<J> {
-    ghost use Rattle.std.specs.Prelude.{◌≡◌, ◌<◌, ◌++◌, ◌∷◌, [], true, length, vec_len, vec_capacity};
+    ghost use Rattle.std.specs.Prelude.{
+      ◌≡◌,
+      ◌<◌,
+      ◌++◌,
+      ◌∷◌,
+      [],
+      true,
+      length,
+      vec_len,
+      vec_capacity,
+    };
     ghost use Rattle.std.specs.Prelude.{IfNone, IfSome, OnErr, OnOk, Some, slice_get};
     ghost use Rattle.lane.specs.Ring.{HasRoom, in_name, put_in};
-    ghost use Rattle.writerloop.specs.Sent.{Adds, HandsHome, HasNone, HasNoneBelow, IsAt, IsFirstOf};
+    ghost use Rattle.writerloop.specs.Sent.{
+      Adds,
+      HandsHome,
+      HasNone,
+      HasNoneBelow,
+      IsAt,
+      IsFirstOf,
+    };
     ghost use Rattle.writerloop.specs.Sent.{IsLastOf, Passes, SameCalls, TakesLast, ids_of};
 
     pub(crate) fn new(alloc: Global, home: RingIn<Returning<J>>) -> Sends<J>

@@ -43,7 +43,9 @@ pub struct Writing<J: Naming, W: ConnWrite> {
     /// Whether the writer has ended the connection by itself, because a window of the peer's would
     /// be too large.
     blames: bool,
-    ghost aligned: { keys sends.calls.items ≡ core_keys frames.core.sending.senders.items } by { Keys_set (keys sends.calls.items) (core_keys frames.core.sending.senders.items) },
+    ghost aligned: { keys sends.calls.items
+        ≡ core_keys frames.core.sending.senders.items } by { Keys_set (keys sends.calls.items)
+            (core_keys frames.core.sending.senders.items) },
 }
 
 /// What a writer hands back: how it ended, or nothing where all was written, what it wrote to, its
@@ -63,7 +65,8 @@ pub struct Senders<J: Naming> {
     core: Vec<(StreamId, Sender<OutLane>)>,
     /// An order that was set aside.
     aside: Option<Order<J>>,
-    ghost aligned: { keys sends.calls.items ≡ core_keys core.items } by { Keys_set (keys sends.calls.items) (core_keys core.items) },
+    ghost aligned: { keys sends.calls.items
+        ≡ core_keys core.items } by { Keys_set (keys sends.calls.items) (core_keys core.items) },
 }
 
 impl<J: Naming> Senders<J> {
@@ -129,7 +132,18 @@ impl<J: Naming> Senders<J> {
 
 impl<J: Naming, W: ConnWrite + Drop> Writing<J, W> {
     ghost use Rattle.std.specs.Prelude.{◌≢◌, ◌⊎◌, ◌||◌, ◌+◌, ℕ, nat_eq, if◌then◌else◌, true, false};
-    ghost use Rattle.std.specs.Prelude.{List, [], length, Option, None, Some, IfNone, IfSome, OnErr, OnOk};
+    ghost use Rattle.std.specs.Prelude.{
+      List,
+      [],
+      length,
+      Option,
+      None,
+      Some,
+      IfNone,
+      IfSome,
+      OnErr,
+      OnOk,
+    };
     ghost use Rattle.lane.specs.Ring.{in_name, put_in, taken};
     ghost use Rattle.lane.specs.RingLane.{got};
     ghost use Rattle.h2frame.specs.declared.error_code.ErrorCode.{ErrorCode as Code};
@@ -146,7 +160,14 @@ impl<J: Naming, W: ConnWrite + Drop> Writing<J, W> {
     ghost use Rattle.writerloop.specs.declared.steps.Rest.TheVariants as rest;
     ghost use Rattle.writerloop.specs.declared.steps.Took.TheVariants as took;
     ghost use Rattle.writerloop.specs.declared.steps.Waiting.TheVariants as waiting;
-    ghost use Rattle.writerloop.specs.Orders.{IsWarning, OpensNone, TakesNoWindow, Warns, closes, waiting_of};
+    ghost use Rattle.writerloop.specs.Orders.{
+      IsWarning,
+      OpensNone,
+      TakesNoWindow,
+      Warns,
+      closes,
+      waiting_of,
+    };
     ghost use Rattle.writerloop.specs.OwnOrders.{Blamed, steps_of};
     ghost use Rattle.writerloop.specs.Sent.{SameCalls};
     ghost use Rattle.writerloop.specs.Wrote.{WritesOn, Wrote};
@@ -299,7 +320,8 @@ impl<J: Naming, W: ConnWrite + Drop> Writing<J, W> {
     fn pass_over(&mut self, order: Order<J>, last: StreamId) -> Took
         requires lost { self.old.inbox.has_lost ≡ true }
         requires none_aside { self.old.inbox.set_aside ≡ None }
-        ensures passes { result ≡ took.One → PassesOver W.contents W.failed order self.old self.new }
+        ensures passes { result ≡ took.One
+            → PassesOver W.contents W.failed order self.old self.new }
         ensures inbox { result ≡ took.One → self.new.inbox ≡ self.old.inbox }
 
         // If the order waits, nothing else changes.

@@ -3,7 +3,22 @@
 //! All of its memory after its end that was used before is zeros, so zeros are appended by moving
 //! the end. `clear` wipes the places that were written, and no others.
 
-ghost use Rattle.std.specs.Prelude.{◌≡◌, ◌==◌, ◌≤◌, ◌+◌, ◌-◌, ◌++◌, [], length, replicate, take, drop, OnOk, vec_len, vec_capacity};
+ghost use Rattle.std.specs.Prelude.{
+  ◌≡◌,
+  ◌==◌,
+  ◌≤◌,
+  ◌+◌,
+  ◌-◌,
+  ◌++◌,
+  [],
+  length,
+  replicate,
+  take,
+  drop,
+  OnOk,
+  vec_len,
+  vec_capacity,
+};
 
 use crate::marks::Marks;
 use std::alloc::{AllocError, Global};
@@ -34,9 +49,13 @@ impl Model for ZeroBuffer {
 
     ghost use Rattle.zeros.specs.Marks.{spans, EndsBy, AreZerosOutside};
 
-    ghost view = { λ buffer. record { items = take buffer.end buffer.bytes.items; spare = buffer.room - buffer.end } };
+    ghost view = { λ buffer.
+        record { items = take buffer.end buffer.bytes.items; spare = buffer.room - buffer.end } };
 
-    ghost invariant = { λ buffer. (buffer.end ≤ length buffer.bytes.items) × (buffer.end ≤ buffer.room) × (buffer.room ≤ vec_capacity buffer.bytes) × All (EndsBy buffer.end) (spans buffer.marks) × AreZerosOutside (spans buffer.marks) buffer.bytes.items };
+    ghost invariant = { λ buffer.
+        (buffer.end ≤ length buffer.bytes.items) × (buffer.end ≤ buffer.room)
+        × (buffer.room ≤ vec_capacity buffer.bytes) × All (EndsBy buffer.end) (spans buffer.marks)
+        × AreZerosOutside (spans buffer.marks) buffer.bytes.items };
 }
 
 impl ZeroBuffer {

@@ -1,6 +1,18 @@
 //! Bytes, the last of which may be zeros that take no memory.
 
-ghost use Rattle.std.specs.Prelude.{◌≡◌, ◌==◌, ◌≤◌, ◌++◌, length, replicate, take, drop, IfOk, OnOk, OnErr};
+ghost use Rattle.std.specs.Prelude.{
+  ◌≡◌,
+  ◌==◌,
+  ◌≤◌,
+  ◌++◌,
+  length,
+  replicate,
+  take,
+  drop,
+  IfOk,
+  OnOk,
+  OnErr,
+};
 
 use bytes::Bytes;
 use std::alloc::AllocError;

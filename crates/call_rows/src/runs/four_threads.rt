@@ -2,7 +2,25 @@
 //!
 //! It is there to state what four threads do; a server's own loops decide what a refusal means.
 
-ghost use Rattle.std.specs.Prelude.{◌≡◌, ℕ, true, List, [], ◌∷◌, ◌++◌, None, Some, ◌≤◌, length, map, take, All, IfOk, MatchBool, MatchOption};
+ghost use Rattle.std.specs.Prelude.{
+  ◌≡◌,
+  ℕ,
+  true,
+  List,
+  [],
+  ◌∷◌,
+  ◌++◌,
+  None,
+  Some,
+  ◌≤◌,
+  length,
+  map,
+  take,
+  All,
+  IfOk,
+  MatchBool,
+  MatchOption,
+};
 ghost use mathlib.Core.List.{IsPrefix};
 ghost use Rattle.lane.specs.End.{of_end};
 ghost use Rattle.callbox.specs.InSides.{Took, pieces_of};

@@ -3,7 +3,25 @@
 //! A worker decides by a [`Pace`] when the turns of a call come. A pace with a bell waits where
 //! there is nothing to do, and a pace whose connection has ended leaves the call.
 
-ghost use Rattle.std.specs.Prelude.{◌≡◌, ◌+◌, ◌≤◌, ◌<◌, ◌++◌, ◌⊎◌, ℕ, List, [], true, false, All, IfOk, IfSome, IsSomeAnd, length, slice_get};
+ghost use Rattle.std.specs.Prelude.{
+  ◌≡◌,
+  ◌+◌,
+  ◌≤◌,
+  ◌<◌,
+  ◌++◌,
+  ◌⊎◌,
+  ℕ,
+  List,
+  [],
+  true,
+  false,
+  All,
+  IfOk,
+  IfSome,
+  IsSomeAnd,
+  length,
+  slice_get,
+};
 ghost use Rattle.std.specs.List.{AllZip, sum_by};
 ghost use Rattle.lane.specs.End.{of_end};
 ghost use Rattle.callbox.specs.InSides.{Took};
@@ -12,7 +30,16 @@ ghost use Rattle.callrun.specs.Runs.{HasCome};
 ghost use Rattle.callrun.specs.Handlings.{lacks_memory};
 ghost use Rattle.callrun.specs.Sides.{is_left, is_open, name_by, shown};
 ghost use Rattle.callrun.specs.declared.uses.call_list.Why.TheVariants as why;
-ghost use Rattle.callrun.specs.Listings.{CountsOn, HadTurns, IsUntouched, IsWhy, WasRun, lefts_by, leaves, turns_by};
+ghost use Rattle.callrun.specs.Listings.{
+  CountsOn,
+  HadTurns,
+  IsUntouched,
+  IsWhy,
+  WasRun,
+  lefts_by,
+  leaves,
+  turns_by,
+};
 
 use crate::call::Turn;
 use crate::call_run::CallRun;

@@ -44,7 +44,18 @@ pub(crate) struct Second;
 impl Second {
     ghost use Rattle.std.specs.Prelude.{[], ◌++◌, IfOk};
     ghost use Rattle.lane.specs.End.{of_end};
-    ghost use Rattle.lane.specs.Second.{room_of, in_name, shut_name, out_name, put_in, put_shut, seen_taken, seen_shut, got, ahead};
+    ghost use Rattle.lane.specs.Second.{
+      room_of,
+      in_name,
+      shut_name,
+      out_name,
+      put_in,
+      put_shut,
+      seen_taken,
+      seen_shut,
+      got,
+      ahead,
+    };
 
     /// An empty ring with room for `room` items and a last one.
     pub(crate) fn open<T: Drop>(
@@ -109,7 +120,15 @@ impl Second {
 
 impl<T: Drop> SecondIn<T> {
     ghost use Rattle.std.specs.Prelude.{[], ◌∷◌, ◌++◌};
-    ghost use Rattle.lane.specs.Second.{room_of, in_name, shut_name, put_in, put_shut, seen_taken, seen_shut};
+    ghost use Rattle.lane.specs.Second.{
+      room_of,
+      in_name,
+      shut_name,
+      put_in,
+      put_shut,
+      seen_taken,
+      seen_shut,
+    };
 
     /// Looks how many of the items that were put this end hasn't seen taken.
     pub(crate) fn waiting(&mut self) -> u64

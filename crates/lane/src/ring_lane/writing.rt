@@ -1,5 +1,22 @@
 //! How the writing end of a `RingLane` puts an item.
-ghost use Rattle.std.specs.Prelude.{◌≡◌, ◌+◌, ◌<◌, ◌≤◌, [], ◌∷◌, ◌++◌, true, false, length, None, Some, is_some, OnOk, OnErr, IfErr};
+ghost use Rattle.std.specs.Prelude.{
+  ◌≡◌,
+  ◌+◌,
+  ◌<◌,
+  ◌≤◌,
+  [],
+  ◌∷◌,
+  ◌++◌,
+  true,
+  false,
+  length,
+  None,
+  Some,
+  is_some,
+  OnOk,
+  OnErr,
+  IfErr,
+};
 ghost use Rattle.rtrb.specs.Ring.{sent, known_free};
 ghost use Rattle.lane.specs.RingEnds.{producer_name};
 ghost use Rattle.lane.specs.PutFault.{item_of, MayRefuse};
@@ -7,7 +24,13 @@ ghost use Rattle.lane.specs.Steps.{pieces};
 ghost use Rattle.lane.specs.Linked.{of_second, count_second};
 ghost use Rattle.lane.specs.Firsts.{seen_first};
 ghost use Rattle.lane.specs.RingLane.{in_name, put_in, seen_taken};
-ghost use Rattle.lane.specs.Second.{in_name as second_in_name, out_name as second_out_name, put_in as second_put_in, seen_taken as second_seen_taken, room_of as second_room_of};
+ghost use Rattle.lane.specs.Second.{
+  in_name as second_in_name,
+  out_name as second_out_name,
+  put_in as second_put_in,
+  seen_taken as second_seen_taken,
+  room_of as second_room_of,
+};
 
 use super::RingLaneIn;
 use super::second::{Second, SecondIn};
@@ -55,7 +78,8 @@ impl<T: Drop> RingLaneIn<T> {
         ensures second { self.new.second ≡ None }
         ensures sent { sent self.new.first ≡ sent self.old.first }
         ensures seen { seen_taken self.old ≤ seen_taken self.new }
-        ensures room { OnOk result (length (put_in self.new) < self.new.room + seen_taken self.new) }
+        ensures room { OnOk result
+            (length (put_in self.new) < self.new.room + seen_taken self.new) }
         ensures full { IfErr result
             (λ waiting. (waiting + seen_taken self.new ≡ length (put_in self.new))
             × (self.new.room ≤ waiting)) }
@@ -71,7 +95,8 @@ impl<T: Drop> RingLaneIn<T> {
     fn check_waiting(&self) -> Result<(), u64>
         requires first { self.now.second ≡ None }
         requires full { known_free self.now.first ≤ 1 }
-        ensures room { OnOk result (length (put_in self.now) < self.now.room + seen_taken self.now) }
+        ensures room { OnOk result
+            (length (put_in self.now) < self.now.room + seen_taken self.now) }
         ensures wants { OnOk result (16 < self.now.room) }
         ensures full { IfErr result
             (λ waiting. (waiting + seen_taken self.now ≡ length (put_in self.now))
@@ -91,7 +116,8 @@ impl<T: Drop> RingLaneIn<T> {
         ensures second { is_some self.new.second ≡ true }
         ensures unchanged { put_in self.new ≡ put_in self.old }
         ensures seen { seen_taken self.old ≤ seen_taken self.new }
-        ensures room { OnOk result (length (put_in self.new) < self.new.room + seen_taken self.new) }
+        ensures room { OnOk result
+            (length (put_in self.new) < self.new.room + seen_taken self.new) }
         ensures full { IfErr result
             (λ waiting. (waiting + seen_taken self.new ≡ length (put_in self.new))
             × (self.new.room ≤ waiting)) }

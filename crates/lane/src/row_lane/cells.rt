@@ -1,5 +1,21 @@
 //! Steps on a row of cells, each of which is set once.
-ghost use Rattle.std.specs.Prelude.{◌≡◌, ◌+◌, ◌<◌, ◌≤◌, [], ◌∷◌, true, length, vec_len, slice_index, take, IfOk, IfErr, IfSome, Some};
+ghost use Rattle.std.specs.Prelude.{
+  ◌≡◌,
+  ◌+◌,
+  ◌<◌,
+  ◌≤◌,
+  [],
+  ◌∷◌,
+  true,
+  length,
+  vec_len,
+  slice_index,
+  take,
+  IfOk,
+  IfErr,
+  IfSome,
+  Some,
+};
 ghost use mathlib.Core.List.{IsPrefix};
 ghost use Rattle.once_cell.specs.Once.{cell_name};
 ghost use Rattle.lane.specs.Notes.{known_item, holds_item};

@@ -1,5 +1,24 @@
 //! Items that one thread puts and another takes.
-ghost use Rattle.std.specs.Prelude.{◌≡◌, false, List, ◌+◌, ◌<◌, ◌≤◌, [], ◌∷◌, ◌++◌, length, take, vec_len, vec_capacity, IfOk, IfSome, OnOk, OnErr, MatchOption};
+ghost use Rattle.std.specs.Prelude.{
+  ◌≡◌,
+  false,
+  List,
+  ◌+◌,
+  ◌<◌,
+  ◌≤◌,
+  [],
+  ◌∷◌,
+  ◌++◌,
+  length,
+  take,
+  vec_len,
+  vec_capacity,
+  IfOk,
+  IfSome,
+  OnOk,
+  OnErr,
+  MatchOption,
+};
 ghost use mathlib.Core.List.{IsPrefix};
 ghost use Rattle.lane.specs.Lawful.{IsLawful, count_of};
 
