@@ -17,7 +17,7 @@ ghost use Rattle.std.specs.Prelude.{
   IsOk,
   OnErr,
 };
-ghost use Rattle.std.specs.Io.KnownBytes.{Consumes, IsAtEnd};
+ghost use Rattle.std.specs.Io.KnownBytes.{Consumes, IsAtEnd, Keeps};
 ghost use Rattle.device.specs.Bytes.{ConsumesSome};
 ghost use Rattle.device.specs.declared.whole.ReadFault.TheVariants.{Device};
 ghost use Rattle.session.specs.declared.event.InEvent.{InEvent as InEventOf};
@@ -104,6 +104,8 @@ impl InCore {
         ensures end { IfOk result (λ given. given.0 ≡ 0 → IsAtEnd (I.remaining input.new)) }
         ensures prefix { OnErr result
             (ConsumesSome (I.remaining input.old) (I.remaining input.new)) }
+        ensures kept { IsErrOf result Device
+            → Keeps (I.remaining input.old) (I.remaining input.new) }
         ensures marked { IsErrOf result Device → I.failed input.new ≡ true }
         ensures unmarked { ¬ (IsErrOf result Device)
             → I.failed input.new ≡ I.failed input.old }
@@ -163,6 +165,8 @@ fn advance_from<I: ConnRead>(
     ensures end { IfOk result (λ next. next.1 ≡ 0 → IsAtEnd (I.remaining input.new)) }
     ensures prefix { OnErr result
         (ConsumesSome (I.remaining input.old) (I.remaining input.new)) }
+    ensures kept { IsErrOf result Device
+        → Keeps (I.remaining input.old) (I.remaining input.new) }
     ensures marked { IsErrOf result Device → I.failed input.new ≡ true }
     ensures unmarked { ¬ (IsErrOf result Device)
         → I.failed input.new ≡ I.failed input.old }
