@@ -37,7 +37,7 @@ use callparts::{
 };
 use callworker::{Gate, Hand, Ways, moment};
 use connbook::{AdmitFault, Receipt};
-use device::ConnRead;
+use device::{ConnRead, ReadFault};
 use h2frame::{ErrorCode, StreamId};
 use handlers::{Method, Methods};
 use lane::{RingIn, RingOut};
@@ -52,33 +52,9 @@ use std::thread::Threads;
 use std::time::{Clock, Duration, Instant};
 use writerloop::Senders;
 
-/// How many bytes are read at a time: the DATA that a window lets through, with the heads of its
-/// frames.
-const PIECE: usize = 65_664;
-
-/// How many bytes are read at a time until one read fills them. A silent connection takes no more
-/// memory than these, on its reader's stack.
-const FIRST_PIECE: usize = 1_024;
-
 /// For a read of this many bytes or more the writer isn't rung where all are DATA for calls: the
 /// workers ring once they have taken them.
 const LARGE_PIECE: usize = 8_192;
-
-/// The room for the next read: the first piece, until there is a whole one.
-fn room<'x>(first: &'x mut [u8], whole: &'x mut [u8]) -> &'x mut [u8]
-    requires first { 0 < length first.old }
-    ensures some { 0 < length result.now }
-{
-    if whole.is_empty() { first } else { whole }
-}
-
-/// Makes the whole piece after a read of `count` bytes that filled the first. Without memory the
-/// reader goes on with the first.
-fn grow(whole: &mut Vec<u8>, count: usize) {
-    if count == FIRST_PIECE && whole.is_empty() {
-        let _ = whole.resize(PIECE, 0);
-    }
-}
 
 /// The GOAWAY that asks the client to open no streams after this one, if there is one.
 fn goaway_of<J: Naming>(goaway: Option<StreamId>) -> Option<Order<J>>
@@ -186,8 +162,6 @@ where
             → IsAtEnd (I.remaining input.new) }
     {
         let mut core = InCore::new(self.alloc);
-        let mut first_piece = [0u8; FIRST_PIECE];
-        let mut whole_piece = Vec::new(self.alloc);
         let rt = self.rt;
         'pieces: for _ in rt.forever() {
             if self.orders.shared.has_stopped() {
@@ -195,31 +169,27 @@ where
                 self.orders.has_stopped = true;
                 return self.reading.ending();
             }
-            let piece = room(&mut first_piece, &mut whole_piece);
-            let Ok(count) = input.read(piece) else {
-                return Ending::ReadFailed;
+            let (count, events) = match core.read_from(input) {
+                Ok(given) => given,
+                Err(ReadFault::Device) => return Ending::ReadFailed,
+                Err(ReadFault::OutOfMemory) => {
+                    self.lack();
+                    self.stop();
+                    return Ending::OutOfMemory;
+                }
             };
             if count == 0 {
                 self.heed_drain();
                 return self.reading.ending();
             }
             self.collect();
-            match self.take(intake, &mut core, &piece[..count], methods) {
-                Ok(None) => {}
-                Ok(Some(ending)) => {
-                    self.stop();
-                    return ending;
-                }
-                Err(AllocError) => {
-                    self.lack();
-                    self.stop();
-                    return Ending::OutOfMemory;
-                }
+            if let Some(ending) = self.take(intake, count, events, methods) {
+                self.stop();
+                return ending;
             }
             if self.heed_drain() {
                 return self.reading.ending();
             }
-            grow(&mut whole_piece, count);
         }
         unreachable!()
     }
@@ -473,14 +443,15 @@ where
         self.orders.shared.book.lock(&self.rt).stop();
     }
 
-    /// Does what bytes that came lead to. Answers how the connection ends, if it does.
+    /// Does what `count` bytes that came, with these events, lead to. Answers how the connection
+    /// ends, if it does.
     fn take(
         &mut self,
         intake: &mut Intake<A, B, C>,
-        core: &mut InCore,
-        piece: &[u8],
+        count: usize,
+        events: Vec<InEvent>,
         methods: &Arc<Methods>,
-    ) -> Result<Option<Ending>, AllocError>
+    ) -> Option<Ending>
         requires known { IsKnown M.known (λ m. answers (m.vtable, m.value))
             (listed methods.now.value) }
         requires named { AreNames
@@ -489,22 +460,14 @@ where
         requires unnamed { AreNames M.names
             (IsFirstWith (λ m. (⟦<dyn Method as Method>⟧ m.vtable).name m.value)
             (listed methods.now.value)) }
-        ensures grows { Grows self.old.reading self.new.reading }
-        ensures on { IfOk result (λ end. (bytes : List ℕ) (before : List Event)
-            → Reached bytes before core.old
-            → (given : List Event) × Reached (bytes ++ piece.now) (before ++ given) core.new
-            × ReadsWith M.known M.names intake.old intake.new given end
-            self.old.reading self.old.orders self.new.reading self.new.orders) }
-        ensures uncounted { OnErr result (intake.new ≡ intake.old) }
-        ensures same { OnErr result ((self.new.reading ≡ self.old.reading)
-            × (self.new.orders ≡ self.old.orders)) }
+        ensures reads { ReadsWith M.known M.names intake.old intake.new events.items result
+            self.old.reading self.old.orders self.new.reading self.new.orders }
     {
-        let events = core.feed(piece)?;
         let end = self.heed(intake, events, methods);
         if end.is_none() {
-            self.ring(piece.len());
+            self.ring(count);
         }
-        Ok(end)
+        end
     }
 
     /// Rings for `count` bytes that came. It rings the writer where an order waits, where few bytes
