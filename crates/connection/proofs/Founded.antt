@@ -90,7 +90,10 @@ none-of None is none = is
 none-of (Some x) is none = absurd cc
 
 -- no method has the path, so none is the first with it
-pub none-first : {A : Type 0} (name_of : A → List ℕ) (methods : List A) (path found : List ℕ) (index : ℕ) → found ≡ path → AllWithin (λ method. name_of method ≢ found) methods 0 (length methods) → IsFirstWith name_of methods path index → ⊥
-none-first name_of methods path found index same none first =
-    none_from_all_within (λ method. name_of method ≡ path) methods (subst (λ (p : List ℕ). AllWithin (λ method. name_of method ≢ p) methods 0 (length methods)) same none)
+pub none-first : {A : Type 0} (name_of : A → List ℕ) (asked held : List A) (path found : List ℕ) (index : ℕ) → asked ≡ held → found ≡ path → AllWithin (λ method. name_of method ≢ found) asked 0 (length asked)
+    → IsFirstWith name_of held path index → ⊥
+none-first name_of asked held path found index are same none first =
+    none_from_all_within (λ method. name_of method ≡ path) held
+    (subst (λ (methods : List _). AllWithin (λ method. name_of method ≢ path) methods 0 (length methods)) are
+    (subst (λ (p : List ℕ). AllWithin (λ method. name_of method ≢ p) asked 0 (length asked)) same none))
     (index, first.within, first.found)

@@ -1,4 +1,4 @@
-use Rattle.std.proofs.Common.{◌≡◌, ◌∙◌, [], ◌∷◌, ◌++◌, ap}
+use Rattle.std.proofs.Common.{◌≡◌, ◌∙◌, [], ◌∷◌, ◌++◌, ap, refl}
 use Rattle.outwriter.specs.declared.control.Control.TheVariants.{InputEnded}
 use Rattle.readerloop.specs.Orders.{orders_by}
 use Rattle.connection.proofs.Heard.{closed-behind, collects-seats, collects-then, grows-home, grows-then, ordered-put, ordered-same, same-of}

@@ -1,4 +1,5 @@
-use Rattle.std.proofs.Common.{[], ◌∷◌, refl}
+use Rattle.std.proofs.Common.{[], ◌∷◌, ap, refl}
+use Rattle.handlers.specs.Listed.{listed}
 use Rattle.session.specs.declared.event.InEvent.TheVariants as events
 use Rattle.readerloop.specs.Readings.{refused_by, unless_ended}
 use Rattle.readerloop.specs.Steps.{Told}
@@ -21,7 +22,7 @@ returns-in-Err g c = record {
       (λ told is. plain-own told step c.in-Err.decided (admits-none c.args.id c.args.head draining c.in-Err.decided.ends) is) c.act.ensures.acts
       (refused-founded g.M.Answering.names c.args.self.now.orders.has_stopped c.args.id c.args.head draining c.in-Err.decided.ends
       (λ goes admits index named.
-      none-first _ _ c.args.head.path _ index c.as_slice.ensures (none-of _ c.find-index.ensures.none (c.in-Err.ensures.unnamed goes admits))
+      none-first _ _ _ c.args.head.path _ index (ap (λ methods. listed methods) c.deref.ensures) c.as_slice.ensures (none-of _ c.find-index.ensures.none (c.in-Err.ensures.unnamed goes admits))
       (c.requires.unnamed c.args.head.path index named)));
 }
 

@@ -1,4 +1,4 @@
-use Rattle.std.proofs.Common.{◌≡◌, ◌∙◌, ◌≤◌, inl, inr, ℕ, List, [], ◌∷◌, ◌++◌, ap, append-nil, arith, length, refl, sym, true, true≢false}
+use Rattle.std.proofs.Common.{◌≡◌, ◌∙◌, ◌≤◌, inl, inr, ℕ, List, [], ◌∷◌, ◌++◌, Err, ap, append-nil, arith, length, refl, sym, true, true≢false}
 use Rattle.callparts.specs.declared.report.Ending.TheVariants.{OutOfMemory, ReadFailed}
 use Rattle.session.specs.declared.event.InEvent.{InEvent}
 use Rattle.readerloop.specs.Steps.{Lacks, Step, events_of}
@@ -34,13 +34,13 @@ pieces-init g c = (
 pub returns-in-Err-Device-clause-heard : goal.returns-in-Err-Device-clause-heard
 returns-in-Err-Device-clause-heard g c = λ sent carried none.
     let h = c.pieces.invariant.1 sent carried none in
-    (h.0, consumes-keeps _ _ _ h.0 h.3 (c.in-Err-Device.ensures.kept refl), (h.2, failed-read sent h.1 h.2 h.0 h.0 _ _ _ refl h.4 h.5 h.6 h.7, h.8))
+    (h.0, consumes-keeps _ _ _ h.0 h.3 (c.in-Err-Device.ensures.kept (ap Err c.in-Err-Device.field-0-is)), (h.2, failed-read sent h.1 h.2 h.0 h.0 _ _ _ refl h.4 h.5 h.6 h.7, h.8))
 
 pub returns-in-Err-Device-clause-grows : goal.returns-in-Err-Device-clause-grows
 returns-in-Err-Device-clause-grows g c = c.pieces.invariant.0
 
 pub returns-in-Err-Device-clause-failed : goal.returns-in-Err-Device-clause-failed
-returns-in-Err-Device-clause-failed g c = λ sent carried none failed. c.in-Err-Device.ensures.marked refl
+returns-in-Err-Device-clause-failed g c = λ sent carried none failed. c.in-Err-Device.ensures.marked (ap Err c.in-Err-Device.field-0-is)
 
 pub returns-in-Err-Device-clause-over : goal.returns-in-Err-Device-clause-over
 returns-in-Err-Device-clause-over g c = λ sent carried none input going. absurd (not-of-read input)
@@ -153,30 +153,30 @@ pieces-preserved g c = (
       ),
 )
 
-pub returns-in-Some-clause-heard : goal.returns-in-Some-clause-heard
-returns-in-Some-clause-heard g c = λ sent carried none.
+pub returns-in-Some-take-clause-heard : goal.returns-in-Some-take-clause-heard
+returns-in-Some-take-clause-heard g c = λ sent carried none.
     let before = carried-before sent _ _ c.take.ensures.reads.0 carried in
     let h = c.pieces.invariant.1 sent (carried-before sent _ _ c.collect.ensures.collects.grows before) none in
     let kept = kept-collected sent h.2 _ _ _ _ c.collect.ensures.collects before c.collect.ensures.orders h.7 in
     let came = c.in-Ok.ensures.events in (
       h.0 ++ came.0,
       consumes-then _ _ _ h.0 came.0 h.3 came.2,
-      some-read sent _ _ c.in-Some.ending _ h.1 h.2 _ _ _ _ _ _ carried (came.3 h.0 h.1 h.4) h.5 (with-end _ _ _ _ _ _ _ _ _ c.in-Some.is c.take.ensures.reads) kept h.8,
+      some-read sent _ _ c.in-Some-take.ending _ h.1 h.2 _ _ _ _ _ _ carried (came.3 h.0 h.1 h.4) h.5 (with-end _ _ _ _ _ _ _ _ _ c.in-Some-take.is c.take.ensures.reads) kept h.8,
     )
 
-pub returns-in-Some-clause-grows : goal.returns-in-Some-clause-grows
-returns-in-Some-clause-grows g c = grows-then _ _ _ (grows-then _ _ _ c.pieces.invariant.0 c.collect.ensures.collects.grows) c.take.ensures.reads.0
+pub returns-in-Some-take-clause-grows : goal.returns-in-Some-take-clause-grows
+returns-in-Some-take-clause-grows g c = grows-then _ _ _ (grows-then _ _ _ c.pieces.invariant.0 c.collect.ensures.collects.grows) c.take.ensures.reads.0
 
-pub returns-in-Some-clause-over : goal.returns-in-Some-clause-over
-returns-in-Some-clause-over g c = λ sent carried none input going.
+pub returns-in-Some-take-clause-over : goal.returns-in-Some-take-clause-over
+returns-in-Some-take-clause-over g c = λ sent carried none input going.
     let before = carried-before sent _ _ c.take.ensures.reads.0 carried in
     let h = c.pieces.invariant.1 sent (carried-before sent _ _ c.collect.ensures.collects.grows before) none in
     let kept = kept-collected sent h.2 _ _ _ _ c.collect.ensures.collects before c.collect.ensures.orders h.7 in
-    absurd (some-harsh sent _ _ c.in-Some.ending _ h.2 _ _ _ _ carried (with-end _ _ _ _ _ _ _ _ _ c.in-Some.is c.take.ensures.reads) kept h.8 input)
+    absurd (some-harsh sent _ _ c.in-Some-take.ending _ h.2 _ _ _ _ carried (with-end _ _ _ _ _ _ _ _ _ c.in-Some-take.is c.take.ensures.reads) kept h.8 input)
 
-pub returns-in-Some-clause-failed : goal.returns-in-Some-clause-failed
-returns-in-Some-clause-failed g c = λ sent carried none failed.
+pub returns-in-Some-take-clause-failed : goal.returns-in-Some-take-clause-failed
+returns-in-Some-take-clause-failed g c = λ sent carried none failed.
     let before = carried-before sent _ _ c.take.ensures.reads.0 carried in
     let h = c.pieces.invariant.1 sent (carried-before sent _ _ c.collect.ensures.collects.grows before) none in
     let kept = kept-collected sent h.2 _ _ _ _ c.collect.ensures.collects before c.collect.ensures.orders h.7 in
-    absurd (some-sound sent _ _ c.in-Some.ending _ h.2 _ _ _ _ carried (with-end _ _ _ _ _ _ _ _ _ c.in-Some.is c.take.ensures.reads) kept h.8 failed)
+    absurd (some-sound sent _ _ c.in-Some-take.ending _ h.2 _ _ _ _ carried (with-end _ _ _ _ _ _ _ _ _ c.in-Some-take.is c.take.ensures.reads) kept h.8 failed)

@@ -1,12 +1,12 @@
-use Rattle.std.proofs.Common.{◌∙◌, refl}
+use Rattle.std.proofs.Common.{◌∙◌, refl, true}
 use Rattle.connection.proofs.Heard.{collects-none, collects-seats, collects-then, next-seats, same-of, with-collected, with-stopped}
 use Rattle.connection.proofs.reader.Reader.start.Goals as goal
 
 pub looks-init : goal.looks-init
 looks-init g c = (collects-none _ _ refl, λ id next. next, refl)
 
-pub returns-then-are_behind : goal.returns-then-are_behind
-returns-then-are_behind g c = record { reads = λ tally. c.pass_over.ensures.reads c.args.request.head tally c.requires.named }
+pub returns-then-self : goal.returns-then-self
+returns-then-self g c = record { reads = λ tally. c.pass_over.ensures.reads c.args.request.head tally c.requires.named }
 
 pub returns-in-Some-find_free : goal.returns-in-Some-find_free
 returns-in-Some-find_free g c = record {
