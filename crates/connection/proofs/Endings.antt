@@ -1,8 +1,33 @@
 -- How a connection ends, by what its reader saw and how its writer ended.
-use Rattle.std.proofs.Common.{◌≡◌, ◌≢◌, ◌∙◌, ◌⊎◌, inl, inr, Bool, true, false, true≢false, Option, None, Some, ap, refl, sym}
+use Rattle.std.proofs.Common.{
+  ◌≡◌,
+  ◌≢◌,
+  ◌∙◌,
+  ◌⊎◌,
+  inl,
+  inr,
+  Bool,
+  true,
+  false,
+  true≢false,
+  Option,
+  None,
+  Some,
+  ap,
+  refl,
+  sym,
+}
 use Rattle.std.specs.Prelude.{IfSome}
 use Rattle.callparts.specs.declared.report.Ending.{Ending}
-use Rattle.callparts.specs.declared.report.Ending.TheVariants.{InputEnded, PeerGoaway, ProtocolError, ReadFailed, WriteFailed, OutOfMemory, Drained}
+use Rattle.callparts.specs.declared.report.Ending.TheVariants.{
+  InputEnded,
+  PeerGoaway,
+  ProtocolError,
+  ReadFailed,
+  WriteFailed,
+  OutOfMemory,
+  Drained,
+}
 use Rattle.connbook.specs.declared.answers.AdmitFault.{AdmitFault}
 use Rattle.connbook.specs.declared.answers.AdmitFault.TheVariants as refused
 use Rattle.connbook.specs.declared.answers.Receipt.TheVariants.{Feed, Discard, CallWindow, Overrun}
@@ -10,7 +35,24 @@ use Rattle.h2frame.specs.declared.error_code.ErrorCode.{ErrorCode}
 use Rattle.session.specs.declared.event.InEvent.TheVariants as events
 use Rattle.readerloop.specs.Orders.{ends_at, ends_by, ends_if_refused}
 use Rattle.readerloop.specs.Reports.{is_heard_out}
-use Rattle.readerloop.specs.Steps.{NoWorker, Stopped, Fate, Plain, Admitted, Unserved, Unknown, TurnedAway, Received, Missed, Lacking, Step, Told, CutOff, Drains, Lacks}
+use Rattle.readerloop.specs.Steps.{
+  NoWorker,
+  Stopped,
+  Fate,
+  Plain,
+  Admitted,
+  Unserved,
+  Unknown,
+  TurnedAway,
+  Received,
+  Missed,
+  Lacking,
+  Step,
+  Told,
+  CutOff,
+  Drains,
+  Lacks,
+}
 use Rattle.writerloop.specs.declared.writer_ending.WriterEnding.{WriterEnding}
 use Rattle.writerloop.specs.declared.writer_ending.WriterEnding.TheVariants as writer
 use Rattle.writerloop.specs.Endings.{ending_of, ending_told}
@@ -55,18 +97,22 @@ ends-unbroken Lacks = λ broke. cc
 
 -- ---- of both sides
 
--- What a connection's ending says, where its reader and its writer saw these, and where orders were dropped or not.
-pub record Meets (read ending : Ending) (written : Option Ending) (has_dropped : Bool) : Type 0 where
+-- What a connection's ending says, where its reader and its writer saw these, and where orders were
+-- dropped or not.
+pub record Meets (read ending : Ending) (written : Option Ending)
+    (has_dropped : Bool) : Type 0 where
   pub memory : written ≡ Some OutOfMemory → ending ≡ OutOfMemory
   pub broken : written ≡ Some WriteFailed → ending ≢ OutOfMemory → ending ≡ WriteFailed
   pub marked : ending ≡ WriteFailed → written ≡ Some WriteFailed
   pub dropped : ending ≢ OutOfMemory → has_dropped ≡ false
   pub input : is_heard_out ending ≡ true → ending ≡ read
   pub whole : is_heard_out ending ≡ true → written ≡ None
-  pub blamed : (code : ErrorCode) → ending ≡ ProtocolError code → (read ≡ ProtocolError code) ⊎ (written ≡ Some (ProtocolError code))
+  pub blamed : (code : ErrorCode) → ending ≡ ProtocolError code
+      → (read ≡ ProtocolError code) ⊎ (written ≡ Some (ProtocolError code))
 
 -- the writer's end is told, or want of memory
-told-so : (read end : Ending) → (unless_lacked read end ≡ OutOfMemory) ⊎ (unless_lacked read end ≡ end)
+told-so : (read end : Ending)
+    → (unless_lacked read end ≡ OutOfMemory) ⊎ (unless_lacked read end ≡ end)
 told-so InputEnded end = inr refl
 told-so PeerGoaway end = inr refl
 told-so (ProtocolError code) end = inr refl
@@ -84,15 +130,18 @@ spared-so WriteFailed end spared = refl
 spared-so OutOfMemory end spared = absurd (spared refl)
 spared-so Drained end spared = refl
 
-heard-not : {P : Type 0} (one other : Ending) → one ≡ other → is_heard_out other ≡ false → is_heard_out one ≡ true → P
-heard-not one other is not out = absurd (true≢false (sym out ∙ (ap (λ (e : Ending). is_heard_out e) is ∙ not)))
+heard-not : {P : Type 0} (one other : Ending) → one ≡ other → is_heard_out other ≡ false
+    → is_heard_out one ≡ true → P
+heard-not one other is not out =
+    absurd (true≢false (sym out ∙ (ap (λ (e : Ending). is_heard_out e) is ∙ not)))
 
 harsh : (end : WriterEnding) → is_heard_out (ending_of end) ≡ false
 harsh writer.OutOfMemory = refl
 harsh writer.WriteFailed = refl
 harsh (writer.ProtocolError code) = refl
 
-meets-end : (read ending end : Ending) → is_heard_out end ≡ false → (ending ≡ OutOfMemory) ⊎ (ending ≡ end) → Meets read ending (Some end) false
+meets-end : (read ending end : Ending) → is_heard_out end ≡ false
+    → (ending ≡ OutOfMemory) ⊎ (ending ≡ end) → Meets read ending (Some end) false
 meets-end read ending end harsh (inl lacked) = record {
   memory = λ is. lacked;
   broken = λ is spared. absurd (spared lacked);
@@ -113,7 +162,9 @@ meets-end read ending end harsh (inr told) = record {
 }
 
 -- so the ending of both says
-pub meets : (read : Ending) (written : Option WriterEnding) (has_dropped : Bool) → read ≢ WriteFailed → Meets read (ended_by read written has_dropped) (ending_told written) has_dropped
+pub meets : (read : Ending) (written : Option WriterEnding) (has_dropped : Bool)
+    → read ≢ WriteFailed
+    → Meets read (ended_by read written has_dropped) (ending_told written) has_dropped
 meets read written true unbroken = record {
   memory = λ is. refl;
   broken = λ is spared. absurd (spared refl);
@@ -132,10 +183,13 @@ meets read None false unbroken = record {
   whole = λ out. refl;
   blamed = λ code is. inl is;
 }
-meets read (Some end) false unbroken = meets-end read (unless_lacked read (ending_of end)) (ending_of end) (harsh end) (told-so read (ending_of end))
+meets read (Some end) false unbroken =
+    meets-end read (unless_lacked read (ending_of end)) (ending_of end) (harsh end)
+    (told-so read (ending_of end))
 
 -- without memory for its reader it ends so
-pub lacked-by : (written : Option WriterEnding) (has_dropped : Bool) → ended_by OutOfMemory written has_dropped ≡ OutOfMemory
+pub lacked-by : (written : Option WriterEnding) (has_dropped : Bool)
+    → ended_by OutOfMemory written has_dropped ≡ OutOfMemory
 lacked-by written true = refl
 lacked-by None false = refl
 lacked-by (Some end) false = refl

@@ -19,7 +19,16 @@ use Rattle.outwriter.specs.Steps.{Order, Taken, Granted, Written, Returned}
 use Rattle.outwriter.specs.Steps.{Step as RunStep}
 use Rattle.session.specs.declared.event.InEvent.TheVariants as events
 use Rattle.readerloop.specs.Orders.{is_fed}
-use Rattle.readerloop.specs.Steps.{Unknown, TurnedAway, Received, Missed, Step, Told, CutOff, WasTold}
+use Rattle.readerloop.specs.Steps.{
+  Unknown,
+  TurnedAway,
+  Received,
+  Missed,
+  Step,
+  Told,
+  CutOff,
+  WasTold,
+}
 use Rattle.writerloop.specs.Blamed.{WouldOverflow}
 use Rattle.writerloop.specs.Orders.{IsAmong, ends_input}
 
@@ -118,11 +127,17 @@ WasWritten frame (Returned id items ∷ before) = WasWritten frame before
 -- The stream began with a head that is refused with these fields, or with the head of a call whose
 -- path no method has.
 abbrev pub IsRefusedWith : (List ℕ → ℕ → Type 0) → ℕ → List Field → List Step → Type 0
-IsRefusedWith names id fields told = ((fault : HeadFault) × WasTold (events.BadHead id fault) told × (refusal_of fault ≡ Some fields))
-    ⊎ ((head : CallHead) × (before : List Step) × WasHeard (Told (events.Open id head) Unknown) before told × ((index : ℕ) → names head.path index → ⊥) × (fields ≡ unknown_method))
+IsRefusedWith names id fields told =
+    ((fault : HeadFault) × WasTold (events.BadHead id fault) told
+    × (refusal_of fault ≡ Some fields))
+    ⊎ ((head : CallHead) × (before : List Step)
+    × WasHeard (Told (events.Open id head) Unknown) before told
+    × ((index : ℕ) → names head.path index → ⊥) × (fields ≡ unknown_method))
 
 -- The frames of the stream are none, an RST_STREAM, or one header block with the fields of its
 -- refusal, which ends the stream.
 abbrev pub IsRefusal : (List ℕ → ℕ → Type 0) → ℕ → List Step → List Mark → Type 0
 IsRefusal names id told part = (part ≡ [])
-    ⊎ (((code : ℕ) × (part ≡ Reset code ∷ [])) ⊎ ((fields : List Field) × IsRefusedWith names id fields told × (part ≡ Fields fields ∷ End ∷ [])))
+    ⊎ (((code : ℕ) × (part ≡ Reset code ∷ []))
+    ⊎ ((fields : List Field) × IsRefusedWith names id fields told
+    × (part ≡ Fields fields ∷ End ∷ [])))

@@ -10,8 +10,9 @@ abbrev pub unless_lacked : Ending → Ending → Ending
 unless_lacked OutOfMemory end = OutOfMemory
 unless_lacked _ end = end
 
--- By what the reader saw, by the writer's end, if it didn't end since all was written, and by whether orders were dropped for want of memory: want
--- of memory comes first, then what the writer ended with, and else it is what the reader saw.
+-- By what the reader saw, by the writer's end, if it didn't end since all was written, and by
+-- whether orders were dropped for want of memory: want of memory comes first, then what the writer
+-- ended with, and else it is what the reader saw.
 abbrev pub ended_by : Ending → Option WriterEnding → Bool → Ending
 ended_by read written true = OutOfMemory
 ended_by read None false = read

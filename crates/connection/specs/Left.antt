@@ -5,7 +5,8 @@ use Rattle.callparts.specs.declared.call_account.CallAccount.{CallAccount}
 
 -- no call on one of these streams has a status
 abbrev pub AreLeft : List ℕ → List CallAccount → Type 0
-AreLeft streams accounts = All (λ account. Contains streams account.id → account.status ≡ None) accounts
+AreLeft streams accounts =
+    All (λ account. Contains streams account.id → account.status ≡ None) accounts
 
 -- The stream's call has an account, without a status.
 pub record WasLeft (id : ℕ) (accounts : List CallAccount) : Type 0 where

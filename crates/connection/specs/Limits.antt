@@ -11,7 +11,23 @@ use Rattle.session.specs.declared.event.InEvent.{InEvent}
 use Rattle.session.specs.declared.event.InEvent.TheVariants as events
 use Rattle.session.specs.FlowBytes.{counted_by, counted_told}
 use Rattle.readerloop.specs.Orders.{IsDue}
-use Rattle.readerloop.specs.Steps.{Received, Missed, Lacking, Stopped, TurnedAway, Unknown, Unserved, Step, Told, CutOff, Drains, Lacks, events_of, is_draining, reported}
+use Rattle.readerloop.specs.Steps.{
+  Received,
+  Missed,
+  Lacking,
+  Stopped,
+  TurnedAway,
+  Unknown,
+  Unserved,
+  Step,
+  Told,
+  CutOff,
+  Drains,
+  Lacks,
+  events_of,
+  is_draining,
+  reported,
+}
 
 -- A call may be turned away after 64 or more were admitted, where the server drains, for want of
 -- memory, or since its id doesn't rise.
@@ -36,8 +52,10 @@ IsDueOf _ before = Unit {0}
 
 -- what a step refuses may be refused, after the calls and the bytes of these
 abbrev pub IsJustified : Step → List Step → Type 0
-IsJustified (Told event (TurnedAway fault)) before = MayTurnAway (length (reported before)) (is_draining before) fault
-IsJustified (Told event (Received found)) before = MayRefuse (counted_told (events_of before) + counted_by event) found
+IsJustified (Told event (TurnedAway fault)) before =
+    MayTurnAway (length (reported before)) (is_draining before) fault
+IsJustified (Told event (Received found)) before =
+    MayRefuse (counted_told (events_of before) + counted_by event) found
 IsJustified (Told event Missed) before = IsDueOf event before
 IsJustified (Told event Lacking) before = IsDueOf event before
 IsJustified _ before = Unit {0}
@@ -52,13 +70,15 @@ AreJustified (step ∷ before) = IsJustified step before × AreJustified before
 -- admitted is left without a worker, because the writer has stopped, only where the writer was seen
 -- to have stopped.
 abbrev pub IsFounded : (List ℕ → ℕ → Type 0) → Bool → Step → Type 0
-IsFounded names stopped (Told (events.Open id head) Unknown) = (index : ℕ) → names head.path index → ⊥
+IsFounded names stopped (Told (events.Open id head) Unknown) =
+    (index : ℕ) → names head.path index → ⊥
 IsFounded names stopped (Told (events.Open id head) (Unserved Stopped)) = stopped ≡ true
 IsFounded names stopped _ = Unit {0}
 
 abbrev pub AreFounded : (List ℕ → ℕ → Type 0) → Bool → List Step → Type 0
 AreFounded names stopped [] = Unit {0}
-AreFounded names stopped (step ∷ before) = IsFounded names stopped step × AreFounded names stopped before
+AreFounded names stopped (step ∷ before) =
+    IsFounded names stopped step × AreFounded names stopped before
 
 -- ---- the end of the input
 

@@ -1,5 +1,22 @@
 -- The orders that the reading thread puts.
-use Rattle.std.specs.Prelude.{◌≡◌, ◌⊎◌, Bool, true, false, All, Contains, List, [], ◌∷◌, ◌++◌, map, Option, None, Some, IfSome, IsSomeAnd}
+use Rattle.std.specs.Prelude.{
+  ◌≡◌,
+  ◌⊎◌,
+  true,
+  false,
+  All,
+  Contains,
+  List,
+  [],
+  ◌∷◌,
+  ◌++◌,
+  map,
+  Option,
+  None,
+  Some,
+  IfSome,
+  IsSomeAnd,
+}
 use Rattle.lane.specs.Ring.{put_in}
 use Rattle.callparts.specs.declared.order.Opening.{Opening}
 use Rattle.callparts.specs.declared.register.Naming.{Ghosts as Naming}
@@ -15,11 +32,13 @@ module _ {J : Type 0} {book : Naming J} where
   -- stream
   abbrev pub IsOwn : Control (Opening J book) → Type 0
   IsOwn (Open id opening) =
-      IsSomeAnd (request_at opening.sending.value.number.seen.log opening.sending.value.number.value) (λ request. request.id ≡ id)
+      IsSomeAnd (request_at opening.sending.value.number.seen.log
+      opening.sending.value.number.value) (λ request. request.id ≡ id)
   IsOwn _ = Unit {0}
 
   -- an order that isn't put may be kept aside, in place of another
-  abbrev pub IsKept : Control (Opening J book) → Option (Control (Opening J book)) → Option (Control (Opening J book)) → Type 0
+  abbrev pub IsKept : Control (Opening J book) → Option (Control (Opening J book))
+      → Option (Control (Opening J book)) → Type 0
   IsKept order old new = (new ≡ old) ⊎ (new ≡ Some order)
 
 module _ {A B C J N : Type 0} {book : Naming J} {route : Ghosts N} where
@@ -30,19 +49,25 @@ module _ {A B C J N : Type 0} {book : Naming J} {route : Ghosts N} where
   abbrev pub put_orders : Orders A B C J N book route → List Order
   put_orders orders = map (λ order. order_of order) (put_of orders)
 
-  -- an order stands behind the others, none of which was dropped; or it is dropped, for want of memory, and may be kept aside
-  abbrev pub Puts : Control (Opening J book) → Orders A B C J N book route → Orders A B C J N book route → Type 0
+  -- an order stands behind the others, none of which was dropped; or it is dropped, for want of
+  -- memory, and may be kept aside
+  abbrev pub Puts : Control (Opening J book) → Orders A B C J N book route
+      → Orders A B C J N book route → Type 0
   Puts order old new =
-      ((put_of new ≡ put_of old ++ order ∷ []) × (old.has_dropped ≡ false) × (new.has_dropped ≡ false) × (new.unput ≡ old.unput))
+      ((put_of new ≡ put_of old ++ order ∷ []) × (old.has_dropped ≡ false)
+      × (new.has_dropped ≡ false) × (new.unput ≡ old.unput))
       ⊎ ((put_of new ≡ put_of old) × (new.has_dropped ≡ true) × IsKept order old.unput new.unput)
 
-  abbrev pub PutsAll : Option (Control (Opening J book)) → Orders A B C J N book route → Orders A B C J N book route → Type 0
+  abbrev pub PutsAll : Option (Control (Opening J book)) → Orders A B C J N book route
+      → Orders A B C J N book route → Type 0
   PutsAll None old new = new ≡ old
   PutsAll (Some order) old new = Puts order old new
 
   -- nothing was put
   abbrev pub IsSame : Orders A B C J N book route → Orders A B C J N book route → Type 0
-  IsSame old new = (new.outbox ≡ old.outbox) × (new.has_dropped ≡ old.has_dropped) × (new.unput ≡ old.unput) × (new.backlog ≡ old.backlog) × (new.has_stopped ≡ old.has_stopped)
+  IsSame old new =
+      (new.outbox ≡ old.outbox) × (new.has_dropped ≡ old.has_dropped) × (new.unput ≡ old.unput)
+      × (new.backlog ≡ old.backlog) × (new.has_stopped ≡ old.has_stopped)
 
   -- What was put begins these orders, and is all of them where none was dropped. The order that is
   -- kept aside is one of those that were dropped.

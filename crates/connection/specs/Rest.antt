@@ -19,5 +19,8 @@ module _ {J : Type 0} {book : Naming J} where
 
   -- each of the senders that a writer had at its end got what is carried of its call
   abbrev pub CarriesRest : List Sent → Senders J book → Type 0
-  CarriesRest sent rest = (returning : Returning J book) (id : ℕ) → Contains (rest_numbers rest) (numbered id returning.sending.value)
-      → Contains (rest_calls rest) (id, got_of returning.sending.value.sender) → HasReturned (carried_in sent) returning.sending.value
+  CarriesRest sent rest =
+      (returning : Returning J book) (id : ℕ)
+      → Contains (rest_numbers rest) (numbered id returning.sending.value)
+      → Contains (rest_calls rest) (id, got_of returning.sending.value.sender)
+      → HasReturned (carried_in sent) returning.sending.value

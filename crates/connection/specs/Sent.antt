@@ -17,7 +17,8 @@ CarriesWhatWasSent run id items = IsTold run (id, items)
 
 -- The frames of a stream are the whole response to its call: all that was given. That is an outcome
 -- of what the method of its index answers to all that was taken, and the account has its status.
-pub record IsWholeResponse (answers : ℕ → List (List ℕ) → Bool → Answer → Type 0) (head : CallHead) (whole : Account) (account : CallAccount) (part : List Mark) : Type 0 where
+pub record IsWholeResponse (answers : ℕ → List (List ℕ) → Bool → Answer → Type 0) (head : CallHead)
+    (whole : Account) (account : CallAccount) (part : List Mark) : Type 0 where
   -- all that was given was sent
   pub sent : whole.sent ≡ whole.given
   -- the frames spell each item of it, in order, and nothing else
@@ -26,6 +27,8 @@ pub record IsWholeResponse (answers : ℕ → List (List ℕ) → Bool → Answe
   pub overdue : Bool
   pub timed : overdue ≡ true → IsSome head.timeout
   -- whatever the method answers, that is an outcome of it
-  pub outcome : (answer : Answer) → answers account.method whole.taken (is_end whole.told) answer → IsOutcome head overdue whole.told answer whole.given account.status
+  pub outcome : (answer : Answer) → answers account.method whole.taken (is_end whole.told) answer
+      → IsOutcome head overdue whole.told answer whole.given account.status
   -- the outcome has trailers, with the account's status
-  pub status : (answer : Answer) → answers account.method whole.taken (is_end whole.told) answer → IsSome account.status
+  pub status : (answer : Answer) → answers account.method whole.taken (is_end whole.told) answer
+      → IsSome account.status

@@ -1,10 +1,30 @@
 -- What became of a connection, over one list of what was heard, one list of what was ordered, and
 -- one run of its writer.
-use Rattle.std.specs.Prelude.{◌≡◌, ◌⊎◌, ◌≤◌, ℕ, Bool, true, false, List, [], ◌∷◌, ◌++◌, Option, Some}
+use Rattle.std.specs.Prelude.{
+  ◌≡◌,
+  ◌⊎◌,
+  ◌≤◌,
+  ℕ,
+  Bool,
+  true,
+  false,
+  List,
+  [],
+  ◌∷◌,
+  ◌++◌,
+  Option,
+  Some,
+}
 use Rattle.std.specs.Io.KnownBytes.{IsAtEnd}
 use Rattle.callparts.specs.declared.call_account.CallAccount.{CallAccount}
 use Rattle.callparts.specs.declared.report.Ending.{Ending}
-use Rattle.callparts.specs.declared.report.Ending.TheVariants.{Drained, PeerGoaway, ProtocolError, ReadFailed, WriteFailed}
+use Rattle.callparts.specs.declared.report.Ending.TheVariants.{
+  Drained,
+  PeerGoaway,
+  ProtocolError,
+  ReadFailed,
+  WriteFailed,
+}
 use Rattle.h2frame.specs.declared.error_code.ErrorCode.{ErrorCode}
 use Rattle.h2frame.specs.declared.error_code.ErrorCode.TheVariants.{FlowControlError}
 use Rattle.handlers.specs.declared.step.Step.{Step as Answer}
@@ -18,7 +38,15 @@ use Rattle.session.specs.FlowBytes.{counted_told}
 use Rattle.readerloop.specs.Calls.{is_admitted}
 use Rattle.readerloop.specs.Orders.{greatest, orders_by}
 use Rattle.readerloop.specs.Reports.{AreAccounts, AreCalm, AreHeard, WasResetFor, is_heard_out}
-use Rattle.readerloop.specs.Steps.{AdmitsNoMore, IsRising, Step, WasTold, events_of, is_draining, reported}
+use Rattle.readerloop.specs.Steps.{
+  AdmitsNoMore,
+  IsRising,
+  Step,
+  WasTold,
+  events_of,
+  is_draining,
+  reported,
+}
 use Rattle.writerloop.specs.Blamed.{WouldOverflow}
 use Rattle.writerloop.specs.Left.{left_in}
 use Rattle.writerloop.specs.Written.{HasWritten}
@@ -32,26 +60,30 @@ use Rattle.connection.specs.Limits.{AreFounded, AreJustified, EndsLast}
 -- with this error, or the writer did, because a control of the peer that its run took would make
 -- the connection's window too large, or an initial size some stream's (RFC 9113, sections 5.4.1,
 -- 6.8, 6.9.1 and 6.9.2).
-pub record HasCause (end : Ending) (told : List Step) (run : List RunStep) (rest : Option (List ℕ)) (read_failed write_failed : Bool) : Type 0 where
+pub record HasCause (end : Ending) (told : List Step) (run : List RunStep) (rest : Option (List ℕ))
+    (read_failed write_failed : Bool) : Type 0 where
   pub over : IsOfInput end → IsAtEnd rest
   pub undrained : IsOfInput end → is_draining told ≡ false
   pub unread : end ≡ ReadFailed → read_failed ≡ true
   pub unsent : end ≡ WriteFailed → write_failed ≡ true
   pub goaway : end ≡ PeerGoaway → WasTold events.PeerGoaway told
   pub drains : end ≡ Drained → is_draining told ≡ true
-  pub failed : (code : ErrorCode) → end ≡ ProtocolError code → IsEndedBy (ProtocolError code) told ⊎ ((code ≡ FlowControlError) × WouldOverflow 0 run)
+  pub failed : (code : ErrorCode) → end ≡ ProtocolError code
+      → IsEndedBy (ProtocolError code) told ⊎ ((code ≡ FlowControlError) × WouldOverflow 0 run)
 
 -- the connection ended because the server drained
 abbrev pub is_drained : Ending → Bool
 is_drained Drained = true
 is_drained _ = false
 
-module _ {W V : Type 0} (items : V → List CallAccount) (contents : W → Option (List ℕ)) (failed : W → Bool)
+module _ {W V : Type 0} (items : V → List CallAccount) (contents : W → Option (List ℕ))
+    (failed : W → Bool)
     (answers : ℕ → List (List ℕ) → Bool → Answer → Type 0) (names : List ℕ → ℕ → Type 0) where
   -- A connection was served: the bytes that came, the bytes that the input still has, what the
-  -- output had before and has now, whether a read failed, how the connection ended, and the accounts
-  -- of its calls.
-  pub record IsServed (came : List ℕ) (rest before : Option (List ℕ)) (read_failed : Bool) (end : Ending) (calls : V) (device : W) : Type 0 where
+  -- output had before and has now, whether a read failed, how the connection ended, and the
+  -- accounts of its calls.
+  pub record IsServed (came : List ℕ) (rest before : Option (List ℕ)) (read_failed : Bool)
+      (end : Ending) (calls : V) (device : W) : Type 0 where
     -- what was heard, and what was ordered
     pub told : List Step
     pub put : List Order
@@ -68,9 +100,9 @@ module _ {W V : Type 0} (items : V → List CallAccount) (contents : W → Optio
     -- the connection
     pub stopped : Bool
     pub halted : stopped ≡ true → is_heard_out end ≡ false
-    -- a call was refused as one of an unknown method only where no method has its path, and one that
-    -- was admitted was left without a worker only because the writer had stopped, or for want of
-    -- memory
+    -- a call was refused as one of an unknown method only where no method has its path, and one
+    -- that was admitted was left without a worker only because the writer had stopped, or for want
+    -- of memory
     pub founded : AreFounded names stopped told
     -- after a drain no call was admitted
     pub closed : AdmitsNoMore told
@@ -81,7 +113,8 @@ module _ {W V : Type 0} (items : V → List CallAccount) (contents : W → Optio
     -- among them.
     pub ordered : HasPut (orders_by told ++ InputEnded ∷ []) put
     pub whole : is_heard_out end ≡ true → put ≡ orders_by told ++ InputEnded ∷ Close ∷ []
-    pub resets : is_heard_out end ≡ true → (id : ℕ) → is_admitted id told ≡ true → WasResetFor told put id
+    pub resets : is_heard_out end ≡ true → (id : ℕ) → is_admitted id told ≡ true
+        → WasResetFor told put id
     -- a lawful run obeyed them and granted this much credit on the connection, and its frames were
     -- written
     pub granted : ℕ
@@ -91,7 +124,9 @@ module _ {W V : Type 0} (items : V → List CallAccount) (contents : W → Optio
     pub credit : updated 0 written.run ≤ counted_told (events_of told)
     -- a lawful account for each call that was admitted, in order; where no worker served the call,
     -- nothing was fed, taken or given; and what was sent of each call is what its stream carries
-    pub rows : AreAccounts answers names (CarriesWhatWasSent written.run) told (reported told) (items calls)
+    pub rows :
+        AreAccounts answers names (CarriesWhatWasSent written.run) told
+        (reported told) (items calls)
     -- a call whose stream was reset with INTERNAL_ERROR was left without trailers, and has no
     -- status (section 7)
     pub left : AreLeft (left_in written.run) (items calls)

@@ -29,10 +29,26 @@ ghost use Rattle.session.specs.Events.{Events};
 ghost use Rattle.session.specs.Framings.{Framed};
 ghost use Rattle.session.specs.FlowBytes.{payloads};
 ghost use Rattle.h2frame.specs.FrameList.{Entry};
-ghost use Rattle.connection.specs.Causes.{HasCauseOf, HasResetCause, IsOverWindow, IsRefusal, WasCut, WasTaken, WasTurnedAway, WasWritten};
+ghost use Rattle.connection.specs.Causes.{
+  HasCauseOf,
+  HasResetCause,
+  IsOverWindow,
+  IsRefusal,
+  WasCut,
+  WasTaken,
+  WasTurnedAway,
+  WasWritten,
+};
 ghost use Rattle.connection.specs.Codes.{MayHaveCode};
 ghost use Rattle.connection.specs.Left.{AreLeft};
-ghost use Rattle.connection.specs.Limits.{AreFounded, AreJustified, EndsLast, IsOneTooMany, WasCutLast, WasDrained};
+ghost use Rattle.connection.specs.Limits.{
+  AreFounded,
+  AreJustified,
+  EndsLast,
+  IsOneTooMany,
+  WasCutLast,
+  WasDrained,
+};
 ghost use Rattle.connection.specs.Heard.{HasPut};
 ghost use Rattle.connection.specs.News.{acknowledgements, answers_to, news_in, news_told, taken_by};
 
@@ -75,7 +91,8 @@ pub fn streams_without_a_call<M: Answering>()
         (part : List Mark) × IsPart id run part × IsRefusal M.names id told part }
 {}
 
-/// Where the connection ended as its reader saw, each call that was admitted was handed to a worker.
+/// Where the connection ended as its reader saw, each call that was admitted was handed to a
+/// worker.
 pub fn handed_calls<M: Answering>()
     ensures { (stopped : Bool) (end : Ended) (told : List Step) →
         (is_heard_out end ≡ true → AreCalm told) → (stopped ≡ true → is_heard_out end ≡ false) →

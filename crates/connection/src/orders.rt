@@ -43,7 +43,8 @@ impl Route for Brand {
 pub(crate) struct Outbox<J: Naming, N: Route> {
     pub(crate) ring: RingIn<Order<J>>,
     route: PhantomData<N>,
-    ghost one_ring: { IsSomeAnd N.ring (λ name. name ≡ in_name ring) } by { IsSomeAnd-prop N.ring (λ name. name ≡ in_name ring) (λ name. RingName_set name (in_name ring)) },
+    ghost one_ring: { IsSomeAnd N.ring (λ name. name ≡ in_name ring) } by { IsSomeAnd-prop N.ring
+        (λ name. name ≡ in_name ring) (λ name. RingName_set name (in_name ring)) },
 }
 
 /// The orders of the reader.
@@ -96,8 +97,9 @@ impl<A: Ledger, B: Ledger, C: Ledger, J: Naming, N: Route> Orders<A, B, C, J, N>
         }
     }
 
-    /// Puts an order, and waits where there is no room. Once the writer has stopped it goes into the backlog, and so do all behind it; without
-    /// memory for that it is dropped, and so are all behind it.
+    /// Puts an order, and waits where there is no room. Once the writer has stopped it goes into
+    /// the backlog, and so do all behind it; without memory for that it is dropped, and so are all
+    /// behind it.
     pub(crate) fn put<R: Wait>(&mut self, rt: &R, order: Order<J>)
         ensures puts { Puts order self.old self.new }
         ensures stops { self.old.has_stopped ≡ true → self.new.has_stopped ≡ true }
@@ -204,7 +206,8 @@ impl<A: Ledger, B: Ledger, C: Ledger, J: Naming, N: Route> Orders<A, B, C, J, N>
         unreachable!()
     }
 
-    /// Puts the backlog and the last order, as far as there is room, and rings the writer. Whether all are put.
+    /// Puts the backlog and the last order, as far as there is room, and rings the writer. Whether
+    /// all are put.
     pub(crate) fn try_close(&mut self) -> bool
         ensures put { result ≡ true → put_of self.new ≡ put_of self.old ++ orders.Close ∷ [] }
         ensures none_left { result ≡ true → self.new.backlog.items ≡ [] }

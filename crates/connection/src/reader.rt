@@ -3,7 +3,28 @@
 
 ghost use mathlib.Core.List.{IsPrefix};
 ghost use Rattle.callhead.specs.declared.head.CallHead.{CallHead as Head};
-ghost use Rattle.std.specs.Prelude.{◌≡◌, ◌<◌, ◌≤◌, ◌++◌, ◌∷◌, ℕ, List, [], None, Some, Ok, IfOk, IfSome, OnErr, OnOk, false, true, length, vec_capacity, vec_len};
+ghost use Rattle.std.specs.Prelude.{
+  ◌≡◌,
+  ◌<◌,
+  ◌≤◌,
+  ◌++◌,
+  ◌∷◌,
+  ℕ,
+  List,
+  [],
+  None,
+  Some,
+  Ok,
+  IfOk,
+  IfSome,
+  OnErr,
+  OnOk,
+  false,
+  true,
+  length,
+  vec_capacity,
+  vec_len,
+};
 ghost use Rattle.std.specs.Io.KnownBytes.{Consumes, IsAtEnd};
 ghost use Rattle.lane.specs.Ring.{in_name, out_name, put_in, taken};
 ghost use Rattle.callparts.specs.Blocks.{items_of};
@@ -20,7 +41,19 @@ ghost use Rattle.readerloop.specs.Readings.{IsNext, KeepsNext, Reads, goaway_in,
 ghost use Rattle.readerloop.specs.Reports.{AreAccounts};
 ghost use Rattle.readerloop.specs.Seats.{HasPlacesAt};
 ghost use Rattle.readerloop.specs.Steps.{Lacks, Step, events_of, reported};
-ghost use Rattle.connection.specs.Heard.{Acts, AreCarried, Collects, CutsSome, Grows, HasEnded, HasRead, IsOfInput, KeptFor, ReadsTo, ReadsWith};
+ghost use Rattle.connection.specs.Heard.{
+  Acts,
+  AreCarried,
+  Collects,
+  CutsSome,
+  Grows,
+  HasEnded,
+  HasRead,
+  IsOfInput,
+  KeptFor,
+  ReadsTo,
+  ReadsWith,
+};
 ghost use Rattle.connection.specs.Limits.{Covers, MayTurnAway, Tally, one_more};
 ghost use Rattle.outwriter.specs.declared.control.Control.TheVariants as orders;
 ghost use Rattle.connection.specs.Puts.{IsOwn, IsSame, put_of};
@@ -718,8 +751,9 @@ where
         self.act(decided)
     }
 
-    /// Has a worker answer a call that was admitted: one that is free, or a new one. Where there are as many as calls may be live, one of
-    /// them is at a call that is no longer live, and soon is free. Once the writer was seen to have stopped no call begins.
+    /// Has a worker answer a call that was admitted: one that is free, or a new one. Where there
+    /// are as many as calls may be live, one of them is at a call that is no longer live, and soon
+    /// is free. Once the writer was seen to have stopped no call begins.
     fn start(&mut self, request: Request, methods: &Arc<Methods>) -> Option<Ending>
         requires known { IsKnown M.known (λ m. answers (m.vtable, m.value))
             (listed methods.now.value) }

@@ -1,7 +1,25 @@
 //! One connection from its first byte to its last.
 
 ghost use mathlib.Core.List.{IsPrefix};
-ghost use Rattle.std.specs.Prelude.{◌≡◌, ◌<◌, ◌≤◌, ◌++◌, ℕ, Bool, List, [], Option, None, Some, IfErr, IfOk, IfSome, false, length, true};
+ghost use Rattle.std.specs.Prelude.{
+  ◌≡◌,
+  ◌<◌,
+  ◌≤◌,
+  ◌++◌,
+  ℕ,
+  Bool,
+  List,
+  [],
+  Option,
+  None,
+  Some,
+  IfErr,
+  IfOk,
+  IfSome,
+  false,
+  length,
+  true,
+};
 ghost use Rattle.std.specs.Io.KnownBytes.{Consumes, IsAtEnd};
 ghost use Rattle.callparts.specs.Blocks.{items_of};
 ghost use Rattle.callparts.specs.Workers.{IsWithin, answers_by};
@@ -198,7 +216,8 @@ struct Common<A: Ledger, B: Ledger, C: Ledger, G: Drop> {
 }
 
 impl<A: Ledger, B: Ledger, C: Ledger, G: Drop> Common<A, B, C, G> {
-    /// Over what the threads share. Where the clock can't be read, the connection goes on without deadlines.
+    /// Over what the threads share. Where the clock can't be read, the connection goes on without
+    /// deadlines.
     fn new(
         rt: &impl Clock,
         shared: Arc<Shared<A, B, C>>,

@@ -1,11 +1,33 @@
 //! The writing thread of a connection. It runs a `Writing`, takes the lock for it, rings and waits.
 
-ghost use Rattle.std.specs.Prelude.{◌≡◌, ◌⊎◌, ℕ, List, [], ◌∷◌, Option, IfErr, IfOk, OnErr, OnOk, true};
+ghost use Rattle.std.specs.Prelude.{
+  ◌≡◌,
+  ◌⊎◌,
+  ℕ,
+  List,
+  [],
+  ◌∷◌,
+  Option,
+  IfErr,
+  IfOk,
+  OnErr,
+  OnOk,
+  true,
+};
 ghost use Rattle.lane.specs.Ring.{in_name, out_name, put_in, taken};
 ghost use Rattle.writerloop.specs.declared.filled.Filled.TheVariants as filling;
 ghost use Rattle.outwriter.specs.declared.control.Control.TheVariants as controls;
 ghost use Rattle.writerloop.specs.Endings.{ending_told};
-ghost use Rattle.writerloop.specs.Written.{HasSent, IsFlushed, Led, LedOut, LeadsOn, LeadsOutTo, LeadsTo, Stays};
+ghost use Rattle.writerloop.specs.Written.{
+  HasSent,
+  IsFlushed,
+  Led,
+  LedOut,
+  LeadsOn,
+  LeadsOutTo,
+  LeadsTo,
+  Stays,
+};
 ghost use Rattle.connection.specs.Puts.{Closed, Ordered};
 
 use crate::orders::{Orders, Route};

@@ -30,13 +30,17 @@ spare one lacked other = absurd (other (ap Some lacked))
 pub returns-in-Ok-start-clause-kept : goal.returns-in-Ok-start-clause-kept
 returns-in-Ok-start-clause-kept g c = λ sent.
     kept-none sent _ _ (c.new-in-Ok-start.ensures.reads sent)
-    (ap put_of (c.new-in-Ok-start.ensures.orders ∙ c.in-Ok-start.ensures.same) ∙ c.new-orders.ensures.put c.requires.unused.0)
-    (ap (λ orders. orders.unput) (c.new-in-Ok-start.ensures.orders ∙ c.in-Ok-start.ensures.same) ∙ c.new-orders.ensures.unput)
+    (ap put_of (c.new-in-Ok-start.ensures.orders ∙ c.in-Ok-start.ensures.same)
+    ∙ c.new-orders.ensures.put c.requires.unused.0)
+    (ap (λ orders. orders.unput) (c.new-in-Ok-start.ensures.orders ∙ c.in-Ok-start.ensures.same)
+    ∙ c.new-orders.ensures.unput)
 
 pub returns-in_default-clause-served : goal.returns-in_default-clause-served
 returns-in_default-clause-served g c = λ rest read_failed.
     let is = c.unserved.ensures in
-    unbegun _ _ (λ calls. items_of calls.full calls.last) g.O.ConnWrite.contents g.O.ConnWrite.failed rest read_failed c.unserved.result.report.ending c.unserved.result.report.calls c.args.output c.unserved.result.output
+    unbegun _ _ (λ calls. items_of calls.full calls.last) g.O.ConnWrite.contents
+    g.O.ConnWrite.failed rest read_failed c.unserved.result.report.ending
+    c.unserved.result.report.calls c.args.output c.unserved.result.output
     is.ending is.output is.calls
 
 pub returns-in-Err-clause-served : goal.returns-in-Err-clause-served
@@ -47,17 +51,30 @@ returns-in-Err-clause-served g c = λ rest read_failed.
     let parted = c.in-Err.field-0 in
     let written = parted.written in
     let sent = c.in-Err.ensures.sent in
-    let lacked : c.meet.result.report.ending ≡ OutOfMemory = is.ending ∙ lacked-by written.ending c.start.new.orders.has_dropped in
+    let lacked : c.meet.result.report.ending ≡ OutOfMemory =
+    is.ending ∙ lacked-by written.ending c.start.new.orders.has_dropped in
     let left = orders_of (order_in written.rest.aside) ++ orders_of is.obeyed.0 in
     let all : put_orders c.start.new.orders ≡ orders_of sent.given ++ left =
-    given-first sent.given (order_in written.rest.aside) (taken written.orders) is.obeyed.0 (put_of c.start.new.orders) sent.orders_are is.obeyed.1 in
-    let put = told-on contents failed (contents c.args.output) parted.told.amount (orders_of sent.given) (put_orders c.start.new.orders) (ending_told written.ending) (Some c.meet.result.report.ending) false
+    given-first sent.given (order_in written.rest.aside) (taken written.orders) is.obeyed.0
+    (put_of c.start.new.orders) sent.orders_are is.obeyed.1 in
+    let put =
+    told-on contents failed (contents c.args.output) parted.told.amount (orders_of sent.given)
+    (put_orders c.start.new.orders) (ending_told written.ending)
+    (Some c.meet.result.report.ending) false
     (is_drained c.meet.result.report.ending) written.device
-    (λ was. ap Some lacked) (λ broke other. spare c.meet.result.report.ending lacked other) (λ marked. absurd (not-both c.meet.result.report.ending lacked (some-is marked)))
-    left (sym all) (λ other broke. spare c.meet.result.report.ending lacked other) sent.written (λ drained. absurd (not-drained c.meet.result.report.ending lacked (drained-is c.meet.result.report.ending drained))) in
+    (λ was. ap Some lacked) (λ broke other. spare c.meet.result.report.ending lacked other)
+    (λ marked. absurd (not-both c.meet.result.report.ending lacked (some-is marked)))
+    left (sym all) (λ other broke. spare c.meet.result.report.ending lacked other)
+    sent.written (λ drained.
+    absurd (not-drained c.meet.result.report.ending lacked
+    (drained-is c.meet.result.report.ending drained))) in
     let ordered = closed-put (InputEnded ∷ []) c.start.new.orders
-    (c.in-Err.ensures.put (ordered-none c.new-orders.result (c.new-orders.ensures.put c.requires.unused.0) c.new-orders.ensures.unput)) in
-    served-by _ _ (λ calls. items_of calls.full calls.last) contents failed _ rest _ _ _ _ _ _ is.output
-    (none-served _ _ (λ calls. items_of calls.full calls.last) contents failed rest (contents c.args.output) _ _ c.meet.result.report.ending _
-    c.meet.result.report.calls written.device lacked (ap (λ calls. items_of calls.full calls.last) is.calls ∙ c.new-calls.ensures) ordered
+    (c.in-Err.ensures.put (ordered-none c.new-orders.result
+    (c.new-orders.ensures.put c.requires.unused.0) c.new-orders.ensures.unput)) in
+    served-by _ _ (λ calls. items_of calls.full calls.last) contents failed _ rest _
+    _ _ _ _ _ is.output
+    (none-served _ _ (λ calls. items_of calls.full calls.last) contents failed rest
+    (contents c.args.output) _ _ c.meet.result.report.ending _
+    c.meet.result.report.calls written.device lacked
+    (ap (λ calls. items_of calls.full calls.last) is.calls ∙ c.new-calls.ensures) ordered
     (omega (arith, c.audit.ensures.within, c.new-intake.ensures.came, c.requires.came.2)) put)

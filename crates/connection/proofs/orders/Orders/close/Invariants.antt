@@ -4,5 +4,7 @@ use Rattle.connection.proofs.orders.Orders.close.Given as goal
 
 -- the last order wasn't put yet
 abbrev pub invariant-tries : goal.invariant-tries
-invariant-tries g l = (put_of l.self ≡ put_of l.fn.self) × (l.self.has_dropped ≡ l.fn.self.has_dropped) × (l.self.unput ≡ l.fn.self.unput)
+invariant-tries g l =
+    (put_of l.self ≡ put_of l.fn.self) × (l.self.has_dropped ≡ l.fn.self.has_dropped)
+    × (l.self.unput ≡ l.fn.self.unput)
     × (l.self.has_stopped ≡ l.fn.self.has_stopped)

@@ -5,5 +5,6 @@ use Rattle.connection.proofs.orders.Orders.has_backlog.Goals as goal
 pub returns : goal.returns
 returns g c = record {
   none = λ is.
-      nil-of c.args.self.now.backlog.items (sym c.args.self.now.backlog.ok.0 ∙ eqb-true _ _ (sym c.is_empty.ensures ∙ un-not c.is_empty.result is));
+      nil-of c.args.self.now.backlog.items (sym c.args.self.now.backlog.ok.0
+      ∙ eqb-true _ _ (sym c.is_empty.ensures ∙ un-not c.is_empty.result is));
 }

@@ -1,4 +1,4 @@
-use Rattle.std.proofs.Common.{◌∙◌, [], ◌++◌, ap, append-nil, sym}
+use Rattle.std.proofs.Common.{◌∙◌, ◌++◌, ap, append-nil, sym}
 use Rattle.lane.specs.Ring.{ahead, put_in}
 use Rattle.connection.proofs.orders.Orders.meet.Goals as goal
 
@@ -9,6 +9,8 @@ returns g c =
       first = (
         ahead c.meet-left.new.rx,
         ap (λ took. took ++ ahead c.meet-left.new.rx) (sym c.meet-left.ensures.reader.1)
-            ∙ (c.meet-left.ensures.all ∙ (c.meet-left.ensures.writer.1 ∙ (sym (append-nil put) ∙ ap (λ back. put ++ back) (sym c.requires.none_left)))),
+            ∙ (c.meet-left.ensures.all
+            ∙ (c.meet-left.ensures.writer.1
+            ∙ (sym (append-nil put) ∙ ap (λ back. put ++ back) (sym c.requires.none_left)))),
       );
     }

@@ -1,4 +1,24 @@
-use Rattle.std.proofs.Common.{◌≡◌, ◌∙◌, ◌≤◌, inl, inr, ℕ, List, [], ◌∷◌, ◌++◌, Err, ap, append-nil, arith, length, refl, sym, true, true≢false}
+use Rattle.std.proofs.Common.{
+  ◌≡◌,
+  ◌∙◌,
+  ◌≤◌,
+  inl,
+  inr,
+  ℕ,
+  List,
+  [],
+  ◌∷◌,
+  ◌++◌,
+  Err,
+  ap,
+  append-nil,
+  arith,
+  length,
+  refl,
+  sym,
+  true,
+  true≢false,
+}
 use Rattle.callparts.specs.declared.report.Ending.TheVariants.{OutOfMemory, ReadFailed}
 use Rattle.session.specs.declared.event.InEvent.{InEvent}
 use Rattle.readerloop.specs.Steps.{Lacks, Step, events_of}
@@ -7,12 +27,36 @@ use Rattle.readerloop.proofs.Resets.{calm-more}
 use Rattle.connection.specs.Heard.{IsOfInput}
 use Rattle.connection.proofs.Backlog.{nil-of}
 use Rattle.connection.proofs.Tallies.{covers-more}
-use Rattle.connection.proofs.Heard.{carried-before, consumes-keeps, consumes-none, consumes-then, failed-read, grows-home, grows-then, input-out, input-read, kept-behind, kept-collected, kept-stopped, none-read, not-by-fault, not-drained, some-harsh, some-read, some-sound, with-end}
+use Rattle.connection.proofs.Heard.{
+  carried-before,
+  consumes-keeps,
+  consumes-none,
+  consumes-then,
+  failed-read,
+  grows-home,
+  grows-then,
+  input-out,
+  input-read,
+  kept-behind,
+  kept-collected,
+  kept-stopped,
+  none-read,
+  not-by-fault,
+  not-drained,
+  some-harsh,
+  some-read,
+  some-sound,
+  with-end,
+}
 use Rattle.connection.proofs.reader.Reader.read.Goals as goal
 
 -- behind what was told before come these events
-all-told : (told more : List Step) (before given : List InEvent) → events_of told ≡ before → events_of more ≡ given → events_of (more ++ told) ≡ before ++ given
-all-told told more before given is all = events-append more told ∙ (ap (λ (es : List InEvent). es ++ events_of more) is ∙ ap (λ (es : List InEvent). before ++ es) all)
+all-told : (told more : List Step) (before given : List InEvent) → events_of told ≡ before
+    → events_of more ≡ given → events_of (more ++ told) ≡ before ++ given
+all-told told more before given is all =
+    events-append more told
+    ∙ (ap (λ (es : List InEvent). es ++ events_of more) is
+    ∙ ap (λ (es : List InEvent). before ++ es) all)
 
 not-of-read : IsOfInput ReadFailed → ⊥
 not-of-read (inl is) = cc
@@ -23,63 +67,105 @@ none-above n none = omega (arith, none)
 
 -- no bytes came
 none-came : (bytes came : List ℕ) → length came ≡ 0 → bytes ++ came ≡ bytes
-none-came bytes came none = ap (λ (more : List ℕ). bytes ++ more) (nil-of came none) ∙ append-nil bytes
+none-came bytes came none =
+    ap (λ (more : List ℕ). bytes ++ more) (nil-of came none) ∙ append-nil bytes
 
 pub pieces-init : goal.pieces-init
 pieces-init g c = (
   grows-home _ _ refl,
-  λ sent carried none. ([], [], [], consumes-none _, c.new-core.ensures, refl, tt, none, record { calls = none-above _ c.requires.uncounted.0; came = none-above _ c.requires.uncounted.1 }),
+  λ sent carried none. (
+    [],
+    [],
+    [],
+    consumes-none _,
+    c.new-core.ensures,
+    refl,
+    tt,
+    none,
+    record {
+      calls = none-above _ c.requires.uncounted.0;
+      came = none-above _ c.requires.uncounted.1;
+    },
+  ),
 )
 
 pub returns-in-Err-Device-clause-heard : goal.returns-in-Err-Device-clause-heard
 returns-in-Err-Device-clause-heard g c = λ sent carried none.
-    let h = c.pieces.invariant.1 sent carried none in
-    (h.0, consumes-keeps _ _ _ h.0 h.3 (c.in-Err-Device.ensures.kept (ap Err c.in-Err-Device.field-0-is)), (h.2, failed-read sent h.1 h.2 h.0 h.0 _ _ _ refl h.4 h.5 h.6 h.7, h.8))
+    let h = c.pieces.invariant.1 sent carried none in (
+      h.0,
+      consumes-keeps _ _ _ h.0 h.3
+          (c.in-Err-Device.ensures.kept (ap Err c.in-Err-Device.field-0-is)),
+      (h.2, failed-read sent h.1 h.2 h.0 h.0 _ _ _ refl h.4 h.5 h.6 h.7, h.8),
+    )
 
 pub returns-in-Err-Device-clause-grows : goal.returns-in-Err-Device-clause-grows
 returns-in-Err-Device-clause-grows g c = c.pieces.invariant.0
 
 pub returns-in-Err-Device-clause-failed : goal.returns-in-Err-Device-clause-failed
-returns-in-Err-Device-clause-failed g c = λ sent carried none failed. c.in-Err-Device.ensures.marked (ap Err c.in-Err-Device.field-0-is)
+returns-in-Err-Device-clause-failed g c = λ sent carried none failed.
+    c.in-Err-Device.ensures.marked (ap Err c.in-Err-Device.field-0-is)
 
 pub returns-in-Err-Device-clause-over : goal.returns-in-Err-Device-clause-over
 returns-in-Err-Device-clause-over g c = λ sent carried none input going. absurd (not-of-read input)
 
 pub returns-in-Err-OutOfMemory-clause-heard : goal.returns-in-Err-OutOfMemory-clause-heard
 returns-in-Err-OutOfMemory-clause-heard g c = λ sent carried none.
-    let before = carried-before sent c.pieces.self.reading c.lack.new.self.reading (grows-home c.pieces.self.reading c.lack.new.self.reading c.lack.ensures.home) carried in
+    let before =
+    carried-before sent c.pieces.self.reading c.lack.new.self.reading
+    (grows-home c.pieces.self.reading c.lack.new.self.reading c.lack.ensures.home) carried in
     let h = c.pieces.invariant.1 sent before none in
     let some = c.in-Err-OutOfMemory.ensures.prefix in (
       h.0 ++ some.0,
       consumes-then _ _ _ h.0 some.0 h.3 some.1,
-      (Lacks ∷ h.2, none-read sent h.1 h.2 h.0 some.0 _ _ _ h.4 h.5 (c.lack.ensures.kept sent h.2 h.7), covers-more _ (Lacks ∷ []) h.2 h.8),
+      (
+        Lacks ∷ h.2,
+        none-read sent h.1 h.2 h.0 some.0 _ _ _ h.4 h.5 (c.lack.ensures.kept sent h.2 h.7),
+        covers-more _ (Lacks ∷ []) h.2 h.8,
+      ),
     )
 
 pub returns-in-Err-OutOfMemory-clause-grows : goal.returns-in-Err-OutOfMemory-clause-grows
-returns-in-Err-OutOfMemory-clause-grows g c = grows-then _ _ _ c.pieces.invariant.0 (grows-home _ _ c.lack.ensures.home)
+returns-in-Err-OutOfMemory-clause-grows g c =
+    grows-then _ _ _ c.pieces.invariant.0 (grows-home _ _ c.lack.ensures.home)
 
 pub returns-in-Err-OutOfMemory-clause-over : goal.returns-in-Err-OutOfMemory-clause-over
-returns-in-Err-OutOfMemory-clause-over g c = λ sent carried none input going. absurd (true≢false (sym (input-out OutOfMemory input)))
+returns-in-Err-OutOfMemory-clause-over g c = λ sent carried none input going.
+    absurd (true≢false (sym (input-out OutOfMemory input)))
 
 pub returns-then-has_stopped-clause-heard : goal.returns-then-has_stopped-clause-heard
 returns-then-has_stopped-clause-heard g c = λ sent carried none.
     let h = c.pieces.invariant.1 sent carried none in
-    let kept = kept-stopped sent h.2 c.pieces.self.reading c.pieces.self.orders (record c.pieces.self.orders { has_stopped = true }) refl refl refl refl refl h.7 in
-    let ending = c.ending.ensures in
-    (h.0, h.3, (h.2, input-read sent _ h.1 h.2 h.0 h.0 _ _ _ refl h.4 h.5 h.6 kept ending.input ending.goaway ending.drained ending.draining, h.8))
+    let kept =
+    kept-stopped sent h.2 c.pieces.self.reading c.pieces.self.orders
+    (record c.pieces.self.orders { has_stopped = true }) refl refl refl refl refl h.7 in
+    let ending = c.ending.ensures in (
+      h.0,
+      h.3,
+      (
+        h.2,
+        input-read sent _ h.1 h.2 h.0 h.0 _ _ _ refl h.4 h.5 h.6 kept ending.input ending.goaway
+            ending.drained ending.draining,
+        h.8,
+      ),
+    )
 
 pub returns-then-has_stopped-clause-grows : goal.returns-then-has_stopped-clause-grows
 returns-then-has_stopped-clause-grows g c = c.pieces.invariant.0
 
 pub returns-then-has_stopped-clause-failed : goal.returns-then-has_stopped-clause-failed
-returns-then-has_stopped-clause-failed g c = λ sent carried none failed. absurd (not-by-fault _ c.ending.ensures.input failed)
+returns-then-has_stopped-clause-failed g c = λ sent carried none failed.
+    absurd (not-by-fault _ c.ending.ensures.input failed)
 
 pub returns-then-has_stopped-clause-over : goal.returns-then-has_stopped-clause-over
-returns-then-has_stopped-clause-over g c = λ sent carried none input going. absurd (true≢false going)
+returns-then-has_stopped-clause-over g c = λ sent carried none input going.
+    absurd (true≢false going)
 
 pub returns-then-count-eq0-clause-heard : goal.returns-then-count-eq0-clause-heard
 returns-then-count-eq0-clause-heard g c = λ sent carried none.
-    let h = c.pieces.invariant.1 sent (carried-before sent c.pieces.self.reading c.heed_drain.new.self.reading (grows-home c.pieces.self.reading c.heed_drain.new.self.reading c.heed_drain.ensures.cuts.0) carried) none in
+    let h =
+    c.pieces.invariant.1 sent (carried-before sent c.pieces.self.reading
+    c.heed_drain.new.self.reading (grows-home c.pieces.self.reading
+    c.heed_drain.new.self.reading c.heed_drain.ensures.cuts.0) carried) none in
     let came = c.in-Ok.ensures.events in
     let b = kept-behind sent _ h.2 _ _ _ _ c.heed_drain.ensures.cuts h.7 h.8 h.6 in
     let ending = c.ending-then-count-eq0.ensures in (
@@ -87,60 +173,93 @@ returns-then-count-eq0-clause-heard g c = λ sent carried none.
       consumes-then _ _ _ h.0 came.0 h.3 came.2,
       (
         b.0 ++ h.2,
-        input-read sent _ h.1 (b.0 ++ h.2) h.0 (h.0 ++ came.0) _ _ _ (none-came h.0 came.0 (came.1 ∙ c.if-count-eq0.true)) h.4 (b.1 ∙ h.5) b.2 b.3 ending.input ending.goaway ending.drained ending.draining,
+        input-read sent _ h.1 (b.0 ++ h.2) h.0 (h.0 ++ came.0) _ _ _
+            (none-came h.0 came.0 (came.1 ∙ c.if-count-eq0.true)) h.4 (b.1 ∙ h.5) b.2 b.3
+            ending.input ending.goaway ending.drained ending.draining,
         b.4,
       ),
     )
 
 pub returns-then-count-eq0-clause-grows : goal.returns-then-count-eq0-clause-grows
-returns-then-count-eq0-clause-grows g c = grows-then _ _ _ c.pieces.invariant.0 (grows-home _ _ c.heed_drain.ensures.cuts.0)
+returns-then-count-eq0-clause-grows g c =
+    grows-then _ _ _ c.pieces.invariant.0 (grows-home _ _ c.heed_drain.ensures.cuts.0)
 
 pub returns-then-count-eq0-clause-failed : goal.returns-then-count-eq0-clause-failed
-returns-then-count-eq0-clause-failed g c = λ sent carried none failed. absurd (not-by-fault _ c.ending-then-count-eq0.ensures.input failed)
+returns-then-count-eq0-clause-failed g c = λ sent carried none failed.
+    absurd (not-by-fault _ c.ending-then-count-eq0.ensures.input failed)
 
 pub returns-then-count-eq0-clause-over : goal.returns-then-count-eq0-clause-over
-returns-then-count-eq0-clause-over g c = λ sent carried none input going. c.in-Ok.ensures.end c.if-count-eq0.true
+returns-then-count-eq0-clause-over g c = λ sent carried none input going.
+    c.in-Ok.ensures.end c.if-count-eq0.true
 
 pub returns-then-heed_drain-clause-heard : goal.returns-then-heed_drain-clause-heard
 returns-then-heed_drain-clause-heard g c = λ sent carried none.
-    let behind = carried-before sent c.take.new.self.reading c.heed_drain-in-pieces.new.self.reading (grows-home c.take.new.self.reading c.heed_drain-in-pieces.new.self.reading c.heed_drain-in-pieces.ensures.cuts.0) carried in
+    let behind =
+    carried-before sent c.take.new.self.reading c.heed_drain-in-pieces.new.self.reading (grows-home
+    c.take.new.self.reading c.heed_drain-in-pieces.new.self.reading
+    c.heed_drain-in-pieces.ensures.cuts.0) carried in
     let before = carried-before sent _ _ c.take.ensures.reads.0 behind in
-    let h = c.pieces.invariant.1 sent (carried-before sent _ _ c.collect.ensures.collects.grows before) none in
-    let kept = kept-collected sent h.2 _ _ _ _ c.collect.ensures.collects before c.collect.ensures.orders h.7 in
+    let h =
+    c.pieces.invariant.1 sent
+    (carried-before sent _ _ c.collect.ensures.collects.grows before) none in
+    let kept =
+    kept-collected sent h.2 _ _ _ _ c.collect.ensures.collects before
+    c.collect.ensures.orders h.7 in
     let came = c.in-Ok.ensures.events in
     let more = c.take.ensures.reads.1 sent behind h.2 kept h.8 in
-    let b = kept-behind sent _ (more.0 ++ h.2) _ _ _ _ c.heed_drain-in-pieces.ensures.cuts more.1.kept more.2 (calm-more more.0 h.2 (more.1.calm c.in_default.is) h.6) in
+    let b =
+    kept-behind sent _ (more.0 ++ h.2) _ _ _ _ c.heed_drain-in-pieces.ensures.cuts more.1.kept
+    more.2 (calm-more more.0 h.2 (more.1.calm c.in_default.is) h.6) in
     let ending = c.ending-then-heed_drain.ensures in (
       h.0 ++ came.0,
       consumes-then _ _ _ h.0 came.0 h.3 came.2,
       (
         b.0 ++ (more.0 ++ h.2),
-        input-read sent _ (h.1 ++ _) (b.0 ++ (more.0 ++ h.2)) (h.0 ++ came.0) (h.0 ++ came.0) _ _ _ refl (came.3 h.0 h.1 h.4) (b.1 ∙ all-told h.2 more.0 h.1 _ h.5 (more.1.all c.in_default.is)) b.2 b.3 ending.input ending.goaway ending.drained ending.draining,
+        input-read sent _ (h.1 ++ _) (b.0 ++ (more.0 ++ h.2)) (h.0 ++ came.0) (h.0 ++ came.0) _ _ _
+            refl (came.3 h.0 h.1 h.4)
+            (b.1 ∙ all-told h.2 more.0 h.1 _ h.5 (more.1.all c.in_default.is)) b.2 b.3 ending.input
+            ending.goaway ending.drained ending.draining,
         b.4,
       ),
     )
 
 pub returns-then-heed_drain-clause-grows : goal.returns-then-heed_drain-clause-grows
 returns-then-heed_drain-clause-grows g c =
-    grows-then _ _ _ (grows-then _ _ _ (grows-then _ _ _ c.pieces.invariant.0 c.collect.ensures.collects.grows) c.take.ensures.reads.0) (grows-home _ _ c.heed_drain-in-pieces.ensures.cuts.0)
+    grows-then _ _ _ (grows-then _ _ _
+    (grows-then _ _ _ c.pieces.invariant.0 c.collect.ensures.collects.grows) c.take.ensures.reads.0)
+    (grows-home _ _ c.heed_drain-in-pieces.ensures.cuts.0)
 
 pub returns-then-heed_drain-clause-failed : goal.returns-then-heed_drain-clause-failed
-returns-then-heed_drain-clause-failed g c = λ sent carried none failed. absurd (not-by-fault _ c.ending-then-heed_drain.ensures.input failed)
+returns-then-heed_drain-clause-failed g c = λ sent carried none failed.
+    absurd (not-by-fault _ c.ending-then-heed_drain.ensures.input failed)
 
 pub returns-then-heed_drain-clause-over : goal.returns-then-heed_drain-clause-over
-returns-then-heed_drain-clause-over g c = λ sent carried none input going. absurd (not-drained _ (c.ending-then-heed_drain.ensures.draining (c.heed_drain-in-pieces.ensures.draining c.if-heed_drain.true)) input)
+returns-then-heed_drain-clause-over g c = λ sent carried none input going.
+    absurd (not-drained _ (c.ending-then-heed_drain.ensures.draining
+    (c.heed_drain-in-pieces.ensures.draining c.if-heed_drain.true)) input)
 
 pub pieces-preserved : goal.pieces-preserved
 pieces-preserved g c = (
-  grows-then _ _ _ (grows-then _ _ _ (grows-then _ _ _ c.pieces.invariant.0 c.collect.ensures.collects.grows) c.take.ensures.reads.0) (grows-home _ _ c.heed_drain-in-pieces.ensures.cuts.0),
+  grows-then _ _ _ (grows-then _ _ _
+      (grows-then _ _ _ c.pieces.invariant.0 c.collect.ensures.collects.grows)
+      c.take.ensures.reads.0) (grows-home _ _ c.heed_drain-in-pieces.ensures.cuts.0),
   λ sent carried none.
-      let behind = carried-before sent c.take.new.self.reading c.heed_drain-in-pieces.new.self.reading (grows-home c.take.new.self.reading c.heed_drain-in-pieces.new.self.reading c.heed_drain-in-pieces.ensures.cuts.0) carried in
+      let behind =
+      carried-before sent c.take.new.self.reading c.heed_drain-in-pieces.new.self.reading
+      (grows-home c.take.new.self.reading c.heed_drain-in-pieces.new.self.reading
+      c.heed_drain-in-pieces.ensures.cuts.0) carried in
       let before = carried-before sent _ _ c.take.ensures.reads.0 behind in
-      let h = c.pieces.invariant.1 sent (carried-before sent _ _ c.collect.ensures.collects.grows before) none in
-      let kept = kept-collected sent h.2 _ _ _ _ c.collect.ensures.collects before c.collect.ensures.orders h.7 in
+      let h =
+      c.pieces.invariant.1 sent
+      (carried-before sent _ _ c.collect.ensures.collects.grows before) none in
+      let kept =
+      kept-collected sent h.2 _ _ _ _ c.collect.ensures.collects before
+      c.collect.ensures.orders h.7 in
       let came = c.in-Ok.ensures.events in
       let more = c.take.ensures.reads.1 sent behind h.2 kept h.8 in
-      let b = kept-behind sent _ (more.0 ++ h.2) _ _ _ _ c.heed_drain-in-pieces.ensures.cuts more.1.kept more.2 (calm-more more.0 h.2 (more.1.calm c.in_default.is) h.6) in (
+      let b =
+      kept-behind sent _ (more.0 ++ h.2) _ _ _ _ c.heed_drain-in-pieces.ensures.cuts more.1.kept
+      more.2 (calm-more more.0 h.2 (more.1.calm c.in_default.is) h.6) in (
         h.0 ++ came.0,
         _,
         b.0 ++ (more.0 ++ h.2),
@@ -156,27 +275,44 @@ pieces-preserved g c = (
 pub returns-in-Some-take-clause-heard : goal.returns-in-Some-take-clause-heard
 returns-in-Some-take-clause-heard g c = λ sent carried none.
     let before = carried-before sent _ _ c.take.ensures.reads.0 carried in
-    let h = c.pieces.invariant.1 sent (carried-before sent _ _ c.collect.ensures.collects.grows before) none in
-    let kept = kept-collected sent h.2 _ _ _ _ c.collect.ensures.collects before c.collect.ensures.orders h.7 in
+    let h =
+    c.pieces.invariant.1 sent
+    (carried-before sent _ _ c.collect.ensures.collects.grows before) none in
+    let kept =
+    kept-collected sent h.2 _ _ _ _ c.collect.ensures.collects before
+    c.collect.ensures.orders h.7 in
     let came = c.in-Ok.ensures.events in (
       h.0 ++ came.0,
       consumes-then _ _ _ h.0 came.0 h.3 came.2,
-      some-read sent _ _ c.in-Some-take.ending _ h.1 h.2 _ _ _ _ _ _ carried (came.3 h.0 h.1 h.4) h.5 (with-end _ _ _ _ _ _ _ _ _ c.in-Some-take.is c.take.ensures.reads) kept h.8,
+      some-read sent _ _ c.in-Some-take.ending _ h.1 h.2 _ _ _ _ _ _ carried (came.3 h.0 h.1 h.4)
+          h.5 (with-end _ _ _ _ _ _ _ _ _ c.in-Some-take.is c.take.ensures.reads) kept h.8,
     )
 
 pub returns-in-Some-take-clause-grows : goal.returns-in-Some-take-clause-grows
-returns-in-Some-take-clause-grows g c = grows-then _ _ _ (grows-then _ _ _ c.pieces.invariant.0 c.collect.ensures.collects.grows) c.take.ensures.reads.0
+returns-in-Some-take-clause-grows g c =
+    grows-then _ _ _ (grows-then _ _ _ c.pieces.invariant.0 c.collect.ensures.collects.grows)
+    c.take.ensures.reads.0
 
 pub returns-in-Some-take-clause-over : goal.returns-in-Some-take-clause-over
 returns-in-Some-take-clause-over g c = λ sent carried none input going.
     let before = carried-before sent _ _ c.take.ensures.reads.0 carried in
-    let h = c.pieces.invariant.1 sent (carried-before sent _ _ c.collect.ensures.collects.grows before) none in
-    let kept = kept-collected sent h.2 _ _ _ _ c.collect.ensures.collects before c.collect.ensures.orders h.7 in
-    absurd (some-harsh sent _ _ c.in-Some-take.ending _ h.2 _ _ _ _ carried (with-end _ _ _ _ _ _ _ _ _ c.in-Some-take.is c.take.ensures.reads) kept h.8 input)
+    let h =
+    c.pieces.invariant.1 sent
+    (carried-before sent _ _ c.collect.ensures.collects.grows before) none in
+    let kept =
+    kept-collected sent h.2 _ _ _ _ c.collect.ensures.collects before
+    c.collect.ensures.orders h.7 in
+    absurd (some-harsh sent _ _ c.in-Some-take.ending _ h.2 _ _ _ _ carried
+    (with-end _ _ _ _ _ _ _ _ _ c.in-Some-take.is c.take.ensures.reads) kept h.8 input)
 
 pub returns-in-Some-take-clause-failed : goal.returns-in-Some-take-clause-failed
 returns-in-Some-take-clause-failed g c = λ sent carried none failed.
     let before = carried-before sent _ _ c.take.ensures.reads.0 carried in
-    let h = c.pieces.invariant.1 sent (carried-before sent _ _ c.collect.ensures.collects.grows before) none in
-    let kept = kept-collected sent h.2 _ _ _ _ c.collect.ensures.collects before c.collect.ensures.orders h.7 in
-    absurd (some-sound sent _ _ c.in-Some-take.ending _ h.2 _ _ _ _ carried (with-end _ _ _ _ _ _ _ _ _ c.in-Some-take.is c.take.ensures.reads) kept h.8 failed)
+    let h =
+    c.pieces.invariant.1 sent
+    (carried-before sent _ _ c.collect.ensures.collects.grows before) none in
+    let kept =
+    kept-collected sent h.2 _ _ _ _ c.collect.ensures.collects before
+    c.collect.ensures.orders h.7 in
+    absurd (some-sound sent _ _ c.in-Some-take.ending _ h.2 _ _ _ _ carried
+    (with-end _ _ _ _ _ _ _ _ _ c.in-Some-take.is c.take.ensures.reads) kept h.8 failed)
