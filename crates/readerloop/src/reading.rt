@@ -258,7 +258,8 @@ impl<J: Naming, M: Answering> Reading<J, M> {
         }
     }
 
-    /// The lock didn't admit a call. Want of memory ends the connection.
+    /// The lock didn't admit a call. Want of memory ends the connection, and so does a stream whose
+    /// id isn't greater than those before it (RFC 9113, section 5.1.1).
     pub fn turn_away(&mut self, id: StreamId, fault: AdmitFault) -> Decided<J>
         ensures decides { (head : Head) → DecidesOn M.known M.names
             (Told (events.Open id head) (TurnedAway fault)) result self.old self.new }
@@ -269,8 +270,11 @@ impl<J: Naming, M: Answering> Reading<J, M> {
         match fault {
             AdmitFault::TooMany => self.begin(id, Control::Reset { id, code, written }),
             AdmitFault::Draining => self.begin(id, Control::Reset { id, code, written }),
-            AdmitFault::NotNew => self.end_at(id),
-            AdmitFault::OutOfMemory => self.end_at(id),
+            AdmitFault::NotNew => {
+                let error = ErrorCode::ProtocolError;
+                self.end_at(id, Reason::Code(error), Ending::ProtocolError(error))
+            }
+            AdmitFault::OutOfMemory => self.end_at(id, Reason::Memory, Ending::OutOfMemory),
         }
     }
 
@@ -428,7 +432,7 @@ impl<J: Naming, M: Answering> Reading<J, M> {
         ensures home { self.new.home ≡ self.old.home }
     {
         self.calls.pass_over::<M>(id, method);
-        self.end_at(id)
+        self.end_at(id, Reason::Memory, Ending::OutOfMemory)
     }
 
     /// A call of this method was admitted, and the writing side has stopped: its account says so.
@@ -455,7 +459,7 @@ impl<J: Naming, M: Answering> Reading<J, M> {
     {
         match without_head(self.alloc, id, fault) {
             Ok(order) => self.begin(id, order),
-            Err(AllocError) => self.end_at(id),
+            Err(AllocError) => self.end_at(id, Reason::Memory, Ending::OutOfMemory),
         }
     }
 
@@ -485,26 +489,26 @@ impl<J: Naming, M: Answering> Reading<J, M> {
             (Told (events.Open id head) Lacking) result self.old self.new }
         ensures home { self.new.home ≡ self.old.home }
     {
-        self.end_at(id)
+        self.end_at(id, Reason::Memory, Ending::OutOfMemory)
     }
 
-    /// A stream begins, and the connection ends with it.
-    fn end_at(&mut self, id: StreamId) -> Decided<J>
-        ensures memory { result.ends ≡ Some ending.OutOfMemory }
+    /// A stream begins, and the connection ends with it, for this reason.
+    fn end_at(&mut self, id: StreamId, reason: Reason, ends: Ending) -> Decided<J>
+        ensures end { result.ends ≡ Some ends }
         ensures ends { (sent : List Sent) (told : List Step) (step : Step)
             → Begins M.known M.names (carried_in sent) told step id self.old
-            → ends_at step ≡ Some ending.OutOfMemory
+            → ends_at step ≡ Some ends
             → orders_at told step ≡ last_stream id (is_draining told) (begun told)
-            ++ orders.Goaway (named_with id (is_draining told) (named told)) reason.Memory ∷ []
+            ++ orders.Goaway (named_with id (is_draining told) (named told)) reason ∷ []
             → Decides M.known M.names (carried_in sent) told step result self.new }
         ensures home { self.new.home ≡ self.old.home }
     {
         let goaway = self.count(id);
         Decided {
             goaway,
-            order: Some(self.goaway(Reason::Memory)),
+            order: Some(self.goaway(reason)),
             cut: None,
-            ends: Some(Ending::OutOfMemory),
+            ends: Some(ends),
         }
     }
 
