@@ -12,6 +12,6 @@ pub mod call;
 pub mod ending;
 pub mod serial;
 
-pub use call::{Account, CallEvent, OutItem, Shut, Told};
+pub use call::{Account, CallEvent, OutItem, RequestEnd, Shut};
 pub use ending::told_behind;
 pub use serial::replay;

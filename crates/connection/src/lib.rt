@@ -17,9 +17,9 @@
 //!
 //! - `drain`: how a server ends a connection while its calls go on.
 //! - `intake`: the reader's hold on the credit book, `outlet` the writer's.
-//! - `seats`: new workers. `orders`: the reader's end of the ring of orders.
+//! - `new_workers`: new workers. `orders`: the reader's end of the ring of orders.
 //! - `reader`: the reading thread; `writer`: the writing thread.
-//! - `served`: the report of a connection; `serve`: one connection from its first byte to its last.
+//! - `served_conn`: the report of a connection; `serve`: one connection from its first byte to its last.
 //! - `laws`, `credit`, `sent`: laws that follow from the report.
 #![tactic(auto)]
 
@@ -27,17 +27,17 @@ pub mod credit;
 mod drain;
 mod intake;
 pub mod laws;
+mod new_workers;
 mod orders;
 mod outlet;
 mod reader;
-mod seats;
 pub mod sent;
 mod serve;
-mod served;
+mod served_conn;
 mod writer;
 
 pub use callparts::{Accounts, CallAccount, ConnReport, Ending, Traffic};
 pub use callworker::{Gate, OpenGate, STACK};
-pub use drain::{DrainSeat, Drainer};
+pub use drain::{DrainHandle, Drainer};
 pub use serve::{serve_connection, serve_undrained};
-pub use served::Served;
+pub use served_conn::ServedConn;

@@ -35,11 +35,11 @@ ghost use Rattle.session.specs.CoreStates.{Reached};
 ghost use Rattle.session.specs.declared.event.InEvent.{InEvent as Event};
 ghost use Rattle.session.specs.declared.event.InEvent.TheVariants as events;
 ghost use Rattle.session.specs.FlowBytes.{counted_told};
-ghost use Rattle.readerloop.specs.Calls.{AreNames, IsFirstWith, Sent, carried_in};
+ghost use Rattle.readerloop.specs.Calls.{AreNames, IsFirstWith, SentItems, carried_in};
 ghost use Rattle.readerloop.specs.Kept.{unsettled};
 ghost use Rattle.readerloop.specs.Readings.{IsNext, KeepsNext, Reads, goaway_in, order_in};
 ghost use Rattle.readerloop.specs.Reports.{AreAccounts};
-ghost use Rattle.readerloop.specs.Seats.{HasPlacesAt};
+ghost use Rattle.readerloop.specs.WorkerHandles.{HasPlacesAt};
 ghost use Rattle.readerloop.specs.Steps.{Lacks, Step, events_of, reported};
 ghost use Rattle.connection.specs.Heard.{
   Acts,
@@ -55,27 +55,27 @@ ghost use Rattle.connection.specs.Heard.{
   ReadsWith,
 };
 ghost use Rattle.connection.specs.Limits.{Covers, MayTurnAway, Tally, one_more};
-ghost use Rattle.outwriter.specs.declared.control.Control.TheVariants as orders;
+ghost use Rattle.outwriter.specs.declared.control.WriterOrder.TheVariants as orders;
 ghost use Rattle.connection.specs.Puts.{IsOwn, IsSame, put_of};
 ghost use Rattle.connection.specs.Rest.{CarriesOpen, CarriesRest};
 
 use crate::intake::Intake;
+use crate::new_workers::open_seat;
 use crate::orders::{Orders, Route, STEP};
-use crate::seats::open_seat;
 use bytes::Bytes;
 use callhead::{CallHead, HeadFault};
 use callparts::{
-    Accounts, Answering, CallAccount, Ending, Front, Naming, Opening, Order, Register, Request,
-    Returning,
+    Accounts, Answering, CallAccount, Ending, Front, Naming, OpeningCall, Order, Register, Request,
+    ReturningCall,
 };
-use callworker::{Gate, Hand, Ways, moment};
+use callworker::{Gate, Ways, WorkerThread, moment};
 use connbook::{AdmitFault, Receipt};
 use device::{ConnRead, ReadFault};
 use h2frame::{ErrorCode, StreamId};
 use handlers::{Method, Methods};
 use lane::{RingIn, RingOut};
-use outwriter::Control;
-use readerloop::{Decided, Reading};
+use outwriter::WriterOrder;
+use readerloop::{Decision, Reading};
 use reasons::Reason;
 use session::{InCore, InEvent};
 use std::alloc::{AllocError, Global};
@@ -96,7 +96,7 @@ fn goaway_of<J: Naming>(goaway: Option<StreamId>) -> Option<Order<J>>
 {
     let last = goaway?;
     let reason = Reason::Code(ErrorCode::NoError);
-    Some(Control::Goaway { last, reason })
+    Some(WriterOrder::Goaway { last, reason })
 }
 
 /// What the reading thread of a connection has.
@@ -116,7 +116,7 @@ pub(crate) struct Reader<
     pub(crate) orders: Orders<A, B, C, J, N>,
     pub(crate) reading: Reading<J, M>,
     /// The threads of the workers.
-    hands: Vec<Hand<J, M>>,
+    hands: Vec<WorkerThread<J, M>>,
     /// How the reader's bell stood when the reader last looked for what came back. None where a
     /// half was shut since.
     looked: Option<u64>,
@@ -142,11 +142,11 @@ where
         orders: Orders<A, B, C, J, N>,
         register: Register<J>,
         front: Front<J>,
-        home: RingOut<Returning<J>>,
+        home: RingOut<ReturningCall<J>>,
         gate: Arc<G>,
         start: Option<Instant>,
     ) -> Reader<A, B, C, J, M, N, R, G>
-        ensures reads { (sent : List Sent)
+        ensures reads { (sent : List SentItems)
             → Reads M.known M.names (carried_in sent) [] result.reading }
         ensures home { result.reading.home ≡ home }
         ensures orders { result.orders ≡ orders }
@@ -181,15 +181,15 @@ where
             (listed methods.now.value)) }
         requires uncounted { (intake.old.calls ≡ 0) × (intake.old.came ≡ 0) }
         ensures grows { Grows self.old.reading self.new.reading }
-        ensures heard { (sent : List Sent) → AreCarried sent (taken self.new.reading.home)
+        ensures heard { (sent : List SentItems) → AreCarried sent (taken self.new.reading.home)
             → KeptFor M.known M.names sent [] self.old.reading self.old.orders
             → (came : List ℕ) × Consumes (I.remaining input.old) (I.remaining input.new) came
             × ((told : List Step) × HasRead M.known M.names sent result came told
             self.new.reading self.new.orders × Covers told intake.new) }
-        ensures failed { (sent : List Sent) → AreCarried sent (taken self.new.reading.home)
+        ensures failed { (sent : List SentItems) → AreCarried sent (taken self.new.reading.home)
             → KeptFor M.known M.names sent [] self.old.reading self.old.orders
             → result ≡ ending.ReadFailed → I.failed input.new ≡ true }
-        ensures over { (sent : List Sent) → AreCarried sent (taken self.new.reading.home)
+        ensures over { (sent : List SentItems) → AreCarried sent (taken self.new.reading.home)
             → KeptFor M.known M.names sent [] self.old.reading self.old.orders
             → IsOfInput result → self.new.orders.has_stopped ≡ false
             → IsAtEnd (I.remaining input.new) }
@@ -232,7 +232,7 @@ where
     pub(crate) fn end(&mut self)
         ensures grows { Grows self.old.reading self.new.reading }
         ensures none_left { self.new.orders.backlog.items ≡ [] }
-        ensures ended { (sent : List Sent) (told : List Step)
+        ensures ended { (sent : List SentItems) (told : List Step)
             → AreCarried sent (taken self.new.reading.home)
             → Reads M.known M.names (carried_in sent) told self.old.reading
             → (cuts : List Step) × HasEnded M.known M.names sent told cuts self.new.reading
@@ -240,8 +240,8 @@ where
     {
         self.cut_all();
         let rt = self.rt;
-        self.orders.put(&rt, Control::InputEnded);
-        self.orders.ring();
+        self.orders.put(&rt, WriterOrder::InputEnded);
+        self.orders.wake_writer();
         self.reading.ring_noted();
         self.reading.end();
         self.join_all();
@@ -251,7 +251,7 @@ where
     /// Waits for the ends of all workers.
     fn join_all(&mut self)
         ensures reading { self.new.reading
-            ≡ record self.old.reading { seats = self.new.reading.seats } }
+            ≡ record self.old.reading { workers = self.new.reading.workers } }
         ensures orders { self.new.orders ≡ self.old.orders }
     {
         let rt = self.rt;
@@ -293,7 +293,7 @@ where
     pub(crate) fn meet(self, rest: Senders<J>) -> (Accounts, Orders<A, B, C, J, N>)
         requires way { out_name self.reading.home ≡ in_name rest.sends.home }
         ensures came { IsPrefix (taken self.reading.home) (put_in rest.sends.home) }
-        ensures accounts { (sent : List Sent) (told : List Step)
+        ensures accounts { (sent : List SentItems) (told : List Step)
             → AreCarried sent (put_in rest.sends.home) → CarriesRest sent rest
             → IfSome self.orders.unput (CarriesOpen sent)
             → Reads M.known M.names (carried_in sent) told self.reading
@@ -321,7 +321,7 @@ where
     /// Takes the sender of a call back whose order wasn't put.
     fn take_unput(&mut self)
         ensures home { self.new.reading.home ≡ self.old.reading.home }
-        ensures stays { (sent : List Sent) (told : List Step)
+        ensures stays { (sent : List SentItems) (told : List Step)
             → IfSome self.old.orders.unput (CarriesOpen sent)
             → Reads M.known M.names (carried_in sent) told self.old.reading
             → Reads M.known M.names (carried_in sent) told self.new.reading }
@@ -330,18 +330,18 @@ where
         ensures stopped { self.new.orders.has_stopped ≡ self.old.orders.has_stopped }
         ensures dropped { self.new.orders.has_dropped ≡ self.old.orders.has_dropped }
     {
-        if let Some(Control::Open(_, opening)) = self.orders.unput.take() {
-            let Opening { sending, .. } = opening;
-            self.reading.take_back(Returning { sending });
+        if let Some(WriterOrder::Open(_, opening)) = self.orders.unput.take() {
+            let OpeningCall { sending, .. } = opening;
+            self.reading.take_back(ReturningCall { sending });
         }
     }
 
     /// Takes the senders back that the writer had at its end. Answers the writer's end of the ring
     /// of senders.
-    fn take_rest(&mut self, rest: Senders<J>) -> RingIn<Returning<J>>
+    fn take_rest(&mut self, rest: Senders<J>) -> RingIn<ReturningCall<J>>
         ensures way { result ≡ rest.sends.home }
         ensures home { self.new.reading.home ≡ self.old.reading.home }
-        ensures stays { (sent : List Sent) (told : List Step) → CarriesRest sent rest
+        ensures stays { (sent : List SentItems) (told : List Step) → CarriesRest sent rest
             → Reads M.known M.names (carried_in sent) told self.old.reading
             → Reads M.known M.names (carried_in sent) told self.new.reading }
         ensures orders { self.new.orders ≡ self.old.orders }
@@ -457,13 +457,13 @@ where
         }
         let decided = self.reading.drain();
         self.act(decided);
-        self.orders.ring();
+        self.orders.wake_writer();
     }
 
     /// There is no memory for what was read: the connection ends.
     fn lack(&mut self)
         ensures home { self.new.reading.home ≡ self.old.reading.home }
-        ensures kept { (sent : List Sent) (told : List Step)
+        ensures kept { (sent : List SentItems) (told : List Step)
             → KeptFor M.known M.names sent told self.old.reading self.old.orders
             → KeptFor M.known M.names sent (Lacks ∷ told) self.new.reading self.new.orders }
     {
@@ -498,7 +498,7 @@ where
     {
         let end = self.heed(intake, events, methods);
         if end.is_none() {
-            self.ring(count);
+            self.wake_threads(count);
         }
         end
     }
@@ -506,14 +506,14 @@ where
     /// Rings for `count` bytes that came. It rings the writer where an order waits, where few bytes
     /// came, which may be returned at once, and where credit is due, since no worker rings for
     /// credit that the bytes themselves made due. The writer wakes while the calls are answered.
-    fn ring(&mut self, count: usize)
+    fn wake_threads(&mut self, count: usize)
         ensures reading { self.new.reading
-            ≡ record self.old.reading { seats = self.new.reading.seats } }
+            ≡ record self.old.reading { workers = self.new.reading.workers } }
         ensures same { IsSame self.old.orders self.new.orders }
     {
         self.reading.ring_noted();
         if count < LARGE_PIECE || self.orders.are_unrung || self.is_credit_due() {
-            self.orders.ring();
+            self.orders.wake_writer();
         }
     }
 
@@ -609,7 +609,7 @@ where
     }
 
     /// Passes on to the writer what the peer says to it.
-    fn pass_on(&mut self, news: session::Control) -> Option<Ending>
+    fn pass_on(&mut self, news: session::PeerControl) -> Option<Ending>
         ensures reads { ReadsTo M.known M.names (events.Control news ∷ []) result
             self.old.reading self.old.orders self.new.reading self.new.orders }
     {
@@ -637,17 +637,17 @@ where
 
     /// Does what was decided: puts the orders, then shuts the half that is to be shut. Answers how
     /// the connection ends, if it does.
-    fn act(&mut self, decided: Decided<J>) -> Option<Ending>
+    fn act(&mut self, decided: Decision<J>) -> Option<Ending>
         ensures acts { Acts M.known M.names decided self.old.reading self.old.orders
             self.new.reading self.new.orders }
         ensures ends { result ≡ decided.ends }
         ensures draining { self.new.reading.is_draining ≡ self.old.reading.is_draining }
         ensures next { KeepsNext self.old.reading self.new.reading }
     {
-        let Decided {
+        let Decision {
             goaway,
             order,
-            cut,
+            to_shut: cut,
             ends,
         } = decided;
         let rt = self.rt;
@@ -792,7 +792,7 @@ where
         ensures collects { Collects M.known M.names self.old.reading self.new.reading }
         ensures orders { self.new.orders ≡ self.old.orders }
         ensures next { KeepsNext self.old.reading self.new.reading }
-        ensures places { IfSome result (λ number. HasPlacesAt number self.new.reading.seats) }
+        ensures places { IfSome result (λ number. HasPlacesAt number self.new.reading.workers) }
     {
         let found = self.reading.free();
         if found.is_some() {
@@ -805,7 +805,7 @@ where
     /// Waits until a worker may be free.
     fn wait(&mut self, mark: u64)
         ensures reading { self.new.reading
-            ≡ record self.old.reading { seats = self.new.reading.seats } }
+            ≡ record self.old.reading { workers = self.new.reading.workers } }
         ensures orders { self.new.orders ≡ self.old.orders }
     {
         self.reading.ring_noted();
@@ -821,7 +821,7 @@ where
     fn engage(&mut self, number: usize, request: Request) -> Option<Ending>
         requires named { M.names request.head.path request.index }
         requires next { IsNext request.id self.old.reading }
-        requires places { HasPlacesAt number self.old.reading.seats }
+        requires places { HasPlacesAt number self.old.reading.workers }
         ensures reads { (tally : Tally) → ReadsWith M.known M.names tally (one_more tally)
             (events.Open request.id request.head ∷ []) result
             self.old.reading self.old.orders self.new.reading self.new.orders }
@@ -838,7 +838,7 @@ where
         requires known { IsKnown M.known (λ m. answers (m.vtable, m.value))
             (listed methods.now.value) }
         ensures reading { self.new.reading
-            ≡ record self.old.reading { seats = self.new.reading.seats } }
+            ≡ record self.old.reading { workers = self.new.reading.workers } }
         ensures orders { self.new.orders ≡ self.old.orders }
     {
         self.reading.reserve()?;

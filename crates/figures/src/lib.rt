@@ -13,6 +13,6 @@ mod text;
 
 pub use fields::{BrokenRule, FieldRule, field_rule};
 pub use names::{ErrorName, FrameName, KindName, error_name};
-pub use numbers::{ByteCount, Grouped, byte_count};
+pub use numbers::{ByteCount, GroupedNumber, byte_count};
 pub use rules::{section_of, wanted_length};
 pub use text::shown;

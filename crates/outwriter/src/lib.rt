@@ -35,7 +35,7 @@ mod stream;
 mod stream_state;
 mod writing;
 
-pub use control::{Control, OutFault};
+pub use control::{OutFault, WriterOrder};
 pub use next::Next;
 pub use out_core::OutCore;
 pub use out_frame::OutFrame;

@@ -111,7 +111,9 @@ ghost use Rattle.outwriter.specs.OpenStreams.{
   with_place,
 };
 
-use crate::stream::{Found, Hand, Looked, Opened, Polled, next_data, poll_at};
+use crate::stream::{
+    BoxedStream, MessageInHand, NextData, NextItem, SenderItem, next_data, poll_at,
+};
 use crate::stream_state::{Change, Over, StreamState};
 use account::OutItem;
 use callbox::Sender;
@@ -129,7 +131,7 @@ use zeros::ZeroTail;
 pub(crate) struct Stream {
     state: StreamState,
     /// What is to be written on it, while it is open.
-    opened: Option<Opened>,
+    opened: Option<BoxedStream>,
     /// The balance of its window, while the window is open.
     balance: Option<Balance>,
 }
@@ -188,7 +190,7 @@ impl Stream {
         window: &mut ConnectionWindow,
         senders: &mut Vec<(StreamId, Sender<L>)>,
         encoder: &mut Encoder,
-    ) -> Result<Found, AllocError>
+    ) -> Result<NextItem, AllocError>
         ensures amount { amount_of self.new.state ≡ amount_of self.old.state }
         ensures next { IfOk result
             (NextOnStream L.got (coming L.got L.ahead) id self.old self.new window.old
@@ -198,25 +200,29 @@ impl Stream {
             ≡ lanes L.out_name senders.old.items }
     {
         let place = match self.look(id, window)? {
-            Hand::Shut => return Ok(Found::Nothing),
-            Hand::Message(looked) => return Ok(Found::Message(looked)),
-            Hand::Empty(place) => place,
+            MessageInHand::Shut => return Ok(NextItem::Nothing),
+            MessageInHand::Message(looked) => return Ok(NextItem::Message(looked)),
+            MessageInHand::Empty(place) => place,
         };
         let polled = poll_at(senders, encoder, place)?;
         self.take_up(id, window, polled)
     }
 
     /// Looks at what is in hand, if something may be written on it.
-    fn look(&mut self, id: StreamId, window: &mut ConnectionWindow) -> Result<Hand, AllocError>
+    fn look(
+        &mut self,
+        id: StreamId,
+        window: &mut ConnectionWindow,
+    ) -> Result<MessageInHand, AllocError>
         ensures state { self.new.state ≡ self.old.state }
         ensures looks { IfOk result (LooksAtStream id self.old self.new window.old window.new) }
     {
         if !self.state.can_write() {
-            return Ok(Hand::Shut);
+            return Ok(MessageInHand::Shut);
         }
         match &mut self.opened {
             Some(stream) => stream.look(id, window, &mut self.balance),
-            None => Ok(Hand::Shut),
+            None => Ok(MessageInHand::Shut),
         }
     }
 
@@ -226,18 +232,18 @@ impl Stream {
         &mut self,
         id: StreamId,
         window: &mut ConnectionWindow,
-        polled: Polled,
-    ) -> Result<Found, AllocError>
+        polled: SenderItem,
+    ) -> Result<NextItem, AllocError>
         ensures amount { amount_of self.new.state ≡ amount_of self.old.state }
         ensures takes { IfOk result
             (TakesUpStream id self.old self.new window.old window.new polled) }
     {
         match polled {
-            Polled::Nothing => Ok(Found::Nothing),
-            Polled::Message(bytes) => Ok(Found::Message(self.begin(id, window, bytes)?)),
-            Polled::Block { bytes, ends } => {
+            SenderItem::Nothing => Ok(NextItem::Nothing),
+            SenderItem::Message(bytes) => Ok(NextItem::Message(self.begin(id, window, bytes)?)),
+            SenderItem::Block { bytes, ends } => {
                 self.end_if(ends);
-                Ok(Found::Block { bytes, ends })
+                Ok(NextItem::Block { bytes, ends })
             }
         }
     }
@@ -258,7 +264,7 @@ impl Stream {
         id: StreamId,
         window: &mut ConnectionWindow,
         message: ZeroTail,
-    ) -> Result<Looked, AllocError>
+    ) -> Result<NextData, AllocError>
         ensures state { self.new.state ≡ self.old.state }
         ensures begins { IfOk result
             (BeginsOnStream id self.old self.new window.old window.new message) }
@@ -447,7 +453,7 @@ impl StreamStates {
         ensures windows { OnOk result (Moves self.old (opening self.old id) self.new) }
         ensures unchanged { OnErr result (self.new ≡ self.old) }
     {
-        let opened = Opened::new(*self.streams.allocator(), place)?;
+        let opened = BoxedStream::new(*self.streams.allocator(), place)?;
         self.change(id, Change::Open, Some(opened))
     }
 
@@ -548,7 +554,7 @@ impl StreamStates {
         &mut self,
         id: StreamId,
         change: Change,
-        opened: Option<Opened>,
+        opened: Option<BoxedStream>,
     ) -> Result<(), AllocError>
         requires stream { 0 < id }
         requires number { id < 2 ^ 31 }
@@ -571,7 +577,7 @@ impl StreamStates {
         id: StreamId,
         senders: &mut Vec<(StreamId, Sender<L>)>,
         encoder: &mut Encoder,
-    ) -> Result<Found, AllocError>
+    ) -> Result<NextItem, AllocError>
         ensures next { IfOk result
             (TakesNext L.got (coming L.got L.ahead) id self.old self.new senders.old.items
             senders.new.items encoder.old encoder.new) }
@@ -647,7 +653,7 @@ fn change_of(
     streams: &mut IndexMap<StreamId, Stream>,
     id: StreamId,
     change: Change,
-    opened: Option<Opened>,
+    opened: Option<BoxedStream>,
 ) -> Result<(), AllocError>
     ensures changes { OnOk result
         (Changes streams.old.entries id change opened streams.new.entries) }
@@ -711,7 +717,7 @@ fn next_at<L: Lane<Item = OutItem>>(
     window: &mut ConnectionWindow,
     senders: &mut Vec<(StreamId, Sender<L>)>,
     encoder: &mut Encoder,
-) -> Result<Found, AllocError>
+) -> Result<NextItem, AllocError>
     ensures amount { KeepsAmount streams.old.entries id streams.new.entries }
     ensures next { IfOk result
         (NextAtEntry L.got (coming L.got L.ahead) id streams.old.entries streams.new.entries
@@ -722,7 +728,7 @@ fn next_at<L: Lane<Item = OutItem>>(
 {
     match streams.get_mut(&id) {
         Some(stream) => stream.next(id, window, senders, encoder),
-        None => Ok(Found::Nothing),
+        None => Ok(NextItem::Nothing),
     }
 }
 

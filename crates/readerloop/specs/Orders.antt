@@ -45,7 +45,7 @@ use Rattle.h2frame.specs.declared.error_code.ErrorCode.TheVariants.{
   EnhanceYourCalm,
 }
 use Rattle.lists.specs.declared.field.Field.{Field}
-use Rattle.outwriter.specs.declared.control.Control.TheVariants.{
+use Rattle.outwriter.specs.declared.control.WriterOrder.TheVariants.{
   Settings,
   Ping,
   Window,
@@ -57,8 +57,8 @@ use Rattle.outwriter.specs.declared.control.Control.TheVariants.{
 use Rattle.outwriter.specs.Steps.{Order}
 use Rattle.reasons.specs.declared.Reason.TheVariants as reason
 use Rattle.reasons.specs.Codes.{code_of}
-use Rattle.session.specs.declared.event.Control.{Control}
-use Rattle.session.specs.declared.event.Control.TheVariants as controls
+use Rattle.session.specs.declared.event.PeerControl.{PeerControl}
+use Rattle.session.specs.declared.event.PeerControl.TheVariants as controls
 use Rattle.session.specs.declared.event.InEvent.TheVariants as events
 use Rattle.readerloop.specs.Calls.{is_admitted}
 use Rattle.readerloop.specs.Steps.{
@@ -135,7 +135,7 @@ abbrev pub IsDue : ℕ → List ℕ → List Step → Type 0
 IsDue id piece told = (piece ≢ []) × (is_fed id told ≡ true)
 
 -- what the peer says to the writing side goes on as it is
-abbrev pub news_of : Control → Order
+abbrev pub news_of : PeerControl → Order
 news_of (controls.Settings settings) = Settings settings
 news_of (controls.Ping bytes) = Ping bytes
 news_of (controls.Window id increment) = Window id increment

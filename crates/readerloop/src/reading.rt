@@ -4,7 +4,7 @@
 //! and how it is closed. Each function here does what they say of one step, and no more.
 //!
 //! An order that resets a stream is to be put before its call sees the reset. So a decision names
-//! the half that it shuts (`Decided::cut`), and `Reading::shut` shuts it once the order was put.
+//! the half that it shuts (`Decision::to_shut`), and `Reading::shut` shuts it once the order was put.
 
 ghost use Rattle.std.specs.Prelude.{
   ◌≡◌,
@@ -50,9 +50,9 @@ ghost use Rattle.connbook.specs.declared.answers.Receipt.TheVariants.{Discard, F
 ghost use Rattle.reasons.specs.declared.Reason.TheVariants as reason;
 ghost use Rattle.reasons.specs.Codes.{code_of};
 ghost use Rattle.outwriter.specs.Steps.{order_of};
-ghost use Rattle.outwriter.specs.declared.control.Control.TheVariants as orders;
+ghost use Rattle.outwriter.specs.declared.control.WriterOrder.TheVariants as orders;
 ghost use Rattle.session.specs.declared.event.InEvent.TheVariants as events;
-ghost use Rattle.readerloop.specs.Calls.{HasReturned, Sent, carried_in};
+ghost use Rattle.readerloop.specs.Calls.{HasReturned, SentItems, carried_in};
 ghost use Rattle.readerloop.specs.Kept.{Kept, fed_at, unsettled};
 ghost use Rattle.readerloop.specs.Orders.{
   begun,
@@ -87,7 +87,7 @@ ghost use Rattle.readerloop.specs.Readings.{
   unless_ended,
 };
 ghost use Rattle.readerloop.specs.Reports.{AreAccounts, IsSettled};
-ghost use Rattle.readerloop.specs.Seats.{HasPlaces, HasPlacesAt};
+ghost use Rattle.readerloop.specs.WorkerHandles.{HasPlaces, HasPlacesAt};
 ghost use Rattle.readerloop.specs.Steps.{
   Admitted,
   CutOff,
@@ -110,24 +110,24 @@ ghost use Rattle.readerloop.specs.Steps.{
 
 use crate::call::Call;
 use crate::calls::Calls;
-use crate::decided::{Cut, Decided};
-use crate::half::Half;
-use crate::seats::{Seat, Seats};
+use crate::decision::{Decision, HalfToShut};
+use crate::feeder_half::FeederHalf;
+use crate::worker_pool::{WorkerHandle, WorkerPool};
 use account::Shut;
 use bytes::Bytes;
 use callbox::{FeedFault, Feeder, Sender, open_call};
 use callhead::{CallHead, HeadFault, unknown_method};
 use callparts::{
     Accounts, Answering, CallAccount, DoneIn, Ending, Front, HOME, InLane, Job, Line, Naming,
-    Opening, Order, OutLane, Register, Request, Returning, Sending, TasksOut, Work,
+    OpeningCall, Order, OutLane, Register, Request, ReturningCall, SendingEnd, TasksOut, Work,
 };
 use connbook::{AdmitFault, Receipt};
 use h2frame::{ErrorCode, StreamId};
 use lane::{Ring, RingIn, RingOut};
 use lists::Sequence;
-use outwriter::Control;
+use outwriter::WriterOrder;
 use reasons::Reason;
-use session::Control as PeerControl;
+use session::PeerControl;
 use std::alloc::{AllocError, Global};
 use std::sync::Arc;
 
@@ -146,7 +146,7 @@ const OUT_ROOM: usize = 16;
 struct Ends<J: Naming> {
     feeder: Feeder<InLane>,
     job: Job<J>,
-    sending: Box<Sending<J>>,
+    sending: Box<SendingEnd<J>>,
 }
 
 /// The reading side of a connection: its calls, its workers, and which streams were begun.
@@ -154,12 +154,12 @@ struct Ends<J: Naming> {
 pub struct Reading<J: Naming, M: Answering> {
     alloc: Global,
     pub(crate) calls: Calls<J>,
-    pub(crate) seats: Seats<J, M>,
+    pub(crate) workers: WorkerPool<J, M>,
     /// All calls whose lanes were opened, ever.
     register: Register<J>,
     front: Front<J>,
     /// The ring on which the senders come back.
-    pub(crate) home: RingOut<Returning<J>>,
+    pub(crate) home: RingOut<ReturningCall<J>>,
     /// Whether no more calls are admitted.
     pub(crate) is_draining: bool,
     /// The last stream of a GOAWAY (RFC 9113, section 6.8): the greatest that was begun, or once
@@ -178,9 +178,9 @@ impl<J: Naming, M: Answering> Reading<J, M> {
         alloc: Global,
         register: Register<J>,
         front: Front<J>,
-        home: RingOut<Returning<J>>,
+        home: RingOut<ReturningCall<J>>,
     ) -> Reading<J, M>
-        ensures reads { (sent : List Sent)
+        ensures reads { (sent : List SentItems)
             → Reads M.known M.names (carried_in sent) [] result }
         ensures home { result.home ≡ home }
         ensures none { unsettled result.calls ≡ [] }
@@ -188,7 +188,7 @@ impl<J: Naming, M: Answering> Reading<J, M> {
         Reading {
             alloc,
             calls: Calls::new::<M>(alloc),
-            seats: Seats::new(alloc),
+            workers: WorkerPool::new(alloc),
             register,
             front,
             home,
@@ -210,7 +210,7 @@ impl<J: Naming, M: Answering> Reading<J, M> {
         head: CallHead,
         index: Option<usize>,
         opened: u64,
-    ) -> Result<Request, Decided<J>>
+    ) -> Result<Request, Decision<J>>
         requires named { IfSome index (λ index. M.names head.path index) }
         ensures request { IfOk result (λ request. (request.id ≡ id) × (request.head ≡ head)
             × (index ≡ Some request.index)) }
@@ -246,7 +246,7 @@ impl<J: Naming, M: Answering> Reading<J, M> {
     }
 
     /// Refuses a call whose path names no method.
-    fn refuse_unknown(&mut self, id: StreamId) -> Decided<J>
+    fn refuse_unknown(&mut self, id: StreamId) -> Decision<J>
         ensures decides { (head : Head) → DecidesOn M.known M.names
             (Told (events.Open id head) (unless_ended result.ends Unknown)) result self.old
             self.new }
@@ -260,7 +260,7 @@ impl<J: Naming, M: Answering> Reading<J, M> {
 
     /// The lock didn't admit a call. Want of memory ends the connection, and so does a stream whose
     /// id isn't greater than those before it (RFC 9113, section 5.1.1).
-    pub fn turn_away(&mut self, id: StreamId, fault: AdmitFault) -> Decided<J>
+    pub fn turn_away(&mut self, id: StreamId, fault: AdmitFault) -> Decision<J>
         ensures decides { (head : Head) → DecidesOn M.known M.names
             (Told (events.Open id head) (TurnedAway fault)) result self.old self.new }
         ensures home { self.new.home ≡ self.old.home }
@@ -268,8 +268,8 @@ impl<J: Naming, M: Answering> Reading<J, M> {
         let code = ErrorCode::RefusedStream;
         let written = true;
         match fault {
-            AdmitFault::TooMany => self.begin(id, Control::Reset { id, code, written }),
-            AdmitFault::Draining => self.begin(id, Control::Reset { id, code, written }),
+            AdmitFault::TooMany => self.begin(id, WriterOrder::Reset { id, code, written }),
+            AdmitFault::Draining => self.begin(id, WriterOrder::Reset { id, code, written }),
             AdmitFault::NotNew => {
                 let error = ErrorCode::ProtocolError;
                 self.end_at(id, Reason::Code(error), Ending::ProtocolError(error))
@@ -280,43 +280,43 @@ impl<J: Naming, M: Answering> Reading<J, M> {
 
     /// The number of a worker that is free.
     pub fn free(&mut self) -> Option<usize>
-        ensures places { IfSome result (λ number. HasPlacesAt number self.new.seats) }
-        ensures rest { self.new ≡ record self.old { seats = self.new.seats } }
+        ensures places { IfSome result (λ number. HasPlacesAt number self.new.workers) }
+        ensures rest { self.new ≡ record self.old { workers = self.new.workers } }
     {
-        self.seats.free()
+        self.workers.free()
     }
 
     /// Whether there are 64 workers, which is the most.
     pub fn is_full(&self) -> bool
-        ensures room { result ≡ false → length self.now.seats.seats.items < 64 }
+        ensures room { result ≡ false → length self.now.workers.workers.items < 64 }
     {
-        self.seats.is_full()
+        self.workers.is_full()
     }
 
     /// Makes room for one worker more.
     pub fn reserve(&mut self) -> Result<(), AllocError>
         ensures room { OnOk result
-            (vec_len self.new.seats.seats < vec_capacity self.new.seats.seats) }
-        ensures rest { self.new ≡ record self.old { seats = self.new.seats } }
+            (vec_len self.new.workers.workers < vec_capacity self.new.workers.workers) }
+        ensures rest { self.new ≡ record self.old { workers = self.new.workers } }
     {
-        self.seats.reserve()
+        self.workers.reserve()
     }
 
     /// Adds a worker, for which there is room. Its number.
-    pub fn add(&mut self, seat: Seat<J, M>) -> usize
-        requires room { vec_len self.old.seats.seats < vec_capacity self.old.seats.seats }
-        ensures places { HasPlaces seat → HasPlacesAt result self.new.seats }
-        ensures rest { self.new ≡ record self.old { seats = self.new.seats } }
+    pub fn add(&mut self, seat: WorkerHandle<J, M>) -> usize
+        requires room { vec_len self.old.workers.workers < vec_capacity self.old.workers.workers }
+        ensures places { HasPlaces seat → HasPlacesAt result self.new.workers }
+        ensures rest { self.new ≡ record self.old { workers = self.new.workers } }
     {
-        self.seats.add(seat)
+        self.workers.add(seat)
     }
 
     /// Hands a call that was admitted to the worker of this number, which is free. Without memory
     /// for its lanes the call isn't served.
-    pub fn engage(&mut self, number: usize, request: Request) -> Result<Decided<J>, AllocError>
+    pub fn engage(&mut self, number: usize, request: Request) -> Result<Decision<J>, AllocError>
         requires named { M.names request.head.path request.index }
         requires next { IsNext request.id self.old }
-        requires places { HasPlacesAt number self.old.seats }
+        requires places { HasPlacesAt number self.old.workers }
         ensures engaged { IfOk result (λ decided. DecidesOn M.known M.names
             (Told (events.Open request.id request.head) Admitted) decided self.old self.new) }
         ensures opens { IfOk result (λ decided. IsSomeAnd decided.order
@@ -327,22 +327,22 @@ impl<J: Naming, M: Answering> Reading<J, M> {
     {
         let id = request.id;
         let opening = self.start(number, request)?;
-        Ok(self.begin(id, Control::Open(id, opening)))
+        Ok(self.begin(id, WriterOrder::Open(id, opening)))
     }
 
     /// Opens the lanes of a call, and hands two of their ends to its worker. Answers what the
     /// writing side gets of it.
-    fn start(&mut self, number: usize, request: Request) -> Result<Opening<J>, AllocError>
+    fn start(&mut self, number: usize, request: Request) -> Result<OpeningCall<J>, AllocError>
         requires named { M.names request.head.path request.index }
         requires next { IsNext request.id self.old }
-        requires places { HasPlacesAt number self.old.seats }
-        ensures heard { OnOk result ((sent : List Sent) (told : List Step)
+        requires places { HasPlacesAt number self.old.workers }
+        ensures heard { OnOk result ((sent : List SentItems) (told : List Step)
             → is_draining told ≡ false
             → Kept M.known M.names (carried_in sent) told self.old.calls
             → Kept M.known M.names (carried_in sent)
             (Told (events.Open request.id request.head) Admitted ∷ told) self.new.calls) }
         ensures opens { IfOk result (λ opening. Opens request (orders.Open request.id opening)) }
-        ensures kept { OnErr result ((sent : List Sent) (told : List Step)
+        ensures kept { OnErr result ((sent : List SentItems) (told : List Step)
             → Kept M.known M.names (carried_in sent) told self.old.calls
             → Kept M.known M.names (carried_in sent) told self.new.calls) }
         ensures next { OnErr result (KeepsNext self.old self.new) }
@@ -354,12 +354,12 @@ impl<J: Naming, M: Answering> Reading<J, M> {
 
     /// Opens the lanes of a call for which there is room, and hands two of their ends to its
     /// worker. Answers what the writing side gets of it.
-    fn start_in_room(&mut self, seat: usize, request: Request) -> Result<Opening<J>, AllocError>
+    fn start_in_room(&mut self, seat: usize, request: Request) -> Result<OpeningCall<J>, AllocError>
         requires named { M.names request.head.path request.index }
         requires next { IsNext request.id self.old }
-        requires places { HasPlacesAt seat self.old.seats }
+        requires places { HasPlacesAt seat self.old.workers }
         requires room { vec_len self.old.calls.calls < vec_capacity self.old.calls.calls }
-        ensures heard { OnOk result ((sent : List Sent) (told : List Step)
+        ensures heard { OnOk result ((sent : List SentItems) (told : List Step)
             → is_draining told ≡ false
             → Kept M.known M.names (carried_in sent) told self.old.calls
             → Kept M.known M.names (carried_in sent)
@@ -376,12 +376,12 @@ impl<J: Naming, M: Answering> Reading<J, M> {
             sending,
         } = ends;
         self.enter(seat, feeder, job);
-        Ok(Opening { sending, line })
+        Ok(OpeningCall { sending, line })
     }
 
     /// What wakes the worker of this number.
     fn line(&self, number: usize) -> Result<Arc<Line>, AllocError> {
-        let Some(line) = self.seats.line(number) else {
+        let Some(line) = self.workers.line(number) else {
             return Err(AllocError);
         };
         Arc::try_clone(line)
@@ -392,12 +392,12 @@ impl<J: Naming, M: Answering> Reading<J, M> {
     fn enter(&mut self, seat: usize, feeder: Feeder<InLane>, job: Job<J>)
         requires named { M.names job.work.request.head.path job.work.request.index }
         requires next { IsNext job.work.request.id self.old }
-        requires places { HasPlacesAt seat self.old.seats }
+        requires places { HasPlacesAt seat self.old.workers }
         requires room { vec_len self.old.calls.calls < vec_capacity self.old.calls.calls }
         requires fresh { IsFreshWork job.work }
         requires one_lane { in_name feeder.tx ≡ out_name job.work.taker.rx }
         requires unfed { put_in feeder.tx ≡ [] }
-        ensures heard { (sent : List Sent) (told : List Step)
+        ensures heard { (sent : List SentItems) (told : List Step)
             → is_draining told ≡ false
             → Kept M.known M.names (carried_in sent) told self.old.calls
             → Kept M.known M.names (carried_in sent)
@@ -415,16 +415,16 @@ impl<J: Naming, M: Answering> Reading<J, M> {
             number,
             place,
             seat,
-            half: Half::Open(feeder),
+            half: FeederHalf::Open(feeder),
             finished: None,
             returning: None,
         });
-        self.seats.hand(seat, job);
+        self.workers.hand(seat, job);
     }
 
     /// No worker could be started for a call of this method, which was admitted: its account says
     /// so, and the connection ends.
-    pub fn lose(&mut self, id: StreamId, method: usize) -> Decided<J>
+    pub fn lose(&mut self, id: StreamId, method: usize) -> Decision<J>
         requires next { IsNext id self.old }
         ensures memory { result.ends ≡ Some ending.OutOfMemory }
         ensures unserved { (head : Head) → M.names head.path method → DecidesOn M.known M.names
@@ -436,7 +436,7 @@ impl<J: Naming, M: Answering> Reading<J, M> {
     }
 
     /// A call of this method was admitted, and the writing side has stopped: its account says so.
-    pub fn pass_over(&mut self, id: StreamId, method: usize) -> Decided<J>
+    pub fn pass_over(&mut self, id: StreamId, method: usize) -> Decision<J>
         requires next { IsNext id self.old }
         ensures decides { (head : Head) → M.names head.path method → DecidesOn M.known M.names
             (Told (events.Open id head) (Unserved Stopped)) result self.old self.new }
@@ -444,14 +444,14 @@ impl<J: Naming, M: Answering> Reading<J, M> {
     {
         self.calls.pass_over::<M>(id, method);
         let goaway = self.count(id);
-        Decided {
+        Decision {
             goaway,
-            ..Decided::nothing()
+            ..Decision::nothing()
         }
     }
 
     /// A stream begins without the head of a call.
-    pub fn refuse(&mut self, id: StreamId, fault: HeadFault) -> Decided<J>
+    pub fn refuse(&mut self, id: StreamId, fault: HeadFault) -> Decision<J>
         ensures decides { DecidesOn M.known M.names
             (Told (events.BadHead id fault) (unless_ended result.ends Plain)) result self.old
             self.new }
@@ -464,10 +464,10 @@ impl<J: Naming, M: Answering> Reading<J, M> {
     }
 
     /// A stream begins with this order.
-    fn begin(&mut self, id: StreamId, order: Order<J>) -> Decided<J>
+    fn begin(&mut self, id: StreamId, order: Order<J>) -> Decision<J>
         ensures ends { result.ends ≡ None }
         ensures order { result.order ≡ Some order }
-        ensures decides { (sent : List Sent) (told : List Step) (step : Step)
+        ensures decides { (sent : List SentItems) (told : List Step) (step : Step)
             → Begins M.known M.names (carried_in sent) told step id self.old → ends_at step ≡ None
             → orders_at told step
             ≡ last_stream id (is_draining told) (begun told) ++ order_of order ∷ []
@@ -476,14 +476,14 @@ impl<J: Naming, M: Answering> Reading<J, M> {
         ensures home { self.new.home ≡ self.old.home }
     {
         let goaway = self.count(id);
-        Decided {
+        Decision {
             goaway,
-            ..Decided::order(order)
+            ..Decision::order(order)
         }
     }
 
     /// A stream begins for which there is no memory, or no thread: the connection ends.
-    pub fn lack(&mut self, id: StreamId) -> Decided<J>
+    pub fn lack(&mut self, id: StreamId) -> Decision<J>
         ensures memory { result.ends ≡ Some ending.OutOfMemory }
         ensures lacking { (head : Head) → DecidesOn M.known M.names
             (Told (events.Open id head) Lacking) result self.old self.new }
@@ -493,9 +493,9 @@ impl<J: Naming, M: Answering> Reading<J, M> {
     }
 
     /// A stream begins, and the connection ends with it, for this reason.
-    fn end_at(&mut self, id: StreamId, reason: Reason, ends: Ending) -> Decided<J>
+    fn end_at(&mut self, id: StreamId, reason: Reason, ends: Ending) -> Decision<J>
         ensures end { result.ends ≡ Some ends }
-        ensures ends { (sent : List Sent) (told : List Step) (step : Step)
+        ensures ends { (sent : List SentItems) (told : List Step) (step : Step)
             → Begins M.known M.names (carried_in sent) told step id self.old
             → ends_at step ≡ Some ends
             → orders_at told step ≡ last_stream id (is_draining told) (begun told)
@@ -504,10 +504,10 @@ impl<J: Naming, M: Answering> Reading<J, M> {
         ensures home { self.new.home ≡ self.old.home }
     {
         let goaway = self.count(id);
-        Decided {
+        Decision {
             goaway,
             order: Some(self.goaway(reason)),
-            cut: None,
+            to_shut: None,
             ends: Some(ends),
         }
     }
@@ -537,11 +537,11 @@ impl<J: Naming, M: Answering> Reading<J, M> {
     // ---- what comes on a stream
 
     /// DATA came on a stream, and `receipt` is what the lock said of it.
-    pub fn data(&mut self, id: StreamId, piece: Bytes, receipt: Receipt) -> Decided<J>
+    pub fn data(&mut self, id: StreamId, piece: Bytes, receipt: Receipt) -> Decision<J>
         ensures decides { (counted : ℕ) → DecidesOn M.known M.names
             (Told (events.Data id piece counted) (fate_of receipt result.order result.ends))
             result self.old self.new }
-        ensures missed { (sent : List Sent) (told : List Step)
+        ensures missed { (sent : List SentItems) (told : List Step)
             → Reads M.known M.names (carried_in sent) told self.old
             → MayMiss id piece (fate_of receipt result.order result.ends) told }
         ensures home { self.new.home ≡ self.old.home }
@@ -551,12 +551,12 @@ impl<J: Naming, M: Answering> Reading<J, M> {
             Receipt::Discard => self.miss(id, &piece),
             Receipt::CallWindow => {
                 let code = ErrorCode::FlowControlError;
-                Decided::reset(id, code, true)
+                Decision::reset(id, code, true)
             }
             Receipt::Overrun => {
                 let kind = Shut::Reset(ErrorCode::FlowControlError.code());
-                Decided {
-                    cut: Some(Cut { id, kind }),
+                Decision {
+                    to_shut: Some(HalfToShut { id, kind }),
                     ..self.fatal(Reason::Overrun)
                 }
             }
@@ -565,19 +565,19 @@ impl<J: Naming, M: Answering> Reading<J, M> {
 
     /// Feeds a piece to its call. If the call's lane refuses the piece the stream is reset; without
     /// memory for it the connection ends.
-    fn feed(&mut self, id: StreamId, piece: Bytes) -> Decided<J>
+    fn feed(&mut self, id: StreamId, piece: Bytes) -> Decision<J>
         ensures decides { (counted : ℕ) → DecidesOn M.known M.names
             (Told (events.Data id piece counted) (fate_of Feed result.order result.ends))
             result self.old self.new }
-        ensures missed { (sent : List Sent) (told : List Step)
+        ensures missed { (sent : List SentItems) (told : List Step)
             → Reads M.known M.names (carried_in sent) told self.old
             → MayMiss id piece (fate_of Feed result.order result.ends) told }
         ensures home { self.new.home ≡ self.old.home }
     {
         match self.calls.feed::<M>(id, piece) {
             Ok(worker) => {
-                self.seats.note(worker);
-                Decided::nothing()
+                self.workers.note(worker);
+                Decision::nothing()
             }
             Err(fault) => self.refuse_piece(id, fault),
         }
@@ -585,7 +585,7 @@ impl<J: Naming, M: Answering> Reading<J, M> {
 
     /// A piece wasn't fed. If the call's lane refused it the stream is reset; if there was no
     /// memory for it the connection ends.
-    fn refuse_piece(&self, id: StreamId, fault: FeedFault) -> Decided<J>
+    fn refuse_piece(&self, id: StreamId, fault: FeedFault) -> Decision<J>
         ensures decides { (piece : List ℕ) (counted : ℕ) → DecidesOn M.known M.names
             (Told (events.Data id piece counted) (fate_of Feed result.order result.ends))
             result self.now self.now }
@@ -593,26 +593,26 @@ impl<J: Naming, M: Answering> Reading<J, M> {
         match fault {
             FeedFault::OutOfMemory(_) => {
                 let kind = Shut::Reset(ErrorCode::InternalError.code());
-                Decided {
-                    cut: Some(Cut { id, kind }),
+                Decision {
+                    to_shut: Some(HalfToShut { id, kind }),
                     ..self.run_out()
                 }
             }
             FeedFault::Full { .. } | FeedFault::NotTaken(_) => {
                 let code = ErrorCode::EnhanceYourCalm;
-                Decided::reset(id, code, true)
+                Decision::reset(id, code, true)
             }
         }
     }
 
     /// A piece came that no call takes. Unless it is padding alone, its call misses it.
-    fn miss(&mut self, id: StreamId, piece: &Bytes) -> Decided<J>
+    fn miss(&mut self, id: StreamId, piece: &Bytes) -> Decision<J>
         ensures decides { (counted : ℕ) → DecidesOn M.known M.names
             (Told (events.Data id piece.now counted) (Received Discard)) result self.old self.new }
         ensures home { self.new.home ≡ self.old.home }
     {
         self.lose_piece(id, piece);
-        Decided::nothing()
+        Decision::nothing()
     }
 
     /// The call of this stream misses a piece, unless that has no bytes.
@@ -628,13 +628,13 @@ impl<J: Naming, M: Answering> Reading<J, M> {
     }
 
     /// Bytes came that count on the connection alone, and `receipt` is what the lock said of them.
-    pub fn loose(&self, receipt: Receipt) -> Decided<J>
+    pub fn loose(&self, receipt: Receipt) -> Decision<J>
         ensures decides { (counted : ℕ) → DecidesOn M.known M.names
             (Told (events.Loose counted) (Received receipt)) result self.now self.now }
     {
         match receipt {
             Receipt::Overrun => self.fatal(Reason::Overrun),
-            _ => Decided::nothing(),
+            _ => Decision::nothing(),
         }
     }
 
@@ -644,28 +644,28 @@ impl<J: Naming, M: Answering> Reading<J, M> {
         ensures home { self.new.home ≡ self.old.home }
     {
         let worker = self.calls.shut::<M>(id, Shut::End);
-        self.seats.note(worker);
+        self.workers.note(worker);
     }
 
     /// The client has reset a stream.
-    pub fn reset(&self, id: StreamId, code: ErrorCode) -> Decided<J>
+    pub fn reset(&self, id: StreamId, code: ErrorCode) -> Decision<J>
         ensures decides { DecidesOn M.known M.names
             (Told (events.Reset id code) Plain) result self.now self.now }
     {
-        Decided::reset(id, code, false)
+        Decision::reset(id, code, false)
     }
 
     /// The client has made an error on a stream (RFC 9113, section 5.4.2).
-    pub fn fail(&self, id: StreamId, code: ErrorCode) -> Decided<J>
+    pub fn fail(&self, id: StreamId, code: ErrorCode) -> Decision<J>
         ensures decides { DecidesOn M.known M.names
             (Told (events.StreamError id code) Plain) result self.now self.now }
     {
-        Decided::reset(id, code, true)
+        Decision::reset(id, code, true)
     }
 
     /// Shuts the half of a call, as was decided.
-    pub fn shut(&mut self, cut: Cut)
-        ensures heard { (sent : List Sent) (told : List Step) (step : Step)
+    pub fn shut(&mut self, cut: HalfToShut)
+        ensures heard { (sent : List SentItems) (told : List Step) (step : Step)
             → Awaits M.known M.names (carried_in sent) told step cut self.old
             → Reads M.known M.names (carried_in sent) (step ∷ told) self.new }
         ensures next { KeepsNext self.old self.new }
@@ -673,17 +673,17 @@ impl<J: Naming, M: Answering> Reading<J, M> {
         ensures home { self.new.home ≡ self.old.home }
     {
         let worker = self.calls.shut::<M>(cut.id, cut.kind);
-        self.seats.note(worker);
+        self.workers.note(worker);
     }
 
     // ---- what comes on the connection
 
     /// Passes on to the writing side what the peer says to it.
-    pub fn pass_on(&self, news: PeerControl) -> Decided<J>
+    pub fn pass_on(&self, news: PeerControl) -> Decision<J>
         ensures decides { DecidesOn M.known M.names
             (Told (events.Control news) Plain) result self.now self.now }
     {
-        Decided::order(order_of_news(news))
+        Decision::order(order_of_news(news))
     }
 
     /// The peer opens no more streams.
@@ -696,31 +696,31 @@ impl<J: Naming, M: Answering> Reading<J, M> {
     }
 
     /// The client has made an error that ends the connection (RFC 9113, section 5.4.1).
-    pub fn fatal(&self, reason: Reason) -> Decided<J>
+    pub fn fatal(&self, reason: Reason) -> Decision<J>
         ensures order { (result.goaway ≡ None)
             × (result.order ≡ Some (orders.Goaway self.now.last reason)) }
-        ensures ends { (result.cut ≡ None)
+        ensures ends { (result.to_shut ≡ None)
             × (result.ends ≡ Some (ending.ProtocolError (code_of reason))) }
         ensures decides { DecidesOn M.known M.names
             (Told (events.Fatal reason) Plain) result self.now self.now }
     {
-        Decided {
+        Decision {
             ends: Some(Ending::ProtocolError(reason.code())),
-            ..Decided::order(self.goaway(reason))
+            ..Decision::order(self.goaway(reason))
         }
     }
 
     /// There was no memory for what came: the connection ends, with INTERNAL_ERROR (RFC 9113,
     /// section 5.4.1).
-    pub fn run_out(&self) -> Decided<J>
+    pub fn run_out(&self) -> Decision<J>
         ensures order { (result.goaway ≡ None)
             × (result.order ≡ Some (orders.Goaway self.now.last reason.Memory)) }
-        ensures ends { (result.cut ≡ None) × (result.ends ≡ Some ending.OutOfMemory) }
+        ensures ends { (result.to_shut ≡ None) × (result.ends ≡ Some ending.OutOfMemory) }
         ensures decides { DecidesOn M.known M.names Lacks result self.now self.now }
     {
-        Decided {
+        Decision {
             ends: Some(Ending::OutOfMemory),
-            ..Decided::order(self.goaway(Reason::Memory))
+            ..Decision::order(self.goaway(Reason::Memory))
         }
     }
 
@@ -729,7 +729,7 @@ impl<J: Naming, M: Answering> Reading<J, M> {
     fn goaway(&self, reason: Reason) -> Order<J>
         ensures order { result ≡ orders.Goaway self.now.last reason }
     {
-        Control::Goaway {
+        WriterOrder::Goaway {
             last: self.last,
             reason,
         }
@@ -739,7 +739,7 @@ impl<J: Naming, M: Answering> Reading<J, M> {
 
     /// The server drains: no more calls are admitted, and GOAWAY names the greatest stream whose
     /// call was (RFC 9113, section 6.8).
-    pub fn drain(&mut self) -> Decided<J>
+    pub fn drain(&mut self) -> Decision<J>
         ensures decides { DecidesOn M.known M.names Drains result self.old self.new }
         ensures ends { result.ends ≡ None }
         ensures draining { self.new.is_draining ≡ true }
@@ -747,13 +747,13 @@ impl<J: Naming, M: Answering> Reading<J, M> {
     {
         self.is_draining = true;
         self.last = self.calls.last;
-        Decided::order(self.goaway(Reason::Code(ErrorCode::NoError)))
+        Decision::order(self.goaway(Reason::Code(ErrorCode::NoError)))
     }
 
     /// Whether the server drains.
     pub fn is_draining(&self) -> bool
         ensures value { result ≡ self.now.is_draining }
-        ensures told { (sent : List Sent) (told : List Step)
+        ensures told { (sent : List SentItems) (told : List Step)
             → Reads M.known M.names (carried_in sent) told self.now → result ≡ is_draining told }
     {
         self.is_draining
@@ -776,7 +776,7 @@ impl<J: Naming, M: Answering> Reading<J, M> {
     fn collect_finished(&mut self)
         ensures { HasCollected M.known M.names self.old self.new }
     {
-        'workers: for number in 0..self.seats.len() {
+        'workers: for number in 0..self.workers.len() {
             self.collect_from(number);
         }
     }
@@ -796,7 +796,7 @@ impl<J: Naming, M: Answering> Reading<J, M> {
     fn collect_from(&mut self, number: usize)
         ensures { HasCollected M.known M.names self.old self.new }
     {
-        let Some(finished) = self.seats.finished(number) else {
+        let Some(finished) = self.workers.finished(number) else {
             return;
         };
         self.calls.finish::<M>(finished);
@@ -815,8 +815,8 @@ impl<J: Naming, M: Answering> Reading<J, M> {
 
     /// Takes a sender that doesn't come back through the ring: its order wasn't put, or the writing
     /// side has ended.
-    pub fn take_back(&mut self, returning: Returning<J>)
-        ensures stays { (sent : List Sent) (told : List Step)
+    pub fn take_back(&mut self, returning: ReturningCall<J>)
+        ensures stays { (sent : List SentItems) (told : List Step)
             → HasReturned (carried_in sent) returning.sending.value
             → Reads M.known M.names (carried_in sent) told self.old
             → Reads M.known M.names (carried_in sent) told self.new }
@@ -830,7 +830,7 @@ impl<J: Naming, M: Answering> Reading<J, M> {
     /// Settles a call that is over, if there is one. Its account is final: what was fed and how the
     /// half was shut is what was heard of it, and what was sent is what its sender got.
     pub fn settle_next(&mut self) -> Option<CallAccount>
-        ensures settled { IfSome result (λ account. (sent : List Sent)
+        ensures settled { IfSome result (λ account. (sent : List SentItems)
             (told : List Step) → Reads M.known M.names (carried_in sent) told self.old
             → IsSettled M.known M.names (carried_in sent) told account) }
         ensures stays { Stays M.known M.names self.old self.new }
@@ -850,16 +850,16 @@ impl<J: Naming, M: Answering> Reading<J, M> {
 
     /// After the end of the input: cancels a call whose half the client neither ended nor reset.
     /// `place` is its place among those that aren't settled.
-    pub fn cut_off(&self, place: usize) -> Option<Decided<J>>
-        ensures decides { IfSome result (λ decided. IsSomeAnd decided.cut (λ cut.
+    pub fn cut_off(&self, place: usize) -> Option<Decision<J>>
+        ensures decides { IfSome result (λ decided. IsSomeAnd decided.to_shut (λ cut.
             DecidesOn M.known M.names (CutOff cut.id) decided self.now self.now)) }
-        ensures whose { IfSome result (λ decided. IsSomeAnd decided.cut
+        ensures whose { IfSome result (λ decided. IsSomeAnd decided.to_shut
             (λ cut. fed_at place self.now.calls ≡ Some cut.id)) }
         ensures none { IfNone result (fed_at place self.now.calls ≡ None) }
     {
         let id = self.calls.fed(place)?;
         let code = ErrorCode::Cancel;
-        Some(Decided::reset(id, code, true))
+        Some(Decision::reset(id, code, true))
     }
 
     // ---- the end
@@ -869,10 +869,10 @@ impl<J: Naming, M: Answering> Reading<J, M> {
         ensures input { (result ≡ ending.InputEnded)
             ⊎ ((result ≡ ending.PeerGoaway) ⊎ (result ≡ ending.Drained)) }
         ensures draining { self.now.is_draining ≡ true → result ≡ ending.Drained }
-        ensures drained { result ≡ ending.Drained → (sent : List Sent)
+        ensures drained { result ≡ ending.Drained → (sent : List SentItems)
             (told : List Step) → Reads M.known M.names (carried_in sent) told self.now
             → is_draining told ≡ true }
-        ensures goaway { result ≡ ending.PeerGoaway → (sent : List Sent)
+        ensures goaway { result ≡ ending.PeerGoaway → (sent : List SentItems)
             (told : List Step) → Reads M.known M.names (carried_in sent) told self.now
             → WasTold events.PeerGoaway told }
     {
@@ -887,28 +887,28 @@ impl<J: Naming, M: Answering> Reading<J, M> {
 
     /// Rings the bells of the workers for which something came.
     pub fn ring_noted(&mut self)
-        ensures rest { self.new ≡ record self.old { seats = self.new.seats } }
+        ensures rest { self.new ≡ record self.old { workers = self.new.workers } }
     {
-        self.seats.ring_noted();
+        self.workers.ring_noted();
     }
 
     /// No more calls come: each worker ends once it has handed back its call.
     pub fn end(&mut self)
-        ensures rest { self.new ≡ record self.old { seats = self.new.seats } }
+        ensures rest { self.new ≡ record self.old { workers = self.new.workers } }
     {
-        self.seats.end();
+        self.workers.end();
     }
 
     /// The worker of this number has ended, and hands back its ends of the rings.
     pub fn meet(&mut self, number: usize, tasks: TasksOut<J>, done: DoneIn<J, M>)
-        ensures rest { self.new ≡ record self.old { seats = self.new.seats } }
+        ensures rest { self.new ≡ record self.old { workers = self.new.workers } }
     {
-        self.seats.meet(number, tasks, done);
+        self.workers.meet(number, tasks, done);
     }
 
     /// The writing side has ended, and hands back its end of the ring of senders: what was taken
     /// from the ring begins what was put.
-    pub fn meet_home(&mut self, home: RingIn<Returning<J>>)
+    pub fn meet_home(&mut self, home: RingIn<ReturningCall<J>>)
         requires way { way_in home ≡ way_out self.old.home }
         ensures came { IsPrefix (taken self.old.home) (put_home home) }
         ensures rest { self.new ≡ record self.old { home = self.new.home } }
@@ -920,7 +920,7 @@ impl<J: Naming, M: Answering> Reading<J, M> {
     /// The accounts of the calls: one for each that was admitted, and no other, in the order of
     /// their admission. It is so only once no call is left to settle.
     pub fn into_accounts(self) -> Accounts
-        ensures accounts { (sent : List Sent) (told : List Step)
+        ensures accounts { (sent : List SentItems) (told : List Step)
             → Reads M.known M.names (carried_in sent) told self → unsettled self.calls ≡ []
             → AreAccounts M.known M.names (carried_in sent) told (reported told)
             (items_of result.full result.last) }
@@ -998,7 +998,7 @@ fn box_sender<J: Naming>(
     alloc: Global,
     job: &Job<J>,
     sender: Sender<OutLane>,
-) -> Result<Box<Sending<J>>, AllocError>
+) -> Result<Box<SendingEnd<J>>, AllocError>
     requires one_lane { in_name job.now.work.giver.tx ≡ out_name sender.rx }
     ensures stands { IfOk result (λ sending. slice_get sending.value.number.seen.log
         sending.value.number.value ≡ Some job.now.work) }
@@ -1006,7 +1006,7 @@ fn box_sender<J: Naming>(
 {
     let number = job.number.again();
     let sender = Some(sender);
-    let sending = Box::new(alloc, Sending { number, sender })?;
+    let sending = Box::new(alloc, SendingEnd { number, sender })?;
     Ok(sending)
 }
 
@@ -1015,9 +1015,9 @@ fn order_of_news<J: Naming>(news: PeerControl) -> Order<J>
     ensures { order_of result ≡ news_of news }
 {
     match news {
-        PeerControl::Settings(settings) => Control::Settings(settings),
-        PeerControl::Ping(bytes) => Control::Ping(bytes),
-        PeerControl::Window(id, increment) => Control::Window(id, increment),
+        PeerControl::Settings(settings) => WriterOrder::Settings(settings),
+        PeerControl::Ping(bytes) => WriterOrder::Ping(bytes),
+        PeerControl::Window(id, increment) => WriterOrder::Window(id, increment),
     }
 }
 
@@ -1026,7 +1026,7 @@ fn unknown<J: Naming>(alloc: Global, id: StreamId) -> Result<Order<J>, AllocErro
     ensures { IfOk result (λ order. order_of order ≡ orders.Refuse id unknown_fields) }
 {
     let fields = unknown_method(alloc)?;
-    Ok(Control::Refuse(id, Sequence::from(fields)))
+    Ok(WriterOrder::Refuse(id, Sequence::from(fields)))
 }
 
 /// The answer to a stream that begins without the head of a call.
@@ -1038,9 +1038,9 @@ fn without_head<J: Naming>(
     ensures { IfOk result (λ order. order_of order ≡ without_head id (refusal_of fault)) }
 {
     if let Some(fields) = fault.refusal(alloc)? {
-        return Ok(Control::Refuse(id, Sequence::from(fields)));
+        return Ok(WriterOrder::Refuse(id, Sequence::from(fields)));
     }
     let code = ErrorCode::ProtocolError;
     let written = true;
-    Ok(Control::Reset { id, code, written })
+    Ok(WriterOrder::Reset { id, code, written })
 }

@@ -20,7 +20,7 @@ mod preface;
 mod settings;
 pub mod uses;
 
-pub use event::{Control, InEvent};
+pub use event::{InEvent, PeerControl};
 pub use header_block::{FragmentFault, HeaderBlock, MAX_BLOCK};
 pub use in_core::InCore;
 pub use preface::{BadPreface, Preface};

@@ -158,7 +158,7 @@ pub(crate) fn reason_of<'a>(alloc: Global, words: &'a [String]) -> Result<Reason
 
 /// Why the words after a command are not those that it takes.
 fn reason_behind<'a>(name: &'a str, command: &Command<'a>, words: &'a [String]) -> Reason<'a> {
-    let mut waiting: Option<Given<'_, 'a>> = None;
+    let mut waiting: Option<GivenOption<'_, 'a>> = None;
     let has_place = command
         .get_arguments()
         .iter()
@@ -198,12 +198,12 @@ fn reason_behind<'a>(name: &'a str, command: &Command<'a>, words: &'a [String]) 
 
 /// An option that was given, as it was written.
 #[derive(Clone, Copy)]
-struct Given<'c, 'a> {
+struct GivenOption<'c, 'a> {
     option: &'a str,
     arg: &'c Arg<'a>,
 }
 
-impl<'c, 'a> Given<'c, 'a> {
+impl<'c, 'a> GivenOption<'c, 'a> {
     /// Whether it needs no value.
     fn may_be_bare(self) -> bool {
         match self.arg.get_num_args() {
@@ -283,7 +283,7 @@ fn given_by<'c, 'a>(
     command: &'c Command<'a>,
     before: &'a [String],
     word: &'a str,
-) -> Result<Option<Given<'c, 'a>>, Reason<'a>> {
+) -> Result<Option<GivenOption<'c, 'a>>, Reason<'a>> {
     let (option, value) = parts_of(word);
     let Some(arg) = arg_of(name, command, option) else {
         return Err(Reason::NoOption {
@@ -298,7 +298,7 @@ fn given_by<'c, 'a>(
     if let (Some(other), false) = (known, is_repeatable) {
         return Err(Reason::Repeated { option, other });
     }
-    let given = Given { option, arg };
+    let given = GivenOption { option, arg };
     let is_flag = matches!(arg.get_action(), ArgAction::SetTrue);
     match value {
         None if is_flag => Ok(None),

@@ -4,21 +4,21 @@ ghost use Rattle.std.specs.Prelude.{◌≡◌};
 ghost use Rattle.writerloop.specs.Keys.{Keys_set};
 ghost use Rattle.writerloop.specs.Sent.{core_keys, keys};
 
-use crate::filled::Filled;
+use crate::fill_end::FillEnd;
 use crate::frames::Frames;
 use crate::inbox::Inbox;
 use crate::opening::{begin, split};
+use crate::order_outcome::OrderOutcome;
 use crate::sends::Sends;
 use crate::standing::Standing;
-use crate::steps::{Rest, Took, Waiting};
-use crate::taking::Taking;
+use crate::steps::{AfterWrite, OrderStep, WaitingOrder};
 use crate::writer_ending::WriterEnding;
 use callbox::Sender;
-use callparts::{Naming, Opening, Order, OutLane, Returning};
+use callparts::{Naming, OpeningCall, Order, OutLane, ReturningCall};
 use device::{ConnWrite, DeviceFault};
 use h2frame::{ErrorCode, StreamId};
 use lane::{RingIn, RingOut};
-use outwriter::Control;
+use outwriter::WriterOrder;
 use reasons::Reason;
 use std::alloc::Global;
 use std::snapshot::Snapshot;
@@ -32,7 +32,7 @@ const DRAINING: [u8; 8] = [100, 114, 97, 105, 110, 105, 110, 103];
 /// What the writing side of a connection has.
 #[derive(Drop)]
 pub struct Writing<J: Naming, W: ConnWrite> {
-    inbox: Inbox<Opening<J>>,
+    inbox: Inbox<OpeningCall<J>>,
     frames: Frames<OutLane, W>,
     /// The calls whose senders the core has.
     sends: Sends<J>,
@@ -51,11 +51,11 @@ pub struct Writing<J: Naming, W: ConnWrite> {
 /// What a writer hands back: how it ended, or nothing where all was written, what it wrote to, its
 /// end of the ring of orders, and the senders that didn't go back before.
 #[derive(Drop)]
-pub struct Written<J: Naming, W: ConnWrite + Drop> {
+pub struct WriterResult<J: Naming, W: ConnWrite + Drop> {
     pub ending: Option<WriterEnding>,
     pub device: W,
     pub orders: RingOut<Order<J>>,
-    pub rest: Senders<J>,
+    pub senders: Senders<J>,
 }
 
 /// The senders that a writer had at its end, and its end of the ring on which the others went back.
@@ -76,7 +76,7 @@ impl<J: Naming> Senders<J> {
     ghost use Rattle.writerloop.specs.Sent.{opens};
 
     /// The next sender.
-    pub fn next(&mut self) -> Option<Returning<J>>
+    pub fn next(&mut self) -> Option<ReturningCall<J>>
         ensures some { IfSome result (HandsOver self.old self.new) }
         ensures none { IfNone result (rest_numbers self.old ≡ []) }
         ensures way { self.new.sends.home ≡ self.old.sends.home }
@@ -88,7 +88,7 @@ impl<J: Naming> Senders<J> {
     }
 
     /// The sender of the order that was set aside, if it opens a call.
-    fn next_aside(&mut self) -> Option<Returning<J>>
+    fn next_aside(&mut self) -> Option<ReturningCall<J>>
         ensures some { IfSome result (HandsOver self.old self.new) }
         ensures none { IfNone result (opens (order_in self.old.aside) ≡ []) }
         ensures aside { self.new.aside ≡ None }
@@ -99,14 +99,14 @@ impl<J: Naming> Senders<J> {
         match split(order) {
             Ok(_plain) => None,
             Err((_id, opening)) => {
-                let Opening { sending, .. } = opening;
-                Some(Returning { sending })
+                let OpeningCall { sending, .. } = opening;
+                Some(ReturningCall { sending })
             }
         }
     }
 
     /// The sender of the last call that the core had.
-    fn next_in_core(&mut self) -> Option<Returning<J>>
+    fn next_in_core(&mut self) -> Option<ReturningCall<J>>
         requires { self.old.aside ≡ None }
         ensures some { IfSome result (HandsOver self.old self.new) }
         ensures none { IfNone result (rest_numbers self.old ≡ []) }
@@ -122,7 +122,7 @@ impl<J: Naming> Senders<J> {
     }
 
     /// The putting end of the ring of senders.
-    pub fn into_home(self) -> RingIn<Returning<J>>
+    pub fn into_home(self) -> RingIn<ReturningCall<J>>
         ensures { result ≡ self.sends.home }
     {
         let Senders { sends, .. } = self;
@@ -149,17 +149,17 @@ impl<J: Naming, W: ConnWrite + Drop> Writing<J, W> {
     ghost use Rattle.h2frame.specs.declared.error_code.ErrorCode.{ErrorCode as Code};
     ghost use Rattle.h2frame.specs.declared.error_code.ErrorCode.TheVariants.{FlowControlError};
     ghost use Rattle.outwriter.specs.Cores.{calls, open_stream, takes_credit};
-    ghost use Rattle.outwriter.specs.declared.control.Control.TheVariants as orders;
+    ghost use Rattle.outwriter.specs.declared.control.WriterOrder.TheVariants as orders;
     ghost use Rattle.outwriter.specs.LeftCalls.{WasLeft};
     ghost use Rattle.outwriter.specs.RunState.{is_held};
     ghost use Rattle.outwriter.specs.Steps.{Step, order_of};
     ghost use Rattle.flow.specs.Windows.{room};
     ghost use Rattle.callparts.specs.declared.report.Ending.TheVariants as ending;
-    ghost use Rattle.writerloop.specs.declared.filled.Filled.TheVariants as filling;
+    ghost use Rattle.writerloop.specs.declared.fill_end.FillEnd.TheVariants as filling;
     ghost use Rattle.writerloop.specs.declared.standing.Standing.TheVariants as stands;
-    ghost use Rattle.writerloop.specs.declared.steps.Rest.TheVariants as rest;
-    ghost use Rattle.writerloop.specs.declared.steps.Took.TheVariants as took;
-    ghost use Rattle.writerloop.specs.declared.steps.Waiting.TheVariants as waiting;
+    ghost use Rattle.writerloop.specs.declared.steps.AfterWrite.TheVariants as rest;
+    ghost use Rattle.writerloop.specs.declared.steps.OrderStep.TheVariants as took;
+    ghost use Rattle.writerloop.specs.declared.steps.WaitingOrder.TheVariants as waiting;
     ghost use Rattle.writerloop.specs.Orders.{
       IsWarning,
       OpensNone,
@@ -180,7 +180,7 @@ impl<J: Naming, W: ConnWrite + Drop> Writing<J, W> {
     pub fn new(
         alloc: Global,
         orders: RingOut<Order<J>>,
-        home: RingIn<Returning<J>>,
+        home: RingIn<ReturningCall<J>>,
         device: W,
         was: &Snapshot<W>,
     ) -> Writing<J, W>
@@ -205,7 +205,7 @@ impl<J: Naming, W: ConnWrite + Drop> Writing<J, W> {
     // ---- orders
 
     /// Which order is to be taken next.
-    pub fn look(&mut self) -> Waiting
+    pub fn look(&mut self) -> WaitingOrder
         ensures stays { Stays W.contents W.failed self.old self.new }
         ensures rest { self.new ≡ record self.old { inbox = self.new.inbox } }
         ensures waiting { result ≡ waiting_of self.new.inbox.set_aside }
@@ -217,28 +217,28 @@ impl<J: Naming, W: ConnWrite + Drop> Writing<J, W> {
     }
 
     /// Which order is set aside.
-    fn waiting(&self) -> Waiting
+    fn waiting(&self) -> WaitingOrder
         ensures waiting { result ≡ waiting_of self.now.inbox.set_aside }
         ensures nothing { result ≡ waiting.Nothing → self.now.inbox.set_aside ≡ None }
         ensures other { result ≡ waiting.Other → IfSome self.now.inbox.set_aside TakesNoWindow }
     {
         match &self.inbox.set_aside {
-            None => Waiting::Nothing,
-            Some(Control::Settings(_) | Control::Window(..)) => Waiting::Window,
-            Some(Control::Goaway { .. }) => Waiting::Goaway,
-            Some(_) => Waiting::Other,
+            None => WaitingOrder::Nothing,
+            Some(WriterOrder::Settings(_) | WriterOrder::Window(..)) => WaitingOrder::Window,
+            Some(WriterOrder::Goaway { .. }) => WaitingOrder::Goaway,
+            Some(_) => WaitingOrder::Other,
         }
     }
 
     /// Takes the next order. `last` is the greatest stream that was admitted, which a GOAWAY of the
     /// writer's own names (RFC 9113, section 6.8). Once an order was lost only Close is taken.
-    pub fn take_next(&mut self, last: StreamId) -> Took
+    pub fn take_next(&mut self, last: StreamId) -> OrderStep
         ensures leads { LeadsOn W.contents W.failed self.old self.new }
         ensures lost { result ≡ took.Lost → self.new.inbox.has_lost ≡ true }
         ensures stops { result ≡ took.Stops → self.new.blames ≡ true }
     {
         let Some(order) = self.inbox.next() else {
-            return Took::Nothing;
+            return OrderStep::Nothing;
         };
         if self.inbox.has_lost {
             return self.pass_over(order, last);
@@ -250,7 +250,7 @@ impl<J: Naming, W: ConnWrite + Drop> Writing<J, W> {
     }
 
     /// Takes an order that opens no call; none was lost.
-    fn take(&mut self, order: Control<Sender<OutLane>>, last: StreamId) -> Took
+    fn take(&mut self, order: WriterOrder<Sender<OutLane>>, last: StreamId) -> OrderStep
         requires plain { OpensNone order }
         requires kept { self.old.inbox.has_lost ≡ false }
         ensures takes { Takes W.contents W.failed (order_of order) self.old self.new }
@@ -263,15 +263,19 @@ impl<J: Naming, W: ConnWrite + Drop> Writing<J, W> {
     {
         self.note(&order);
         match self.give(order, last) {
-            Taking::Done => Took::One,
-            Taking::Ended(id) => self.end(id),
-            Taking::Unanswered(_) => self.lose(),
-            Taking::HandedBack(_) => self.lose(),
+            OrderOutcome::Done => OrderStep::One,
+            OrderOutcome::Ended(id) => self.end(id),
+            OrderOutcome::Unanswered(_) => self.lose(),
+            OrderOutcome::HandedBack(_) => self.lose(),
         }
     }
 
     /// Gives the core an order that opens no call.
-    fn give(&mut self, order: Control<Sender<OutLane>>, last: StreamId) -> Taking<Sender<OutLane>>
+    fn give(
+        &mut self,
+        order: WriterOrder<Sender<OutLane>>,
+        last: StreamId,
+    ) -> OrderOutcome<Sender<OutLane>>
         requires plain { OpensNone order }
         ensures wrote { WritesOn got W.contents W.failed (steps_of (order_of order) last result)
             self.old.frames self.new.frames }
@@ -289,7 +293,7 @@ impl<J: Naming, W: ConnWrite + Drop> Writing<J, W> {
     }
 
     /// A call begins; no order was lost. Without memory its order is set aside.
-    fn begin(&mut self, id: StreamId, opening: Opening<J>) -> Took
+    fn begin(&mut self, id: StreamId, opening: OpeningCall<J>) -> OrderStep
         requires kept { self.old.inbox.has_lost ≡ false }
         requires none_aside { self.old.inbox.set_aside ≡ None }
         ensures begins { self.new.inbox.has_lost ≡ false
@@ -307,7 +311,7 @@ impl<J: Naming, W: ConnWrite + Drop> Writing<J, W> {
         ensures goes { result ≢ took.Stops }
     {
         match begin(&mut self.frames, &mut self.sends, id, opening) {
-            Ok(()) => Took::One,
+            Ok(()) => OrderStep::One,
             Err(order) => {
                 self.inbox.set_aside = Some(order);
                 self.lose()
@@ -317,7 +321,7 @@ impl<J: Naming, W: ConnWrite + Drop> Writing<J, W> {
 
     /// Takes an order after one that was lost. Any but a Close is lost too, and the sender of its
     /// call goes back.
-    fn pass_over(&mut self, order: Order<J>, last: StreamId) -> Took
+    fn pass_over(&mut self, order: Order<J>, last: StreamId) -> OrderStep
         requires lost { self.old.inbox.has_lost ≡ true }
         requires none_aside { self.old.inbox.set_aside ≡ None }
         ensures passes { result ≡ took.One
@@ -338,17 +342,17 @@ impl<J: Naming, W: ConnWrite + Drop> Writing<J, W> {
         ensures blames { self.new.blames ≡ self.old.blames }
     {
         match order {
-            Control::Open(id, opening) => self.turn_back(id, opening),
-            Control::Close => {
+            WriterOrder::Open(id, opening) => self.turn_back(id, opening),
+            WriterOrder::Close => {
                 self.close(last);
-                Took::One
+                OrderStep::One
             }
-            _ => Took::One,
+            _ => OrderStep::One,
         }
     }
 
     /// Hands back the sender of a call whose order is lost. Without a place for it the order waits.
-    fn turn_back(&mut self, id: StreamId, opening: Opening<J>) -> Took
+    fn turn_back(&mut self, id: StreamId, opening: OpeningCall<J>) -> OrderStep
         ensures passes { result ≡ took.One
             → PassesOver W.contents W.failed (orders.Open id opening) self.old self.new }
         ensures inbox { result ≡ took.One → self.new.inbox ≡ self.old.inbox }
@@ -365,10 +369,10 @@ impl<J: Naming, W: ConnWrite + Drop> Writing<J, W> {
         ensures blames { self.new.blames ≡ self.old.blames }
     {
         match self.sends.turn_back(opening) {
-            Ok(()) => Took::One,
+            Ok(()) => OrderStep::One,
             Err(opening) => {
-                self.inbox.set_aside = Some(Control::Open(id, opening));
-                Took::Early
+                self.inbox.set_aside = Some(WriterOrder::Open(id, opening));
+                OrderStep::Early
             }
         }
     }
@@ -383,12 +387,12 @@ impl<J: Naming, W: ConnWrite + Drop> Writing<J, W> {
         ensures blames { self.new.blames ≡ self.old.blames }
     {
         self.closed = true;
-        let taking = self.give(Control::Close, last);
-        matches!(taking, Taking::Done)
+        let taking = self.give(WriterOrder::Close, last);
+        matches!(taking, OrderOutcome::Done)
     }
 
     /// Notes what ends by an order.
-    fn note(&mut self, order: &Control<Sender<OutLane>>)
+    fn note(&mut self, order: &WriterOrder<Sender<OutLane>>)
         ensures heeds { Heeds (order_of order.now) self.old self.new }
         ensures calls { SameCalls self.old.sends.calls.items self.new.sends.calls.items }
         ensures way { self.new.sends.home ≡ self.old.sends.home }
@@ -397,15 +401,15 @@ impl<J: Naming, W: ConnWrite + Drop> Writing<J, W> {
         ensures blames { self.new.blames ≡ self.old.blames }
     {
         match order {
-            Control::InputEnded => self.input_ended = true,
-            Control::Close => self.closed = true,
-            Control::Reset { id, .. } => self.sends.note_through(*id),
+            WriterOrder::InputEnded => self.input_ended = true,
+            WriterOrder::Close => self.closed = true,
+            WriterOrder::Reset { id, .. } => self.sends.note_through(*id),
             _ => {}
         }
     }
 
     /// The writer has ended a stream, or at 0 the connection.
-    fn end(&mut self, id: StreamId) -> Took
+    fn end(&mut self, id: StreamId) -> OrderStep
         ensures calls { SameCalls self.old.sends.calls.items self.new.sends.calls.items }
         ensures way { self.new.sends.home ≡ self.old.sends.home }
         ensures frames { self.new.frames ≡ self.old.frames }
@@ -419,20 +423,20 @@ impl<J: Naming, W: ConnWrite + Drop> Writing<J, W> {
     {
         if id == 0 {
             self.blames = true;
-            return Took::Stops;
+            return OrderStep::Stops;
         }
         self.sends.note_through(id);
-        Took::Ends(id)
+        OrderStep::Ends(id)
     }
 
     /// An order was lost, or the answer to it.
-    fn lose(&mut self) -> Took
+    fn lose(&mut self) -> OrderStep
         ensures lost { result ≡ took.Lost }
         ensures rest { self.new ≡ record
             self.old { inbox = record self.old.inbox { has_lost = true } } }
     {
         self.inbox.has_lost = true;
-        Took::Lost
+        OrderStep::Lost
     }
 
     /// Ends the connection once an order was lost: by GOAWAY, if there is memory for it. Nothing is
@@ -455,8 +459,8 @@ impl<J: Naming, W: ConnWrite + Drop> Writing<J, W> {
         ensures closed { self.new.closed ≡ self.old.closed }
     {
         let reason = Reason::Memory;
-        let taking = self.give(Control::Goaway { last, reason }, last);
-        matches!(taking, Taking::Done)
+        let taking = self.give(WriterOrder::Goaway { last, reason }, last);
+        matches!(taking, OrderOutcome::Done)
     }
 
     /// Wakes the worker of the call of a stream that the writer has ended. The call is cut before,
@@ -490,7 +494,7 @@ impl<J: Naming, W: ConnWrite + Drop> Writing<J, W> {
         // gave nothing.
         ensures leads { LeadsOn W.contents W.failed self.old self.new }
     {
-        let Waiting::Nothing = self.look() else {
+        let WaitingOrder::Nothing = self.look() else {
             return false;
         };
         if self.inbox.has_lost || self.input_ended {
@@ -545,8 +549,8 @@ impl<J: Naming, W: ConnWrite + Drop> Writing<J, W> {
     {
         let code = ErrorCode::InternalError;
         let written = true;
-        let taking = self.give(Control::Reset { id, code, written }, 0);
-        let Taking::Done = taking else {
+        let taking = self.give(WriterOrder::Reset { id, code, written }, 0);
+        let OrderOutcome::Done = taking else {
             return false;
         };
         self.sends.note_through(id);
@@ -576,7 +580,7 @@ impl<J: Naming, W: ConnWrite + Drop> Writing<J, W> {
     {
         if self.frames.may_leave() {
             let (last, reason) = (GREATEST_STREAM, Reason::Code(ErrorCode::NoError));
-            self.warn_by(Control::Goaway { last, reason });
+            self.warn_by(WriterOrder::Goaway { last, reason });
         }
     }
 
@@ -587,12 +591,12 @@ impl<J: Naming, W: ConnWrite + Drop> Writing<J, W> {
         ensures inbox { self.new.inbox ≡ self.old.inbox }
     {
         if self.frames.may_probe() {
-            self.warn_by(Control::Probe(DRAINING));
+            self.warn_by(WriterOrder::Probe(DRAINING));
         }
     }
 
     /// Gives the core a warning. Answers whether it was taken.
-    fn warn_by(&mut self, warning: Control<Sender<OutLane>>) -> bool
+    fn warn_by(&mut self, warning: WriterOrder<Sender<OutLane>>) -> bool
         requires kept { self.old.inbox.has_lost ≡ false }
         requires own { IsWarning warning }
         requires warns { (before : Option (List ℕ)) (run : List Step)
@@ -602,7 +606,7 @@ impl<J: Naming, W: ConnWrite + Drop> Writing<J, W> {
         ensures inbox { self.new.inbox ≡ self.old.inbox }
     {
         let taking = self.give(warning, GREATEST_STREAM);
-        matches!(taking, Taking::Done)
+        matches!(taking, OrderOutcome::Done)
     }
 
     // ---- frames
@@ -625,7 +629,7 @@ impl<J: Naming, W: ConnWrite + Drop> Writing<J, W> {
     }
 
     /// Puts frames into the buffer, until none comes or the longest might not fit.
-    pub fn fill(&mut self) -> Filled
+    pub fn fill(&mut self) -> FillEnd
         ensures leads { LeadsOn W.contents W.failed self.old self.new }
         ensures over { result ≡ filling.Over → LeadsOut W.contents W.failed self.old self.new }
         ensures stopped { result ≡ filling.Stopped
@@ -749,28 +753,28 @@ impl<J: Naming, W: ConnWrite + Drop> Writing<J, W> {
     }
 
     /// The streams whose END_STREAM the last flush wrote.
-    pub fn left(&self) -> &[StreamId]
-        ensures { result.now ≡ self.now.frames.left.items }
+    pub fn flushed_ends(&self) -> &[StreamId]
+        ensures { result.now ≡ self.now.frames.flushed_ends.items }
     {
-        self.frames.left()
+        self.frames.flushed_ends()
     }
 
     // ---- the end
 
     /// What the owner does once the buffer was filled and written. `is_silent` says that it was
     /// empty.
-    pub fn rest(&self, filled: Filled, is_silent: bool) -> Rest
+    pub fn after_write(&self, filled: FillEnd, is_silent: bool) -> AfterWrite
         ensures rest { result ≡ rest_of filled is_silent self.now.closed }
         ensures over { result ≡ rest.Over → filled ≡ filling.Over }
         ensures stopped { result ≡ rest.StoppedOver → filled ≡ filling.Stopped }
     {
         match filled {
-            Filled::Full => Rest::None,
-            Filled::Idle if !is_silent => Rest::None,
-            Filled::Idle => Rest::Idle,
-            Filled::Stopped if self.closed => Rest::StoppedOver,
-            Filled::Stopped => Rest::Stopped,
-            Filled::Over => Rest::Over,
+            FillEnd::Full => AfterWrite::None,
+            FillEnd::Idle if !is_silent => AfterWrite::None,
+            FillEnd::Idle => AfterWrite::Idle,
+            FillEnd::Stopped if self.closed => AfterWrite::StoppedOver,
+            FillEnd::Stopped => AfterWrite::Stopped,
+            FillEnd::Over => AfterWrite::Over,
         }
     }
 
@@ -802,15 +806,15 @@ impl<J: Naming, W: ConnWrite + Drop> Writing<J, W> {
     }
 
     /// What is handed back once no more is to be written.
-    pub fn into_end(self) -> Written<J, W>
+    pub fn into_end(self) -> WriterResult<J, W>
         requires flushed { IsFlushed self }
         // With the senders of all calls, which tell what was sent of each.
         ensures sent { (before : Option (List ℕ)) (credit : ℕ)
             → LedOut W.contents W.failed before credit self
-            → HasSent W.contents W.failed before credit (taken result.orders) result.rest
+            → HasSent W.contents W.failed before credit (taken result.orders) result.senders
             (ending_told result.ending) result.device }
         ensures ring { result.orders ≡ self.inbox.ring }
-        ensures way { result.rest.sends.home ≡ self.sends.home }
+        ensures way { result.senders.sends.home ≡ self.sends.home }
     {
         let ending = self.ending();
         let Writing {
@@ -825,11 +829,11 @@ impl<J: Naming, W: ConnWrite + Drop> Writing<J, W> {
             set_aside,
             ..
         } = inbox;
-        Written {
+        WriterResult {
             ending,
             device,
             orders: ring,
-            rest: Senders {
+            senders: Senders {
                 sends,
                 core,
                 aside: set_aside,

@@ -1,5 +1,5 @@
 use Rattle.std.proofs.Common.{[], ◌∷◌, refl, sym}
-use Rattle.outwriter.specs.declared.control.Control.TheVariants.{Goaway}
+use Rattle.outwriter.specs.declared.control.WriterOrder.TheVariants.{Goaway}
 use Rattle.readerloop.specs.Orders.{named, named_with}
 use Rattle.readerloop.specs.Steps.{is_draining}
 use Rattle.readerloop.proofs.ReadingSteps.{counted, counts-begun, decides-begun, goaway-order}
