@@ -67,7 +67,8 @@ runs_in pieces kind fed closed messages said r asked counts =
       counts = subst (λ (c : Option Shut). CountsIn fed c messages r.told r) (sym counts.shut) same;
       whole = λ ended.
           whole_end pieces kind fed closed messages asked (subst
-          (λ (t : Option RequestEnd). MayTell t (concat fed) closed messages) (sym counts.told ∙ ended)
+          (λ (t : Option RequestEnd). MayTell t (concat fed) closed messages)
+          (sym counts.told ∙ ended)
           counts.lawful.told);
     }
 

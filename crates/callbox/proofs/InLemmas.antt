@@ -315,7 +315,8 @@ MayTell-put said got put rest closed messages is last fits may = by_shut (shut_o
 pub counts_in : (got put rest : List InPiece) (progress : Progress) (closed : Option Shut) (fed : ℕ)
     (messages : List (List ℕ))
     → put ≡ got ++ rest → ends_at_shut put ≡ true
-    → fits_end (shut_of put) closed → fed ≡ count_of (bytes_of put) → TakesMessages got progress messages
+    → fits_end (shut_of put) closed → fed ≡ count_of (bytes_of put)
+    → TakesMessages got progress messages
     → CountsIn (pieces_of put) closed messages progress.told
     (record { fed = fed; shut = closed; taken = progress.taken; told = progress.told })
 counts_in got put rest progress closed fed messages is last fits counted t =

@@ -98,7 +98,8 @@ took_fault items p q messages fault t there splitter unread closed said count = 
   unread = subst (λ (b : Bool). IsMissing b items t.missing) (sym unread) t.unread;
   closed = closed ∙ t.closed;
   telling =
-      subst (λ (s : Option RequestEnd). MayTell s (bytes_of items) (shut_of items) messages) (sym said)
+      subst (λ (s : Option RequestEnd).
+      MayTell s (bytes_of items) (shut_of items) messages) (sym said)
       (MayTell-fault (bytes_of items) messages (p.splitter ++ t.missing) (shut_of items) fault
       t.whole t.each (IsFaulty-longer p.splitter t.missing fault there));
   count = count ∙ t.count;

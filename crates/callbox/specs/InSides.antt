@@ -156,7 +156,8 @@ once event_of None = []
 once event_of (Some x) = event_of x ∷ []
 
 -- pieces, the shut, a Take for each message that was taken and one for what was told
-abbrev pub in_events : List (List ℕ) → Option Shut → List (List ℕ) → Option RequestEnd → List CallEvent
+abbrev pub in_events : List (List ℕ) → Option Shut → List (List ℕ)
+    → Option RequestEnd → List CallEvent
 in_events pieces closed messages said =
     map event.Feed pieces
     ++ (once event.Shut closed ++ (map (λ _. event.Take) messages ++ once (λ _. event.Take) said))

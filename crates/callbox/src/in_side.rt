@@ -32,7 +32,8 @@ pub fn settle_in<L: Lane<Item = InPiece>>(
     requires one_call { of_end (λ f. L.in_name f.tx) (λ s. L.shut_name s.shut) end
         ≡ L.out_name taker.rx }
     // For the messages that were taken.
-    ensures account { (messages : List (List ℕ)) → TakesMessages (L.got taker.rx) taker.progress messages
+    ensures account { (messages : List (List ℕ))
+        → TakesMessages (L.got taker.rx) taker.progress messages
         → CountsIn (pieces_of (of_end (λ f. L.put_in f.tx) (λ s. L.put_shut s.shut) end))
         (of_end (λ _. None) (λ s. Some s.kind) end) messages taker.progress.told result }
 {
@@ -44,7 +45,8 @@ pub fn settle_in<L: Lane<Item = InPiece>>(
 
 fn settle_open<L: Lane<Item = InPiece>>(feeder: Feeder<L>, taker: Taker<L>) -> InAccount
     requires one_call { L.in_name feeder.tx ≡ L.out_name taker.rx }
-    ensures account { (messages : List (List ℕ)) → TakesMessages (L.got taker.rx) taker.progress messages
+    ensures account { (messages : List (List ℕ))
+        → TakesMessages (L.got taker.rx) taker.progress messages
         → CountsIn (pieces_of (L.put_in feeder.tx)) None messages taker.progress.told result }
 {
     let Taker { rx, progress } = taker;
@@ -60,7 +62,8 @@ fn settle_open<L: Lane<Item = InPiece>>(feeder: Feeder<L>, taker: Taker<L>) -> I
 
 fn settle_shut<L: Lane<Item = InPiece>>(shut: FedShut<L>, taker: Taker<L>) -> InAccount
     requires one_call { L.shut_name shut.shut ≡ L.out_name taker.rx }
-    ensures account { (messages : List (List ℕ)) → TakesMessages (L.got taker.rx) taker.progress messages
+    ensures account { (messages : List (List ℕ))
+        → TakesMessages (L.got taker.rx) taker.progress messages
         → CountsIn (pieces_of (L.put_shut shut.shut))
         (Some shut.kind) messages taker.progress.told result }
 {

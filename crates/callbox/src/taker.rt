@@ -192,7 +192,8 @@ impl Progress {
         requires unread { self.old.unread ≡ true }
         ensures took { (items : List InPiece) (item : InPiece) (messages : List (List ℕ))
             → TakesMessages items self.old messages
-            → last_of items ≡ Some item → IsPolled item polled → TakesMessages items self.new messages }
+            → last_of items ≡ Some item → IsPolled item polled
+            → TakesMessages items self.new messages }
         ensures told { self.new.told ≡ None }
         ensures owed { self.new.owed ≡ self.old.owed }
     {

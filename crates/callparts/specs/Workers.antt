@@ -51,7 +51,8 @@ IsKnown known of_method methods = IsWithin known (answers_by of_method methods)
 -- a call of which nothing was got, taken, told or given yet
 abbrev pub IsFreshWork : Work → Type 0
 IsFreshWork work =
-    (got work.taker.rx ≡ []) × TakesMessages [] work.taker.progress [] × (work.taker.progress.told ≡ None)
+    (got work.taker.rx ≡ []) × TakesMessages [] work.taker.progress []
+    × (work.taker.progress.told ≡ None)
     × (put_in work.giver.tx ≡ [])
 
 -- the items of an outcome, and after them at most that the call was left
@@ -81,7 +82,8 @@ pub record Answers (answers : ℕ → List (List ℕ) → Bool → MethodStep �
   pub answered : IsAnswered (answers request.index) request.head messages progress.told given status
 
 -- the call at this number of a register was answered so
-abbrev pub AnswersAt : (ℕ → List (List ℕ) → Bool → MethodStep → Type 0) → List Work → ℕ → List InPiece
+abbrev pub AnswersAt : (ℕ → List (List ℕ) → Bool → MethodStep → Type 0) → List Work
+    → ℕ → List InPiece
     → Progress → List OutItem → Option ℕ → Type 0
 AnswersAt answers log number got progress given status =
     IsSomeAnd (request_at log number) (λ request. Answers answers request got progress given status)

@@ -2,8 +2,8 @@
 //!
 //! A call has lanes of its own, with four ends. The reader makes them, and they come back to it
 //! once the call is over: the `Taker` and the giving end with a `FinishedJob`, from a worker; the
-//! `Sender` with a `SendingEnd`, from the writer. Then the call is settled, and its `CallAccount` is
-//! final.
+//! `Sender` with a `SendingEnd`, from the writer. Then the call is settled, and its `CallAccount`
+//! is final.
 //!
 //! - `register`: the numbers of calls, which say of which call an end is that comes back.
 //! - `work`: a call that is to be answered; `job`: what a worker is handed, and hands back; `ways`:

@@ -48,7 +48,8 @@ module _ {answers : List (List ℕ) → Bool → MethodStep → Type 0}
   same_hand said messages call hand other after is has =
       subst (λ (h : Option Taken). HasCome answers stands said messages call h after) (sym is) has
 
-  pub kept_come : (Holds : List (List ℕ) → Type 0) (said : Option RequestEnd) (messages : List (List ℕ))
+  pub kept_come : (Holds : List (List ℕ) → Type 0) (said : Option RequestEnd)
+      (messages : List (List ℕ))
       (call : Call) (hand : Option Taken) (after : ResponseView)
       → Holds messages
       → HasCome answers stands said messages call hand after
@@ -61,7 +62,8 @@ module _ {answers : List (List ℕ) → Bool → MethodStep → Type 0}
         (sym (append-nil messages)) has,
   )
 
-  pub then_none : (Holds : List (List ℕ) → Type 0) (said : Option RequestEnd) (messages : List (List ℕ))
+  pub then_none : (Holds : List (List ℕ) → Type 0) (said : Option RequestEnd)
+      (messages : List (List ℕ))
       (call : Call) (hand : Option Taken) (after : ResponseView)
       → hand ≡ None
       → (more : List (List ℕ)) × Holds (messages ++ more)

@@ -95,7 +95,8 @@ one_more head done given reply is =
     ∙ ap (λ (items : List OutItem). head_item head ∷ items)
     (sym (map-append reply_item done (reply ∷ [])))
 
-passed : (answer : MethodStep) (head : CallHead) (overdue : Bool) (said : Option RequestEnd) (done : List Reply)
+passed : (answer : MethodStep) (head : CallHead) (overdue : Bool) (said : Option RequestEnd)
+    (done : List Reply)
     (reply : Reply) (rest waiting : List Reply) (way : Option Ending)
     → waiting ≡ reply ∷ rest → EndsSo answer head overdue said done waiting way
     → EndsSo answer head overdue said (done ++ reply ∷ []) rest way
@@ -145,7 +146,8 @@ runs_reply old new given reply rest has waits same =
       ends = λ none. none;
     })
 
-give_head : (said : Option RequestEnd) (answer : MethodStep) (call : Call) (given : List OutItem) → given ≡ []
+give_head : (said : Option RequestEnd) (answer : MethodStep) (call : Call) (given : List OutItem)
+    → given ≡ []
     → HeadIsDue call.head call.handling
     → GivesOf said answer call (live given)
     → GivesOf said answer call (live (given ++ head_item call.head ∷ []))
@@ -257,7 +259,8 @@ whole said answer head overdue done waiting (Some (ending.Cause cause)) given fa
     (λ flagged no_reply. absurd (true_false false flagged refl)))
     (ap (λ (n : ℕ). Some n) trailers.1)
 
-shut : (said : Option RequestEnd) (answer : MethodStep) (call : Call) (given : List OutItem) (after : ResponseView)
+shut : (said : Option RequestEnd) (answer : MethodStep) (call : Call) (given : List OutItem)
+    (after : ResponseView)
     (flag : Bool) (fields : List Field) (code : ℕ)
     → EndsWith (live given) (Trailers fields) code after
     → IsEnding call.handling → HasTrailers flag call.head call.handling.ending fields code

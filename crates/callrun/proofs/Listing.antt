@@ -247,7 +247,8 @@ run_whole {A} (Some m) found_then found_last answers stands of_open of_shut was_
       overdue = call_last.overdue;
       took =
           subst (λ (items : List InPiece). TakesMessages items last ([] ++ all.0)) (sym same_got)
-          (subst (λ (p : Progress). TakesMessages got_then p ([] ++ all.0)) (sym same_progress) all.1);
+          (subst (λ (p : Progress). TakesMessages got_then p ([] ++ all.0))
+          (sym same_progress) all.1);
       late = late;
       outcome = λ answer is.
           subst (λ (h : CallHead). IsOutcome h call_last.overdue last.told answer given code)

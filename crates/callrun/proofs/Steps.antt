@@ -90,7 +90,8 @@ still CompressedWithoutEncoding head overdue later said stays stood = stood
 still BadFlag head overdue later said stays stood = stood
 still CutAtEnd head overdue later said stays stood = stood
 
-later_outcome : (head : CallHead) (overdue later : Bool) (said : Option RequestEnd) (answer : MethodStep)
+later_outcome : (head : CallHead) (overdue later : Bool) (said : Option RequestEnd)
+    (answer : MethodStep)
     (given : List OutItem) (code : Option ℕ)
     → (overdue ≡ true → later ≡ true)
     → IsOutcome head overdue said answer given code → IsOutcome head later said answer given code
@@ -123,7 +124,8 @@ going_cut cause answer head later next new done given stood begins begun none en
   due = λ no_reply some. inr (subst (λ (way : Option Ending). LastsLong head way) (sym ends) tt);
 }
 
-cut : (cause : Cause) (said : Option RequestEnd) (answer : MethodStep) (old new : Call) (before : ResponseView)
+cut : (cause : Cause) (said : Option RequestEnd) (answer : MethodStep) (old new : Call)
+    (before : ResponseView)
     → old.head ≡ new.head → (old.overdue ≡ true → new.overdue ≡ true)
     → Stood cause new.head new.overdue said → EndsBy cause old.handling new.handling
     → GivesOf said answer old before → GivesOf said answer new before
@@ -178,7 +180,8 @@ runs_leave call before after leaves = record {
   ends = λ none. none;
 }
 
-pub runs_on : (a b c : Call) (x y z : ResponseView) → RunsOn a x b y → RunsOn b y c z → RunsOn a x c z
+pub runs_on : (a b c : Call) (x y z : ResponseView) → RunsOn a x b y
+    → RunsOn b y c z → RunsOn a x c z
 runs_on a b c x y z first second = record {
   gives = λ said answer gives. second.gives said answer (first.gives said answer gives);
   state = second.state ∙ first.state;
@@ -241,7 +244,8 @@ module _ {G S : Type 0} where
       GivesOf said answer call (shown of_open of_shut was_placed r)) same gives
 
 -- the status of trailers that were given
-pub placed_outcome : (head : CallHead) (overdue : Bool) (said : Option RequestEnd) (answer : MethodStep)
+pub placed_outcome : (head : CallHead) (overdue : Bool) (said : Option RequestEnd)
+    (answer : MethodStep)
     (given : List OutItem) (placed : Bool) (number : ℕ) (code : Option ℕ)
     → code ≡ if_placed placed number
     → IsOutcome head overdue said answer given (if_placed placed number)

@@ -86,18 +86,23 @@ no_method (Some status) is = absurd (cc)
 -- ---- a step of the method
 
 -- what was answered by then, and what a step gave
-joined_so : (answer answered step : MethodStep) (head : CallHead) (overdue : Bool) (said : Option RequestEnd)
+joined_so : (answer answered step : MethodStep) (head : CallHead) (overdue : Bool)
+    (said : Option RequestEnd)
     (waiting : List Reply) (ends : Option Status)
     → answer ≡ joined answered step → answered.ends ≡ None → step.ends ≡ ends
     → waiting ≡ step.replies
     → EndsSo answer head overdue said answered.replies waiting (method_ending ends)
 joined_so answer answered step head overdue said waiting None same goes is waits = (
-  ap (λ (s : MethodStep). s.replies) same ∙ ap (λ (r : List Reply). answered.replies ++ r) (sym waits),
-  ap (λ (s : MethodStep). s.ends) same ∙ ap (λ (e : Option Status). first_status e step.ends) goes ∙ is,
+  ap (λ (s : MethodStep). s.replies) same
+      ∙ ap (λ (r : List Reply). answered.replies ++ r) (sym waits),
+  ap (λ (s : MethodStep). s.ends) same
+      ∙ ap (λ (e : Option Status). first_status e step.ends) goes ∙ is,
 )
 joined_so answer answered step head overdue said waiting (Some status) same goes is waits = (
-  ap (λ (s : MethodStep). s.replies) same ∙ ap (λ (r : List Reply). answered.replies ++ r) (sym waits),
-  ap (λ (s : MethodStep). s.ends) same ∙ ap (λ (e : Option Status). first_status e step.ends) goes ∙ is,
+  ap (λ (s : MethodStep). s.replies) same
+      ∙ ap (λ (r : List Reply). answered.replies ++ r) (sym waits),
+  ap (λ (s : MethodStep). s.ends) same
+      ∙ ap (λ (e : Option Status). first_status e step.ends) goes ∙ is,
 )
 
 -- a step that failed ends the call, and what was given begins whatever is answered
@@ -197,7 +202,8 @@ module _ {answers : List (List ℕ) → Bool → MethodStep → Type 0}
       → IsLawful answers
       → IsStanding answers stands None messages old
       → IfOk step (λ s.
-      (ms : List (List ℕ)) (given : MethodStep) → stands old ms given → answers ms true (joined given s))
+      (ms : List (List ℕ)) (given : MethodStep) → stands old ms given
+      → answers ms true (joined given s))
       → Accepts step mid new → Answers answers stands (Some told.End) messages messages new
   end_answers messages old mid new (Ok step) lawful standing joins accepts =
       let whole = joins messages standing.answered standing.standing in
@@ -260,7 +266,8 @@ module _ {answers : List (List ℕ) → Bool → MethodStep → Type 0}
   message_run said next messages all old new given same ready same_head same_overdue made run =
       let untold = (run.standing ready.1).untold in
       let before =
-      subst (λ (t : Option RequestEnd). HasRun answers stands t messages old (live given)) untold run in
+      subst (λ (t : Option RequestEnd).
+      HasRun answers stands t messages old (live given)) untold run in
       subst (λ (t : Option RequestEnd). HasRun answers stands t all new (live given))
       (sym (same ∙ untold))
       (answer_run None messages all old new given ready same_head same_overdue
@@ -277,8 +284,10 @@ module _ {answers : List (List ℕ) → Bool → MethodStep → Type 0}
   end_run said next messages old new given same ready same_head same_overdue made run =
       let untold = (run.standing ready.1).untold in
       let before =
-      subst (λ (t : Option RequestEnd). HasRun answers stands t messages old (live given)) untold run in
-      subst (λ (t : Option RequestEnd). HasRun answers stands t messages new (live given)) (sym same)
+      subst (λ (t : Option RequestEnd).
+      HasRun answers stands t messages old (live given)) untold run in
+      subst (λ (t : Option RequestEnd).
+      HasRun answers stands t messages new (live given)) (sym same)
       (answer_run (Some told.End) messages messages old new given ready same_head same_overdue
       (made run.lawful (before.standing ready.1)) before)
 
@@ -361,7 +370,8 @@ fault_stood fault.OutOfMemory head encoding overdue said next by tells none = (t
 
 module _ (answers : List (List ℕ) → Bool → MethodStep → Type 0)
     (stands : MethodState → List (List ℕ) → MethodStep → Type 0) where
-  pub by_message : (taken : Taken) (message : List ℕ) (old new : Call) (said next : Option RequestEnd)
+  pub by_message : (taken : Taken) (message : List ℕ) (old new : Call)
+      (said next : Option RequestEnd)
       (messages : List (List ℕ)) (given : List OutItem)
       → taken ≡ taken_as.Message message
       → IsReady old.handling → new.head ≡ old.head → new.overdue ≡ old.overdue
@@ -375,7 +385,8 @@ module _ (answers : List (List ℕ) → Bool → MethodStep → Type 0)
       (message_run said next messages (messages ++ message ∷ []) old new given
       (subst (λ (t : Taken). Tells t said next) is tells) ready same_head same_overdue made run)
 
-  pub by_end : (taken : Taken) (old new : Call) (said next : Option RequestEnd) (messages : List (List ℕ))
+  pub by_end : (taken : Taken) (old new : Call) (said next : Option RequestEnd)
+      (messages : List (List ℕ))
       (given : List OutItem)
       → taken ≡ taken_as.End
       → IsReady old.handling → new.head ≡ old.head → new.overdue ≡ old.overdue
@@ -459,8 +470,11 @@ module _ (answers : List (List ℕ) → Bool → MethodStep → Type 0)
           done = [];
           at =
               subst (λ (way : Option Ending).
-              EndsSo answer call.head call.overdue None [] call.handling.waiting way) (sym ready.1)
-              (ap (λ (s : MethodStep). s.replies) same ∙ sym ready.0, ap (λ (s : MethodStep). s.ends) same);
+              EndsSo answer call.head call.overdue None [] call.handling.waiting
+              way) (sym ready.1) (
+                ap (λ (s : MethodStep). s.replies) same ∙ sym ready.0,
+                ap (λ (s : MethodStep). s.ends) same,
+              );
           begun = inl (refl, empty);
           due = λ no_reply some. absurd (some empty);
         });
@@ -514,7 +528,8 @@ module _ {answers : List (List ℕ) → Bool → MethodStep → Type 0}
         (grown_more taken messages) run,
   )
 
-  pub kept_run : (Holds : List (List ℕ) → Type 0) (next : Option RequestEnd) (messages : List (List ℕ))
+  pub kept_run : (Holds : List (List ℕ) → Type 0) (next : Option RequestEnd)
+      (messages : List (List ℕ))
       (call : Call) (after : ResponseView)
       → Holds messages
       → HasRun answers stands next messages call after

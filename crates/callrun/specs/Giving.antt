@@ -6,7 +6,8 @@ use Rattle.account.specs.declared.call.OutItem.{OutItem}
 use Rattle.callrun.specs.declared.giving.GiveRefusal.{GiveRefusal}
 use Rattle.callrun.specs.declared.giving.GiveRefusal.TheVariants.{Full, OutOfMemory, NotTaken}
 
-abbrev pub without_item : {T : Type 0} → Result (Unit {0}) (PutFault T) → Result (Unit {0}) GiveRefusal
+abbrev pub without_item : {T : Type 0} → Result (Unit {0}) (PutFault T)
+    → Result (Unit {0}) GiveRefusal
 without_item (Ok done) = Ok done
 without_item (Err (put_fault.Full item waiting)) = Err Full
 without_item (Err (put_fault.OutOfMemory item)) = Err OutOfMemory

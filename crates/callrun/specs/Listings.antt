@@ -29,7 +29,8 @@ use Rattle.callrun.specs.declared.uses.call_list.Why.TheVariants.{Over, Left, Sp
 
 -- Nothing was taken of the call yet, and nothing given.
 abbrev pub IsUntouched : List InPiece → Progress → List OutItem → Type 0
-IsUntouched got progress given = TakesMessages got progress [] × (progress.told ≡ None) × (given ≡ [])
+IsUntouched got progress given =
+    TakesMessages got progress [] × (progress.told ≡ None) × (given ≡ [])
 
 -- A call was run: it took these messages, and what it was given is an outcome of what its method
 -- answers to them, whatever that is. Its deadline counts as come only if it is no later than the

@@ -67,7 +67,8 @@ IsBegun head replies given =
     ((replies ≡ []) × (given ≡ [])) ⊎ (given ≡ head_item head ∷ map reply_item replies)
 
 -- The items that were given, and the status of their trailers.
-pub data IsOutcome (head : CallHead) (overdue : Bool) (said : Option RequestEnd) (answer : MethodStep)
+pub data IsOutcome (head : CallHead) (overdue : Bool) (said : Option RequestEnd)
+    (answer : MethodStep)
     (given : List OutItem) (code : Option ℕ) : Type 0 where
   -- the whole answer of the method
   Whole : (status : Status) → answer.ends ≡ Some status

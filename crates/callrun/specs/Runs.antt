@@ -43,7 +43,8 @@ use Rattle.callrun.specs.Outcomes.{IsBegun, IsOutcome, is_end}
 use Rattle.callrun.specs.Sides.{ResponseView}
 
 -- More may be given: these replies of the method's answer were given, after a head.
-pub record IsGoing (answer : MethodStep) (head : CallHead) (overdue : Bool) (said : Option RequestEnd)
+pub record IsGoing (answer : MethodStep) (head : CallHead) (overdue : Bool)
+    (said : Option RequestEnd)
     (handling : Handling) (given : List OutItem) : Type 0 where
   pub done : List Reply
   pub at : EndsSo answer head overdue said done handling.waiting handling.ending
@@ -51,7 +52,8 @@ pub record IsGoing (answer : MethodStep) (head : CallHead) (overdue : Bool) (sai
   pub due : done ≡ [] → given ≢ [] → HeadIsDue head handling
 
 -- What was given is an outcome of the method's answer.
-pub record GivesOf (said : Option RequestEnd) (answer : MethodStep) (call : Call) (shown : ResponseView) : Type 0 where
+pub record GivesOf (said : Option RequestEnd) (answer : MethodStep) (call : Call)
+    (shown : ResponseView) : Type 0 where
   pub going : shown.is_live ≡ true
       → IsGoing answer call.head call.overdue said call.handling shown.given
   pub outcome : IsOutcome call.head call.overdue said answer shown.given shown.code
@@ -60,7 +62,8 @@ pub record GivesOf (said : Option RequestEnd) (answer : MethodStep) (call : Call
 -- whatever that is. As long as no end is due, the method's state stands for the messages.
 pub record HasRun (answers : List (List ℕ) → Bool → MethodStep → Type 0)
     (stands : MethodState → List (List ℕ) → MethodStep → Type 0)
-    (said : Option RequestEnd) (messages : List (List ℕ)) (call : Call) (shown : ResponseView) : Type 0 where
+    (said : Option RequestEnd) (messages : List (List ℕ)) (call : Call)
+    (shown : ResponseView) : Type 0 where
   pub lawful : IsLawful answers
   pub each : (answer : MethodStep) → answers messages (is_end said) answer
       → GivesOf said answer call shown
@@ -117,7 +120,8 @@ RunsOut old new = (lacks_memory new.handling.ending ≡ true)
     × ((lacks_memory old.handling.ending ≡ false) ⊎ ((old.overdue ≡ false) × (new.overdue ≡ true)))
 
 -- a step that takes nothing, so the method's answer stays
-pub record RunsOn (old : Call) (before : ResponseView) (new : Call) (after : ResponseView) : Type 0 where
+pub record RunsOn (old : Call) (before : ResponseView) (new : Call)
+    (after : ResponseView) : Type 0 where
   pub gives : (said : Option RequestEnd) (answer : MethodStep) → GivesOf said answer old before
       → GivesOf said answer new after
   pub state : new.handling.state ≡ old.handling.state

@@ -53,7 +53,8 @@ module _ {G S : Type 0} where
   left (Shut end code) = Shut end code
   left Gone = Gone
 
-  abbrev pub shown : (G → List OutItem) → (S → List OutItem) → (S → Bool) → Response G S → ResponseView
+  abbrev pub shown : (G → List OutItem) → (S → List OutItem) → (S → Bool)
+      → Response G S → ResponseView
   shown of_open of_shut was_placed (Open giver) =
       record { is_live = true; given = of_open giver; code = None }
   shown of_open of_shut was_placed (Left giver) =
@@ -78,7 +79,8 @@ module _ {G S : Type 0} where
 
 module _ {L In Out Shut : Type 0} {lane : Ghosts L OutItem In Out Shut} where
   -- what was given over the lane, and the status of the trailers, if they had their place
-  abbrev pub given_over : Response (Giver L In Out Shut lane) (GivenShut L In Out Shut lane) → ResponseView
+  abbrev pub given_over : Response (Giver L In Out Shut lane) (GivenShut L In Out Shut lane)
+      → ResponseView
   given_over response =
       shown (λ g. lane.put_in g.tx) (λ s. lane.put_shut s.shut)
       (λ s. lane.was_placed s.shut) response

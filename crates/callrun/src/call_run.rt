@@ -144,7 +144,8 @@ impl<I: Lane<Item = InPiece>, O: Lane<Item = OutItem>> CallRun<I, O> {
             ((⟦<dyn Method as Method>⟧ method.vtable).stands method.value)
             self.old.taker.progress.told messages self.old.call self.old.in_hand
             (given_over self.old.response)
-            → (more : List (List ℕ)) × TakesMessages (I.got self.new.taker.rx) self.new.taker.progress
+            → (more : List (List ℕ))
+            × TakesMessages (I.got self.new.taker.rx) self.new.taker.progress
             (messages ++ more)
             × HasCome ((⟦<dyn Method as Method>⟧ method.vtable).answers method.value)
             ((⟦<dyn Method as Method>⟧ method.vtable).stands method.value)
@@ -209,7 +210,8 @@ impl<I: Lane<Item = InPiece>, O: Lane<Item = OutItem>> CallRun<I, O> {
         ensures ready { IsTrue result ↔ IsSome self.new.in_hand }
         ensures ahead { (messages : List (List ℕ))
             → TakesMessages (I.got self.old.taker.rx) self.old.taker.progress messages
-            → TakesAhead (λ all. TakesMessages (I.got self.new.taker.rx) self.new.taker.progress all)
+            → TakesAhead
+            (λ all. TakesMessages (I.got self.new.taker.rx) self.new.taker.progress all)
             messages
             self.old.in_hand self.old.taker.progress.told self.new.in_hand
             self.new.taker.progress.told }
@@ -230,7 +232,8 @@ impl<I: Lane<Item = InPiece>, O: Lane<Item = OutItem>> CallRun<I, O> {
         requires { self.old.in_hand ≡ None }
         ensures ahead { (messages : List (List ℕ))
             → TakesMessages (I.got self.old.taker.rx) self.old.taker.progress messages
-            → TakesAhead (λ all. TakesMessages (I.got self.new.taker.rx) self.new.taker.progress all)
+            → TakesAhead
+            (λ all. TakesMessages (I.got self.new.taker.rx) self.new.taker.progress all)
             messages
             self.old.in_hand self.old.taker.progress.told self.new.in_hand
             self.new.taker.progress.told }
@@ -349,7 +352,8 @@ impl<I: Lane<Item = InPiece>, O: Lane<Item = OutItem>> CallRun<I, O> {
             → TakesMessages (I.got self.old.taker.rx) self.old.taker.progress messages
             → HasRun (answers method.now) (stands method.now) self.old.taker.progress.told messages
             self.old.call (given_over self.old.response)
-            → (more : List (List ℕ)) × TakesMessages (I.got self.new.taker.rx) self.new.taker.progress
+            → (more : List (List ℕ))
+            × TakesMessages (I.got self.new.taker.rx) self.new.taker.progress
             (messages ++ more)
             × HasRun (answers method.now) (stands method.now) self.new.taker.progress.told
             (messages ++ more) self.new.call (given_over self.new.response) }

@@ -190,13 +190,15 @@ module _ {A : Type 0} (answers : A → List (List ℕ) → Bool → MethodStep �
     [],
     subst (λ (ms : List (List ℕ)). TakesMessages (got b.taker.rx) b.taker.progress ms)
         (sym (append-nil messages))
-        (subst (λ (items : List InPiece). TakesMessages items b.taker.progress messages) (sym (ap got rx))
+        (subst (λ (items : List InPiece).
+        TakesMessages items b.taker.progress messages) (sym (ap got rx))
         (owes_less (got a.taker.rx) a.taker.progress b.taker.progress messages less took)),
     subst (λ (ms : List (List ℕ)).
         HasCome (answers m) (stands m) b.taker.progress.told ms b.call b.in_hand (shows b))
         (sym (append-nil messages))
         (subst
-        (λ (t : Option RequestEnd). HasCome (answers m) (stands m) t messages b.call b.in_hand (shows b))
+        (λ (t : Option RequestEnd).
+        HasCome (answers m) (stands m) t messages b.call b.in_hand (shows b))
         (sym (ap (λ (p : Progress). p.told) less))
         (subst (λ (call : Call).
         HasCome (answers m) (stands m) a.taker.progress.told messages call b.in_hand
@@ -246,7 +248,8 @@ module _ {A : Type 0} (answers : A → List (List ℕ) → Bool → MethodStep �
   -- ---- all of it
 
   all_of : (found after : Option A) (a b : LaneRun) (said : Option RequestEnd) (put : List OutItem)
-      → after ≡ found → TakesMessages (got a.taker.rx) a.taker.progress [] → a.taker.progress.told ≡ None
+      → after ≡ found → TakesMessages (got a.taker.rx) a.taker.progress []
+      → a.taker.progress.told ≡ None
       → said ≡ None → put ≡ [] → a.in_hand ≡ None → is_open b.response ≡ false
       → IfSome found
       (λ m. said ≡ None → put ≡ [] → HasRun (answers m) (stands m) None [] a.call (shows a))
@@ -257,7 +260,8 @@ module _ {A : Type 0} (answers : A → List (List ℕ) → Bool → MethodStep �
   all_of None after a b said put same took untold unsaid unput empty closed fresh goes = tt
   all_of (Some m) after a b said put same took untold unsaid unput empty closed fresh goes =
       let begun =
-      subst (λ (t : Option RequestEnd). HasRun (answers m) (stands m) t [] a.call (shows a)) (sym untold)
+      subst (λ (t : Option RequestEnd).
+      HasRun (answers m) (stands m) t [] a.call (shows a)) (sym untold)
       (fresh unsaid unput) in
       let come = with_none a.taker.progress.told [] a.call a.in_hand (shows a) empty begun in
       let leads =
@@ -273,7 +277,8 @@ module _ {A : Type 0} (answers : A → List (List ℕ) → Bool → MethodStep �
   -- from a call of which nothing was taken yet to one that gives nothing more: the messages that
   -- were taken, and what stands of them
   pub run_all : (index : ℕ) (a b : LaneRun) (said : Option RequestEnd) (put : List OutItem)
-      → a.index ≡ index → TakesMessages (got a.taker.rx) a.taker.progress [] → a.taker.progress.told ≡ None
+      → a.index ≡ index → TakesMessages (got a.taker.rx) a.taker.progress []
+      → a.taker.progress.told ≡ None
       → said ≡ None → put ≡ [] → a.in_hand ≡ None → is_open b.response ≡ false
       → IfSome (slice_get methods index)
       (λ m. said ≡ None → put ≡ [] → HasRun (answers m) (stands m) None [] a.call (shows a))
@@ -418,7 +423,8 @@ left_as items given is = inr is
 -- ---- the call of a number
 
 -- what stands of a call stands of the number at which it is
-pub answers_at : (known : ℕ → List (List ℕ) → Bool → MethodStep → Type 0) (log : List Work) (number : ℕ)
+pub answers_at : (known : ℕ → List (List ℕ) → Bool → MethodStep → Type 0)
+    (log : List Work) (number : ℕ)
     (work : Work) (items : List InPiece) (p : Progress) (given : List OutItem) (status : Option ℕ)
     → slice_get log number ≡ Some work → Answers known work.request items p given status
     → AnswersAt known log number items p given status

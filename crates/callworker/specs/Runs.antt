@@ -61,7 +61,8 @@ LeadsOn answers stands before after = (messages : List (List ℕ))
     → TakesMessages (got before.taker.rx) before.taker.progress messages
     → HasCome answers stands before.taker.progress.told messages before.call
     before.in_hand (shows before)
-    → (more : List (List ℕ)) × TakesMessages (got after.taker.rx) after.taker.progress (messages ++ more)
+    → (more : List (List ℕ))
+    × TakesMessages (got after.taker.rx) after.taker.progress (messages ++ more)
     × HasCome answers stands after.taker.progress.told (messages ++ more) after.call
     after.in_hand (shows after)
 

@@ -2,8 +2,8 @@
 //!
 //! - `worker`: the loops from call to call and from turn to turn of a call, which wait.
 //! - `pace`: how long a call waits, and when the writer is rung for it.
-//! - `ways`: how a worker is handed its calls, and hands them back; `worker_promise`: a worker in a thread
-//!   of its own, and its promise.
+//! - `ways`: how a worker is handed its calls, and hands them back; `worker_promise`: a worker in a
+//!   thread of its own, and its promise.
 //! - `jobs`: where a worker waits for its next call.
 //! - `shared_conn`: the connection's lock and bells; `gate`: when a call may go on.
 //!

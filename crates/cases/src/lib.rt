@@ -6,7 +6,8 @@
 //! the server's side of the connection breaks a rule of HTTP/2 (RFC 9113, RFC 7541) or of gRPC over
 //! HTTP/2 that a client can see. Its `Failure` then has one line: what came with its figures, what
 //! was wanted, and the section of the standard. A rule is one that binds a server by a MUST, or by
-//! a grammar. A `Channel` makes the calls of a soak. Each run ends once its time is over (`TimedConn`).
+//! a grammar. A `Channel` makes the calls of a soak. Each run ends once its time is over
+//! (`TimedConn`).
 //!
 //! Read `fault` for the numbers of faults, and what follows each; `method` and `request` for what
 //! is asked. The client's side of HTTP/2, each rule with its enum and its text: `input` and

@@ -104,7 +104,8 @@ text_more messages message line text written count lines counted same appended =
     ∙ sym (lines_push 0 messages message))))
 
 -- the report is whole
-pub report_told : (bytes : List ℕ) (telling : MessagePrinter) (fault : Option LpmFault) (text : List ℕ)
+pub report_told : (bytes : List ℕ) (telling : MessagePrinter)
+    (fault : Option LpmFault) (text : List ℕ)
     → HasToldAll bytes telling → fault ≡ fault_at_end bytes
     → text ≡ telling.text.items ++ ending_line fault → text ≡ report_of bytes
 report_told bytes telling fault text told stands written =

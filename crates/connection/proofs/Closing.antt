@@ -38,7 +38,12 @@ use Rattle.h2frame.specs.declared.error_code.ErrorCode.TheVariants.{
 }
 use Rattle.lists.specs.declared.field.Field.{Field}
 use Rattle.outwriter.specs.declared.control.WriterOrder.TheVariants as order
-use Rattle.outwriter.specs.declared.control.WriterOrder.TheVariants.{Goaway, Reset, InputEnded, Close}
+use Rattle.outwriter.specs.declared.control.WriterOrder.TheVariants.{
+  Goaway,
+  Reset,
+  InputEnded,
+  Close,
+}
 use Rattle.outwriter.specs.Calls.{is_closed}
 use Rattle.outwriter.specs.Drains.{fails, has_failed}
 use Rattle.outwriter.specs.Steps.{Order, Taken, Granted, Written, Returned}

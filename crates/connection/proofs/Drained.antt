@@ -39,7 +39,12 @@ use Rattle.h2frame.specs.declared.error_code.ErrorCode.TheVariants.{
 }
 use Rattle.h2frame.specs.declared.frame.Frame.{Frame}
 use Rattle.lists.specs.declared.field.Field.{Field}
-use Rattle.outwriter.specs.declared.control.WriterOrder.TheVariants.{Goaway, Reset, InputEnded, Close}
+use Rattle.outwriter.specs.declared.control.WriterOrder.TheVariants.{
+  Goaway,
+  Reset,
+  InputEnded,
+  Close,
+}
 use Rattle.outwriter.specs.Drains.{HasDrained, fails, goaway_by, has_failed, ordered_goaway}
 use Rattle.outwriter.specs.Frames.{goaway_frame}
 use Rattle.outwriter.specs.RunState.{IsAnswered}

@@ -153,7 +153,8 @@ module _ {A B C J M N V W : Type 0} {book : Naming J} {route : Ghosts N}
 
   back : AreCarried gave home
   back =
-      subst (λ (rs : List (ReturningCall J book)). AreCarried gave rs) sent.senders.are (handed-carried
+      subst (λ (rs : List (ReturningCall J book)). AreCarried gave rs)
+      sent.senders.are (handed-carried
       rest sent.senders.handed orders.unput sent.given took sent.orders_are sent.senders.all owns)
 
   there : AreCarried gave (taken mid.home)

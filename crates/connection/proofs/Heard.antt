@@ -203,13 +203,15 @@ module _ {J : Type 0} {book : Naming J} where
       subst (λ (found : Option (WriterOrder (OpeningCall J book))).
       IfSome found (Contains [])) (sym is) kept
 
-  kept-left : (dropped : List (WriterOrder (OpeningCall J book))) (order : WriterOrder (OpeningCall J book))
+  kept-left : (dropped : List (WriterOrder (OpeningCall J book)))
+      (order : WriterOrder (OpeningCall J book))
       (kept : Option (WriterOrder (OpeningCall J book)))
       → IfSome kept (Contains dropped) → IfSome kept (Contains (dropped ++ order ∷ []))
   kept-left dropped order None there = tt
   kept-left dropped order (Some one) there = Contains-append_left dropped (order ∷ []) one there
 
-  kept-more : (dropped : List (WriterOrder (OpeningCall J book))) (order : WriterOrder (OpeningCall J book))
+  kept-more : (dropped : List (WriterOrder (OpeningCall J book)))
+      (order : WriterOrder (OpeningCall J book))
       (old new : Option (WriterOrder (OpeningCall J book)))
       → IsKept order old new → IfSome old (Contains dropped)
       → IfSome new (Contains (dropped ++ order ∷ []))
@@ -270,7 +272,8 @@ module _ {A B C J N : Type 0} {book : Naming J} {route : Ghosts N} where
   ordered-put all order old new (inr (same, drops, keeps)) own ordered =
       let is : put_of new ++ (ordered.dropped ++ order ∷ [])
       ≡ (put_of old ++ ordered.dropped) ++ order ∷ [] =
-      ap (λ (os : List (WriterOrder (OpeningCall J book))). os ++ (ordered.dropped ++ order ∷ [])) same
+      ap (λ (os : List (WriterOrder (OpeningCall J book))).
+      os ++ (ordered.dropped ++ order ∷ [])) same
       ∙ sym (append_assoc (put_of old) ordered.dropped (order ∷ [])) in
       record {
         dropped = ordered.dropped ++ order ∷ [];
@@ -308,7 +311,8 @@ module _ {A B C J N : Type 0} {book : Naming J} {route : Ghosts N} where
             ap (λ (os : List (WriterOrder (OpeningCall J book))). map_of (os ++ ordered.dropped)) is
             ∙ ordered.parts;
         own =
-            subst (λ (os : List (WriterOrder (OpeningCall J book))). All IsOwn (os ++ ordered.dropped))
+            subst
+            (λ (os : List (WriterOrder (OpeningCall J book))). All IsOwn (os ++ ordered.dropped))
             (sym is) ordered.own;
         kept =
             subst (λ (found : Option (WriterOrder (OpeningCall J book))).
@@ -342,7 +346,8 @@ module _ {A B C J N : Type 0} {book : Naming J} {route : Ghosts N} where
       → put_orders orders_now ≡ map_of closed.front ++ orders.Close ∷ []
   closed-orders all orders_now closed =
       ap map_of closed.put
-      ∙ map-append (λ (o : WriterOrder (OpeningCall J book)). order_of o) closed.front (orders.Close ∷ [])
+      ∙ map-append (λ (o : WriterOrder (OpeningCall J book)). order_of o) closed.front
+      (orders.Close ∷ [])
 
   pub closed-put : (all : List Order) (orders_now : Orders A B C J N book route)
       → Closed all orders_now → HasPut all (put_orders orders_now)
@@ -350,7 +355,8 @@ module _ {A B C J N : Type 0} {book : Naming J} {route : Ghosts N} where
     front = map_of closed.front;
     begins = (
       map_of closed.dropped,
-      sym (map-append (λ (o : WriterOrder (OpeningCall J book)). order_of o) closed.front closed.dropped)
+      sym (map-append (λ (o : WriterOrder (OpeningCall J book)). order_of o)
+          closed.front closed.dropped)
           ∙ closed.parts,
     );
     closed = closed-orders all orders_now closed;
@@ -362,7 +368,8 @@ module _ {A B C J N : Type 0} {book : Naming J} {route : Ghosts N} where
   closed-whole all orders_now closed none =
       let all-put : map_of closed.front ≡ all =
       ap map_of (sym (append-nil closed.front)
-      ∙ sym (ap (λ (os : List (WriterOrder (OpeningCall J book))). closed.front ++ os) (closed.whole none)))
+      ∙ sym (ap (λ (os : List (WriterOrder (OpeningCall J book))). closed.front ++ os)
+      (closed.whole none)))
       ∙ closed.parts in
       closed-orders all orders_now closed
       ∙ ap (λ (os : List Order). os ++ orders.Close ∷ []) all-put
@@ -512,7 +519,8 @@ module _ {J M : Type 0} {book : Naming J} where
   next-seats one two is id next = subst (λ (r : Reading J M book). IsNext id r) (sym is) next
 
   pub seats-then : (one two three : Reading J M book) → two ≡ record one { workers = two.workers }
-      → three ≡ record two { workers = three.workers } → three ≡ record one { workers = three.workers }
+      → three ≡ record two { workers = three.workers }
+      → three ≡ record one { workers = three.workers }
   seats-then one two three first second =
       second ∙ ap (λ (r : Reading J M book). record r { workers = three.workers }) first
 
@@ -527,7 +535,8 @@ module _ {J M : Type 0} {book : Naming J} where
   carried-front sent reading home put is front carried =
       all-front (λ (returning : ReturningCall J book).
       HasReturned (carried_in sent) returning.sending.value) (taken reading.home) front.0
-      (subst (λ (rs : List (ReturningCall J book)). AreCarried sent rs) (sym (front.1 ∙ is)) carried)
+      (subst (λ (rs : List (ReturningCall J book)). AreCarried sent rs)
+      (sym (front.1 ∙ is)) carried)
 
   pub prefix-before : (one mid two : Reading J M book) (home put : List (ReturningCall J book))
       → mid.home ≡ one.home → Grows mid two → home ≡ put → IsPrefix (taken two.home) home
@@ -536,13 +545,15 @@ module _ {J M : Type 0} {book : Naming J} where
     grows.more ++ front.0,
     sym (append_assoc (taken one.home) grows.more front.0)
         ∙ (ap (λ (rs : List (ReturningCall J book)). rs ++ front.0) (sym
-        (grows.took ∙ ap (λ (ring : RingOut (ReturningCall J book)). taken ring ++ grows.more) same))
+        (grows.took
+        ∙ ap (λ (ring : RingOut (ReturningCall J book)). taken ring ++ grows.more) same))
         ∙ (front.1 ∙ is)),
   )
 
 module _ {J M : Type 0} {book : Naming J} {known : ℕ → List (List ℕ) → Bool → Answer → Type 0}
     {names : List ℕ → ℕ → Type 0} where
-  pub reads-same : (sent : List SentItems) (told : List Step) (one two : Reading J M book) → two ≡ one
+  pub reads-same : (sent : List SentItems) (told : List Step) (one two : Reading J M book)
+      → two ≡ one
       → Reads known names (carried_in sent) told one → Reads known names (carried_in sent) told two
   reads-same sent told one two is reads =
       subst (λ (r : Reading J M book). Reads known names (carried_in sent) told r) (sym is) reads
@@ -573,7 +584,8 @@ module _ {J M : Type 0} {book : Naming J} {known : ℕ → List (List ℕ) → B
         goaway = reads.goaway;
       })
 
-  pub awaits-of : (sent : List SentItems) (told : List Step) (step : Step) (decided : Decision J book)
+  pub awaits-of : (sent : List SentItems) (told : List Step) (step : Step)
+      (decided : Decision J book)
       (cut : HalfToShut) (reading : Reading J M book)
       → decided.to_shut ≡ Some cut → Decides known names (carried_in sent) told step decided reading
       → Awaits known names (carried_in sent) told step cut reading
@@ -581,7 +593,8 @@ module _ {J M : Type 0} {book : Naming J} {known : ℕ → List (List ℕ) → B
       subst (λ (found : Option HalfToShut).
       Stands known names (carried_in sent) told step found reading) is decides.stands
 
-  pub reads-of : (sent : List SentItems) (told : List Step) (step : Step) (decided : Decision J book)
+  pub reads-of : (sent : List SentItems) (told : List Step) (step : Step)
+      (decided : Decision J book)
       (reading : Reading J M book)
       → decided.to_shut ≡ None → Decides known names (carried_in sent) told step decided reading
       → Reads known names (carried_in sent) (step ∷ told) reading
@@ -1435,7 +1448,9 @@ ordered-none {J = J} {book = book} orders none unput =
     record {
       dropped = [];
       parts = ap map_of is;
-      own = subst (λ (os : List (WriterOrder (OpeningCall J book))). All IsOwn os) (sym is) (All-nil IsOwn);
+      own =
+          subst (λ (os : List (WriterOrder (OpeningCall J book))). All IsOwn os)
+          (sym is) (All-nil IsOwn);
       kept =
           subst (λ (found : Option (WriterOrder (OpeningCall J book))).
           IfSome found (Contains [])) (sym unput) tt;

@@ -284,7 +284,8 @@ module _ {J : Type 0} {book : Naming J} where
   opens-streams (Close ∷ xs) = opens-streams xs
 
   -- a call that one of them opens
-  pub opens-one : (xs : List (WriterOrder (OpeningCall J book))) (id : ℕ) (opening : OpeningCall J book)
+  pub opens-one : (xs : List (WriterOrder (OpeningCall J book))) (id : ℕ)
+      (opening : OpeningCall J book)
       → Contains xs (Open id opening) → Contains (opens xs) (numbered id opening.sending.value)
   opens-one [] id opening there = none-in (Open id opening) there
   opens-one (first ∷ xs) id opening there = elim (first-or-rest first xs (Open id opening) there) [
@@ -433,7 +434,8 @@ module _ {J : Type 0} {book : Naming J} where
           (stands-given (numbered one.0 one.1.sending.value)
           (Contains-append_right (numbers rest.sends.calls.items) (handed_numbers handed)
           (numbered one.0 one.1.sending.value)
-          (in-map (λ (a : ℕ × ReturningCall J book). numbered a.0 a.1.sending.value) handed one there)))
+          (in-map (λ (a : ℕ × ReturningCall J book). numbered a.0 a.1.sending.value)
+          handed one there)))
           one.1.there (sent-handed one there)))
 
       pub rest-carried : CarriesRest (all_sent rest handed unput) rest
@@ -458,7 +460,8 @@ module _ {J : Type 0} {book : Naming J} where
 
   -- of an order that isn't put
   pub open-carried : (rest : Senders J book) (handed : List (ℕ × ReturningCall J book))
-      (dropped : List (WriterOrder (OpeningCall J book))) (unput : Option (WriterOrder (OpeningCall J book)))
+      (dropped : List (WriterOrder (OpeningCall J book)))
+      (unput : Option (WriterOrder (OpeningCall J book)))
       → All IsOwn dropped → IfSome unput (Contains dropped)
       → IfSome unput (CarriesOpen (all_sent rest handed unput))
   open-carried rest handed dropped None own kept = tt

@@ -18,7 +18,8 @@ in-rest x first xs there = (suc there.0, omega (arith, there.1), there.2)
 
 module _ {J : Type 0} {book : Naming J} where
   -- the others are among those that there were
-  pub carries-less : (sent : List SentItems) (old new : Senders J book) (returning : ReturningCall J book)
+  pub carries-less : (sent : List SentItems) (old new : Senders J book)
+      (returning : ReturningCall J book)
       → HandsOver old new returning → CarriesRest sent old → CarriesRest sent new
   carries-less sent old new returning hands carries other id number call =
       carries other id
@@ -32,7 +33,8 @@ module _ {J : Type 0} {book : Naming J} where
       (hands.id, got_of returning.sending.value.sender) (rest_calls new) call))
 
   -- that which is handed over is
-  pub carries-first : (sent : List SentItems) (old new : Senders J book) (returning : ReturningCall J book)
+  pub carries-first : (sent : List SentItems) (old new : Senders J book)
+      (returning : ReturningCall J book)
       → HandsOver old new returning → CarriesRest sent old
       → HasReturned (carried_in sent) returning.sending.value
   carries-first sent old new returning hands carries =

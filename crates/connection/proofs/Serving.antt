@@ -336,7 +336,8 @@ module _ {A B C J N : Type 0} {book : Naming J} {route : Ghosts N} (told : List 
   pub took-own : All IsOwn took
   took-own =
       all-front IsOwn took taken.0
-      (subst (λ (os : List (WriterOrder (OpeningCall J book))). All IsOwn os) (sym closed.put ∙ sym taken.1)
+      (subst (λ (os : List (WriterOrder (OpeningCall J book))). All IsOwn os)
+      (sym closed.put ∙ sym taken.1)
       (All-append IsOwn closed.front (Close ∷ [])
       (all-front IsOwn closed.front closed.dropped closed.own)
       (All-cons IsOwn Close [] tt (All-nil IsOwn))))
@@ -348,7 +349,8 @@ module _ {A B C J N : Type 0} {book : Naming J} {route : Ghosts N} (told : List 
   all-opened =
       sym (opens_of-append (of_orders closed.front) (of_orders closed.dropped))
       ∙ (ap opens_of
-      (sym (map-append (λ (o : WriterOrder (OpeningCall J book)). order_of o) closed.front closed.dropped)
+      (sym (map-append (λ (o : WriterOrder (OpeningCall J book)). order_of o)
+      closed.front closed.dropped)
       ∙ closed.parts)
       ∙ (opens_of-append (orders_by told) (InputEnded ∷ [])
       ∙ (append-nil (opens_of (orders_by told)) ∙ opened-admitted told)))
@@ -356,7 +358,8 @@ module _ {A B C J N : Type 0} {book : Naming J} {route : Ghosts N} (told : List 
   took-opened : opens_of (of_orders took) ++ opens_of (of_orders taken.0) ≡ opened
   took-opened =
       sym (opens_of-append (of_orders took) (of_orders taken.0))
-      ∙ (ap opens_of (sym (map-append (λ (o : WriterOrder (OpeningCall J book)). order_of o) took taken.0)
+      ∙ (ap opens_of
+      (sym (map-append (λ (o : WriterOrder (OpeningCall J book)). order_of o) took taken.0)
       ∙ ap of_orders (taken.1 ∙ closed.put))
       ∙ (ap opens_of
       (map-append (λ (o : WriterOrder (OpeningCall J book)). order_of o) closed.front (Close ∷ []))
@@ -464,7 +467,8 @@ module _ {A B C J N : Type 0} {book : Naming J} {route : Ghosts N} (told : List 
               Contains-append_right (rest_calls rest) (handed_calls all.handed) (id, items) back
         ]
 
-    not-unput : (unput : Option (WriterOrder (OpeningCall J book))) → IfSome unput (Contains closed.dropped)
+    not-unput : (unput : Option (WriterOrder (OpeningCall J book)))
+        → IfSome unput (Contains closed.dropped)
         → (id : ℕ) (items : List OutItem) → Contains (unput_calls unput) (id, items)
         → Contains (opens_of (of_orders took)) id → ⊥
     not-unput None kept id items there took-it = none-in (id, items) there

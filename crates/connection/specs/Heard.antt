@@ -131,7 +131,8 @@ module _ {A B C J M N : Type 0} {book : Naming J} {route : Ghosts N}
       → Orders A B C J N book route → Type 0
   CutsSome ended reading orders reading_new orders_new =
       (reading_new.home ≡ reading.home)
-      × ((sent : List SentItems) (told : List Step) → Reads known names (carried_in sent) told reading
+      × ((sent : List SentItems) (told : List Step)
+      → Reads known names (carried_in sent) told reading
       → (cuts : List Step) × Cuts ended sent told cuts reading_new orders orders_new)
 
   -- Whatever steps were heard before, some steps with these events follow them. They have all of

@@ -19,7 +19,8 @@
 //! - `intake`: the reader's hold on the credit book, `outlet` the writer's.
 //! - `new_workers`: new workers. `orders`: the reader's end of the ring of orders.
 //! - `reader`: the reading thread; `writer`: the writing thread.
-//! - `served_conn`: the report of a connection; `serve`: one connection from its first byte to its last.
+//! - `served_conn`: the report of a connection; `serve`: one connection from its first byte to its
+//!   last.
 //! - `laws`, `credit`, `sent`: laws that follow from the report.
 #![tactic(auto)]
 

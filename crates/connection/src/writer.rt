@@ -488,7 +488,8 @@ where
     };
     let write = move || -> WriterParts<C, J, W>
         ensures name { out_name result.written.orders ≡ out_name writer.writing.inbox.ring }
-        ensures way { in_name result.written.senders.sends.home ≡ in_name writer.writing.sends.home }
+        ensures way { in_name result.written.senders.sends.home
+            ≡ in_name writer.writing.sends.home }
         ensures sent { (before : Option (List ℕ))
             → Led W.contents W.failed before writer.outlet writer.writing
             → HasSent W.contents W.failed before result.announced.amount

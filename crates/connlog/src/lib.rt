@@ -10,8 +10,8 @@
 //! rule with its figures and its text; `fields` and `place`, which field and which byte of a header
 //! block a cause is about; `malformed`, what is wrong with a message; `text`, bytes as a line shows
 //! them; `call`, what is known of a call; `tables` and `known_block`, blocks that were read before;
-//! `json`, objects; `line`, what a line says; then `conn_state` with `client` and `server`, what the
-//! frames of both sides mean, and `observer`.
+//! `json`, objects; `line`, what a line says; then `conn_state` with `client` and `server`, what
+//! the frames of both sides mean, and `observer`.
 #![tactic(auto)]
 
 mod call;

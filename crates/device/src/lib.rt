@@ -8,8 +8,8 @@
 //!   are known, and of the mark.
 //! - `whole`: `read_all` reads to the end of the input, and `write_all` writes all bytes; after a
 //!   fault a prefix of them.
-//! - `std_device`: `StdDevice` makes a device of any reader or writer of std. What a signal interrupts is
-//!   tried again.
+//! - `std_device`: `StdDevice` makes a device of any reader or writer of std. What a signal
+//!   interrupts is tried again.
 #![tactic(auto)]
 
 mod conn;

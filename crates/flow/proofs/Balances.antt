@@ -55,7 +55,16 @@ use Rattle.std.proofs.lemmas.Map.Views.{
   IfSome-lookup_from_All,
 }
 use Rattle.flow.proofs.Entries.{apart-set}
-use Rattle.flow.specs.Windows.{Windows, SharedWindow, balance, IsBalance, IsWithin, Fits, FitsAt, lesser}
+use Rattle.flow.specs.Windows.{
+  Windows,
+  SharedWindow,
+  balance,
+  IsBalance,
+  IsWithin,
+  Fits,
+  FitsAt,
+  lesser,
+}
 
 pub all_fit : (n : ℕ) (bs : List ℤ) → list_all (λ b. int_le (pos n +ℤ b) (pos 2147483647)) bs ≡ true
     → All (λ b. Fits (pos n +ℤ b)) bs

@@ -4,8 +4,8 @@
 //! greatest begun begin nothing. There is no state for skipped streams: what isn't in the map is
 //! idle or skipped, and there the only lawful frame is HEADERS on an odd number above the greatest.
 //! Once 4,096 streams were begun, what comes on an odd number above the greatest is dropped, and
-//! nothing of it is kept. So memory is bounded, whatever a client sends. `HalfState` is public since
-//! contracts see it.
+//! nothing of it is kept. So memory is bounded, whatever a client sends. `HalfState` is public
+//! since contracts see it.
 //!
 //! `cut` requires that the stream was begun. `on` says so for each answer that is neither Discard
 //! nor an error of the connection (clause `begun`).

@@ -4,8 +4,8 @@
 //! `trace::sent_of` reads: what both sides of a connection sent, or one side, as text or as it is.
 //! Two files have a side each.
 //!
-//! Read `file_content` for what files have, `printing` for lines, `captured` for those of a capture, and
-//! `run` for the command.
+//! Read `file_content` for what files have, `printing` for lines, `captured` for those of a
+//! capture, and `run` for the command.
 #![tactic(auto)]
 
 mod captured;

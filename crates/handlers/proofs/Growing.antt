@@ -186,7 +186,8 @@ full judged one messages more ended answer later (inr by) (inr also) =
     let asked =
     one_taken judged one also.0 by.4 also.4
     (subst (λ ms. AreTaken judged ms by.4) place.0 by.5) also.5 in
-    as_replies (flatten by.4) (flatten also.4) answer later (ap (λ (s : MethodStep). s.replies) by.8)
+    as_replies (flatten by.4) (flatten also.4) answer later
+    (ap (λ (s : MethodStep). s.replies) by.8)
     (ap (λ (s : MethodStep). s.replies) also.8)
     ([], ap flatten (sym asked) ∙ sym (append-nil (flatten by.4)))
 

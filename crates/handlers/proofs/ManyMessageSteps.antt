@@ -158,13 +158,15 @@ step_is : (step : MethodStep) (replies : List Reply) → step.replies ≡ replie
     → step ≡ replying replies
 step_is step replies same none =
     ap (λ (r : List Reply). let s : MethodStep = record { replies = r; ends = step.ends } in s) same
-    ∙ ap (λ (e : Option Status). let s : MethodStep = record { replies = replies; ends = e } in s) none
+    ∙ ap (λ (e : Option Status). let s : MethodStep = record { replies = replies; ends = e } in s)
+    none
 
 ended_is : (step : MethodStep) (replies : List Reply) (status : Status) → step.replies ≡ replies
     → step.ends ≡ Some status → step ≡ ending replies status
 ended_is step replies status same ends =
     ap (λ (r : List Reply). let s : MethodStep = record { replies = r; ends = step.ends } in s) same
-    ∙ ap (λ (e : Option Status). let s : MethodStep = record { replies = replies; ends = e } in s) ends
+    ∙ ap (λ (e : Option Status). let s : MethodStep = record { replies = replies; ends = e } in s)
+    ends
 
 -- what one request is answered
 pub one_asks : (judged : List ℕ → Result (List Reply) Status → Type 0) (message : List ℕ)
@@ -268,5 +270,6 @@ pub half_end : (judged : List ℕ → Result (List Reply) Status → Type 0) (me
     → AnswersFull judged messages false held × (given ≡ nothing)
     → AnswersHalf judged messages true (joined given (finished held))
 half_end judged messages given held stands =
-    subst (λ (s : MethodStep). AnswersFull judged messages true (joined s (finished held))) (sym stands.1)
+    subst (λ (s : MethodStep).
+    AnswersFull judged messages true (joined s (finished held))) (sym stands.1)
     (all_finished judged messages held stands.0)

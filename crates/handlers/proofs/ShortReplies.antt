@@ -256,8 +256,10 @@ output_asks =
 
 -- ---- answers
 
-of_same : (answer other : MethodStep) → answer ≡ other → AreShort other.replies → AreShort answer.replies
-of_same answer other same short = subst (λ (step : MethodStep). AreShort step.replies) (sym same) short
+of_same : (answer other : MethodStep) → answer ≡ other → AreShort other.replies
+    → AreShort answer.replies
+of_same answer other same short =
+    subst (λ (step : MethodStep). AreShort step.replies) (sym same) short
 
 none_short : (ended : Bool)
     → AreShort (if ended then ending [] (status_of WrongNumber) else nothing).replies

@@ -127,7 +127,8 @@ EndedBySum judged messages answer =
     × (total : ℕ) × AllAdded judged before total × (status : Status)
     × EndsSum judged total last status × (answer ≡ ending [] status)
 
-abbrev pub AnswersSum : (List ℕ → Result ℕ Status → Type 0) → List (List ℕ) → Bool → MethodStep → Type 0
+abbrev pub AnswersSum : (List ℕ → Result ℕ Status → Type 0) → List (List ℕ) → Bool
+    → MethodStep → Type 0
 AnswersSum judged messages ended answer =
     ((total : ℕ) × AllAdded judged messages total
     × (answer ≡ (if ended then done (SumReply (pos total) ∷ []) else nothing)))
@@ -138,18 +139,21 @@ AnswersSum judged messages ended answer =
 -- A list of messages has at most one answer, if it has ended and if not.
 abbrev pub HasOneAnswer : (List (List ℕ) → Bool → MethodStep → Type 0) → Type 0
 HasOneAnswer answers =
-    (messages : List (List ℕ)) (ended : Bool) (answer other : MethodStep) → answers messages ended answer
+    (messages : List (List ℕ)) (ended : Bool) (answer other : MethodStep)
+    → answers messages ended answer
     → answers messages ended other → answer ≡ other
 
 -- An answer to a list that has ended has a status.
 abbrev pub HasStatusAtEnd : (List (List ℕ) → Bool → MethodStep → Type 0) → Type 0
 HasStatusAtEnd answers =
-    (messages : List (List ℕ)) (answer : MethodStep) → answers messages true answer → IsSome answer.ends
+    (messages : List (List ℕ)) (answer : MethodStep) → answers messages true answer
+    → IsSome answer.ends
 
 -- A list of messages has an answer, if it has ended and if not.
 abbrev pub HasAnswer : (List (List ℕ) → Bool → MethodStep → Type 0) → Type 0
 HasAnswer answers =
-    (messages : List (List ℕ)) (ended : Bool) → (answer : MethodStep) × answers messages ended answer
+    (messages : List (List ℕ)) (ended : Bool)
+    → (answer : MethodStep) × answers messages ended answer
 
 -- The replies to a list that hasn't ended begin the replies to each longer one, if that has ended
 -- and if not.
@@ -176,7 +180,8 @@ pub record IsLawful (answers : List (List ℕ) → Bool → MethodStep → Type 
 -- ---- what a state stands for: the messages of the call so far, to which this was answered
 
 -- the call has its status
-abbrev pub StandsEnded : (List (List ℕ) → Bool → MethodStep → Type 0) → List (List ℕ) → MethodStep → Type 0
+abbrev pub StandsEnded : (List (List ℕ) → Bool → MethodStep → Type 0) → List (List ℕ)
+    → MethodStep → Type 0
 StandsEnded answers messages given =
     (messages ≢ []) × answers messages false given × IsSome given.ends
 

@@ -51,4 +51,5 @@ module _ {T : Type 0} where
   all_on taken taken' put put' out next same_taken same_put same all =
       append_assoc (pieces taken') (got out) (ahead out)
       ∙ (ap (λ us. pieces taken' ++ us) all
-      ∙ ap (λ (us : List (RingStep T)). pieces us ++ put_in next) (same_taken ∙ (same ∙ sym same_put)))
+      ∙ ap (λ (us : List (RingStep T)). pieces us ++ put_in next)
+      (same_taken ∙ (same ∙ sym same_put)))

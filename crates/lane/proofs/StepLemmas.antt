@@ -90,7 +90,8 @@ module _ {T : Type 0} where
     pub way : link ys ≡ Some next
     pub all : length ys ≡ length xs + 1
 
-  link_next : (xs : List (RingStep T)) (next : FreshRing T) → link (xs ++ Next next ∷ []) ≡ Some next
+  link_next : (xs : List (RingStep T)) (next : FreshRing T)
+      → link (xs ++ Next next ∷ []) ≡ Some next
   link_next [] next = refl
   link_next (Piece x ∷ xs) next = link_next xs next
   link_next (Next x ∷ xs) next = ap (λ o. later o x) (link_next xs next)
@@ -183,7 +184,8 @@ module _ {T : Type 0} where
   shifted xs ys known rest all x more is joined =
       ap (λ us. us ++ rest) more ∙ (snoc_append xs rest x ∙ (ap (λ us. xs ++ us) (sym is) ∙ joined))
 
-  pub after_link : {O : Type 0} (out_of : FreshRing T → O) (xs ys : List (RingStep T)) (step : RingStep T)
+  pub after_link : {O : Type 0} (out_of : FreshRing T → O) (xs ys : List (RingStep T))
+      (step : RingStep T)
       (found : Option O)
       → ys ≡ xs ++ step ∷ []
       → found ≡ option_map out_of (link xs) → after out_of step found ≡ option_map out_of (link ys)
@@ -200,7 +202,8 @@ module _ {T : Type 0} where
   ahead_piece None known new item none is = ap (λ us. ahead_of us) is
   ahead_piece (Some out) known new item none is = absurd cc
 
-  pub ahead_next : (next : Option (SecondOut T)) (known new : List (RingStep T)) (fresh : FreshRing T)
+  pub ahead_next : (next : Option (SecondOut T)) (known new : List (RingStep T))
+      (fresh : FreshRing T)
       → next ≡ None → known ≡ Next fresh ∷ new → ahead_at next known ≡ []
   ahead_next None known new fresh none is = ap (λ us. ahead_of us) is
   ahead_next (Some out) known new fresh none is = absurd cc

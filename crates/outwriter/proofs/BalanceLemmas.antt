@@ -78,7 +78,16 @@ use Rattle.flow.specs.WindowHistory.{
   room_after,
 }
 use Rattle.flow.specs.WindowHistory.{Step as WindowStep}
-use Rattle.flow.specs.Windows.{CreditFault, Fits, Meets, SharedWindow, Windows, balance, lesser, room}
+use Rattle.flow.specs.Windows.{
+  CreditFault,
+  Fits,
+  Meets,
+  SharedWindow,
+  Windows,
+  balance,
+  lesser,
+  room,
+}
 use Rattle.flow.proofs.WindowSteps.{
   CanCredit-stream,
   CanResize-fits,
@@ -171,7 +180,8 @@ same-balances (e ∷ es) id w was found same =
     by rest false at = ap (λ (l : List (ℕ × ℤ)). balance_first e.0 e.1.balance l) (rest at)
 
 -- one stream changes, with what all windows share
-pub balance-puts : (from to : SharedWindow) (es : List Entry) (id : ℕ) (w : Stream) (new : List Entry)
+pub balance-puts : (from to : SharedWindow) (es : List Entry) (id : ℕ) (w : Stream)
+    (new : List Entry)
     → PutsEntry es id w new
     → (k : ℕ)
     → balance (windows_of to new) k
@@ -368,7 +378,8 @@ all-fit shared es size low all = (
     by None h = tt
     by (Some s) h = fits-is size s.balance h
 
-pub some-over : (shared : SharedWindow) (es : List Entry) (size : ℕ) → IsDistinct nat_eq (keys_of es)
+pub some-over : (shared : SharedWindow) (es : List Entry) (size : ℕ)
+    → IsDistinct nat_eq (keys_of es)
     → is_some (lookup (nat_eq 0) es) ≡ false
     → list_all (λ (s : Stream). fits_with size s.balance) (values_of es) ≡ false
     → ¬ FitsOn (windows_of shared es) size
@@ -416,7 +427,8 @@ lesser-below connection n (pos m) below = omega (arith, below)
 lesser-below connection n (negsuc m) below = omega (arith, below)
 
 -- nothing is taken
-pub spends-none : (from to : SharedWindow) (was now : Option ℤ) (n : ℕ) → n ≡ 0 → Spends from to was now n
+pub spends-none : (from to : SharedWindow) (was now : Option ℤ) (n : ℕ) → n ≡ 0
+    → Spends from to was now n
     → (to ≡ from) × (now ≡ was)
 spends-none from to None now n none spends = (spends.1, spends.2)
 spends-none from to (Some b) now n none spends = (
@@ -461,7 +473,8 @@ module _ (from to : SharedWindow) (es : List Entry) (id : ℕ) (was now : Stream
         (λ other there.
         balance-puts from to es id now new puts other
         ∙ ap (λ o. if nat_eq other id then o else balance (windows_of from es) other) spends.2)
-        (ap (λ (s : SharedWindow). s.connection) spends.1) (ap (λ (s : SharedWindow). s.initial) spends.1)),
+        (ap (λ (s : SharedWindow). s.connection) spends.1)
+        (ap (λ (s : SharedWindow). s.initial) spends.1)),
   )
 
   pub data-view : (l : NextData) → CutsData id from to was.balance now.balance message rest l

@@ -25,7 +25,8 @@ module _ {S : Type 0} where
   no-concern fault back control is = subst (λ (f : OutFault S). Concerns f control) (sym is) tt
 
   -- with the control a window would be over 2^31 - 1 bytes
-  pub blamed : (old : Outbound) (w : Windows) (id : ℕ) (control given : WriterOrder S) → control ≡ given
+  pub blamed : (old : Outbound) (w : Windows) (id : ℕ) (control given : WriterOrder S)
+      → control ≡ given
       → w ≡ old.states.windows
       → ((history : List WindowStep) → Follows history w → IsTooMuch given history)
       → (run : List Step) → MirrorsOf run old → Blames (PeerWindow id) control run

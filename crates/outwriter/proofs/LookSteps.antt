@@ -67,7 +67,8 @@ use Rattle.outwriter.proofs.StuckSteps.{looks-data, stuck-nothing, stuck-shut}
 -- ---- a stream
 
 module _ {L In Out Shut : Type 0} (got ahead : Out → List OutItem) (id : ℕ) (old : Stream)
-    (from : SharedWindow) (senders : List (ℕ × Sender L In Out Shut)) (before : Option Encoding) where
+    (from : SharedWindow) (senders : List (ℕ × Sender L In Out Shut))
+    (before : Option Encoding) where
   pub next-hand : (new : Stream) (to : SharedWindow) (found_it : MessageInHand) (l : NextData)
       → new.state ≡ old.state → LooksAtStream id old new from to found_it
       → found_it ≡ hand.Message l
@@ -210,7 +211,8 @@ module _ {L In Out Shut : Type 0} where
 
     -- ---- DATA
 
-    message-looks : (l : NextData) (one : SenderItem) → TakesFrames old.outbound.states id → AsksFor one
+    message-looks : (l : NextData) (one : SenderItem)
+        → TakesFrames old.outbound.states id → AsksFor one
         → TakesUp id old.outbound.states states one (found.Message l)
         → Picks got (frame_in l) old after × LooksAt got ahead id l old after
     message-looks l (polled.Message bytes) can asks begins =
@@ -235,7 +237,8 @@ module _ {L In Out Shut : Type 0} where
     message-looks l polled.Nothing can asks up = absurd up
     message-looks l (polled.Block bytes ends) can asks up = absurd up
 
-    pub message-found : (result : NextItem) (l : NextData) → IsNext result → result ≡ found.Message l
+    pub message-found : (result : NextItem) (l : NextData) → IsNext result
+        → result ≡ found.Message l
         → Picks got (frame_in l) old after × LooksAt got ahead id l old after
     message-found result l next is = by (subst IsNext is next)
       where
@@ -254,7 +257,8 @@ module _ {L In Out Shut : Type 0} where
         TakesFrames old.outbound.states id × AsksFor (polled.Block bytes ends)
         × EndsOn id ends old.outbound.states states
 
-    block-of : (bytes : List ℕ) (ends : Bool) (one : SenderItem) → TakesFrames old.outbound.states id
+    block-of : (bytes : List ℕ) (ends : Bool) (one : SenderItem)
+        → TakesFrames old.outbound.states id
         → AsksFor one → TakesUp id old.outbound.states states one (found.Block bytes ends)
         → TakesBlock bytes ends
     block-of bytes ends (polled.Block block ends_it) can asks up =

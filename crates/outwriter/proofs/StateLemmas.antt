@@ -972,7 +972,8 @@ rewritten es id new (inl e) = inl e
 rewritten es id new (inr (was, opened, found, is)) =
     inr (was, record was { opened = opened }, found, refl, is)
 
-pub edit-stands : (connection : ℕ) (sent : SharedWindow) (es : List Entry) (id : ℕ) (new : List Entry)
+pub edit-stands : (connection : ℕ) (sent : SharedWindow) (es : List Entry) (id : ℕ)
+    (new : List Entry)
     → Edits es id new → StandAs (states_of connection sent es) (states_of connection sent new)
 edit-stands connection sent es id new edits =
     rewrite-stands connection sent sent es id new (rewritten es id new edits)
@@ -991,7 +992,8 @@ edit-stands connection sent es id new edits =
         ap balances_of is ∙ same-balances es id (record was { opened = opened }) was found refl
 
 -- but for the windows, all is the same where no more than the balance of a stream is written
-pub balance-stands : (connection : ℕ) (from to : SharedWindow) (es : List Entry) (id : ℕ) (was : Stream)
+pub balance-stands : (connection : ℕ) (from to : SharedWindow) (es : List Entry)
+    (id : ℕ) (was : Stream)
     (kept : Option ℤ) (new : List Entry)
     → lookup (nat_eq id) es ≡ Some was
     → new ≡ set_value (nat_eq id) es (record was { balance = kept })
@@ -1039,7 +1041,8 @@ edit-within connection es owing id new edits w =
     rewrite-within connection es owing id new (rewritten es id new edits) w
 
 -- of the other streams nothing does
-edit-elsewhere : (connection : ℕ) (sent : SharedWindow) (es : List Entry) (id : ℕ) (new : List Entry)
+edit-elsewhere : (connection : ℕ) (sent : SharedWindow) (es : List Entry) (id : ℕ)
+    (new : List Entry)
     → Rewrites es id new → (k : ℕ) → (k == id) ≡ false
     → open_at (states_of connection sent new) k ≡ open_at (states_of connection sent es) k
 edit-elsewhere connection sent es id new (inl e) k apart =
@@ -1056,7 +1059,8 @@ edit-elsewhere connection sent es id new (inr (was, now, found, same, is)) k apa
     by false e = refl
 
 -- what is shown of it is as said, and of the others as before
-pub rewrite-shows : (connection : ℕ) (sent : SharedWindow) (es : List Entry) (id : ℕ) (new : List Entry)
+pub rewrite-shows : (connection : ℕ) (sent : SharedWindow) (es : List Entry) (id : ℕ)
+    (new : List Entry)
     (f : Shown → Shown)
     → Rewrites es id new
     → shown (opened_of (lookup (nat_eq id) new)) ≡ f (shown (opened_of (lookup (nat_eq id) es)))
@@ -1078,7 +1082,8 @@ rewrite-shows connection sent es id new f edits here k = by (k == id) refl
         ∙ ap (λ n. f (shown (opened_of (lookup (nat_eq n) es)))) (sym same)
         ∙ ap (λ o. f (shown o)) (sym (found-open connection sent es k))
 
-pub edit-shows : (connection : ℕ) (sent : SharedWindow) (es : List Entry) (id : ℕ) (new : List Entry)
+pub edit-shows : (connection : ℕ) (sent : SharedWindow) (es : List Entry) (id : ℕ)
+    (new : List Entry)
     (f : Shown → Shown)
     → Edits es id new
     → shown (opened_of (lookup (nat_eq id) new)) ≡ f (shown (opened_of (lookup (nat_eq id) es)))
@@ -1089,7 +1094,8 @@ pub edit-shows : (connection : ℕ) (sent : SharedWindow) (es : List Entry) (id 
 edit-shows connection sent es id new f edits here =
     rewrite-shows connection sent es id new f (rewritten es id new edits) here
 
-pub edit-closes : (connection : ℕ) (sent : SharedWindow) (es : List Entry) (id : ℕ) (new : List Entry)
+pub edit-closes : (connection : ℕ) (sent : SharedWindow) (es : List Entry) (id : ℕ)
+    (new : List Entry)
     → Edits es id new → opened_of (lookup (nat_eq id) new) ≡ None
     → Closes id (open_at (states_of connection sent es)) (open_at (states_of connection sent new))
 edit-closes connection sent es id new edits none k = by (k == id) refl
@@ -1522,7 +1528,8 @@ module _ (connection : ℕ) (sent : SharedWindow) (es : List Entry) (owing id : 
       → PutsEntry es id now new
   puts-there new now is = subst (PutsEntry es id now) (sym is) (put-there es id now was found)
 
-  begins-there : (new : List Entry) (now : Stream) (to : SharedWindow) (message : List ℕ) (l : NextData)
+  begins-there : (new : List Entry) (now : Stream) (to : SharedWindow)
+      (message : List ℕ) (l : NextData)
       → Rewrites es id new → new ≡ set_value (nat_eq id) es now
       → BeginsOnStream id was now sent to message l
       → BeginsMessage id (states_of connection sent es) (states_of connection to new) message l
@@ -1572,7 +1579,8 @@ module _ (connection : ℕ) (sent : SharedWindow) (es : List Entry) (owing id : 
         put-closes sent es id now new (puts-there new now is) closed,
       )
 
-  takes-there : (new : List Entry) (now : Stream) (to : SharedWindow) (one : SenderItem) (result : NextItem)
+  takes-there : (new : List Entry) (now : Stream) (to : SharedWindow) (one : SenderItem)
+      (result : NextItem)
       → new ≡ set_value (nat_eq id) es now
       → TakesUpStream id was now sent to one result
       → TakesUp id (states_of connection sent es) (states_of connection to new) one result
@@ -1636,7 +1644,8 @@ next-view got ahead connection sent es owing id new to senders left before after
     by None none (is, same, window, asks) = inl (
       inr (found-open connection sent es id ∙ ap opened_of none),
       is,
-      ap (λ (x : SharedWindow). states_of connection x new) window ∙ ap (states_of connection sent) same,
+      ap (λ (x : SharedWindow). states_of connection x new) window
+          ∙ ap (states_of connection sent) same,
       asks,
     )
     by (Some was) found (now, is, next) = on was now found is next

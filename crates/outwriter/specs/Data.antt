@@ -66,7 +66,8 @@ Spends from to (Some b) new n =
     × (to ≡ record from { connection = from.connection - n }) × (new ≡ Some (b -ℤ pos n))
 
 -- DATA of a front of a message, by what all windows share and the balance of the stream's
-abbrev pub CutsData : ℕ → SharedWindow → SharedWindow → Option ℤ → Option ℤ → List ℕ → List ℕ → NextData → Type 0
+abbrev pub CutsData : ℕ → SharedWindow → SharedWindow → Option ℤ → Option ℤ → List ℕ → List ℕ
+    → NextData → Type 0
 CutsData id from to old new message rest (looked.Frame frame) =
     (front : List ℕ) × (message ≡ front ++ rest) × (frame ≡ data_frame id front)
     × (0 < length front) × (length front ≤ 16384)
@@ -89,7 +90,8 @@ LooksAtOpen id old new from to was now (hand.Message found) =
     × CutsData id from to was now message rest found
 
 -- what a look at the message in hand of a stream finds
-abbrev pub LooksAtStream : ℕ → Stream → Stream → SharedWindow → SharedWindow → MessageInHand → Type 0
+abbrev pub LooksAtStream : ℕ → Stream → Stream → SharedWindow → SharedWindow
+    → MessageInHand → Type 0
 LooksAtStream id old new from to hand.Shut =
     (new ≡ old) × (to ≡ from) × ((can_write old.state ≡ false) ⊎ (old.opened ≡ None))
 LooksAtStream id old new from to (hand.Empty place) =
@@ -102,7 +104,8 @@ LooksAtStream id old new from to (hand.Message found) = (can_write old.state ≡
 
 -- what is found of a message that begins or goes on, whose rest is in hand then, if the stream is
 -- open
-abbrev pub BeginsOnStream : ℕ → Stream → Stream → SharedWindow → SharedWindow → List ℕ → NextData → Type 0
+abbrev pub BeginsOnStream : ℕ → Stream → Stream → SharedWindow → SharedWindow → List ℕ
+    → NextData → Type 0
 BeginsOnStream id old new from to message found =
     (rest : List ℕ) × (shown new.opened ≡ with_hand (kept rest) (shown old.opened))
     × CutsData id from to old.balance new.balance message rest found

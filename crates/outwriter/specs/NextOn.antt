@@ -47,7 +47,8 @@ EndsStream true old new =
 EndsStream false old new = new ≡ old
 
 -- what is written: nothing; DATA of a message, whose rest is in hand then; or a header block
-abbrev pub TakesUpStream : ℕ → Stream → Stream → SharedWindow → SharedWindow → SenderItem → NextItem → Type 0
+abbrev pub TakesUpStream : ℕ → Stream → Stream → SharedWindow → SharedWindow → SenderItem
+    → NextItem → Type 0
 TakesUpStream id old new from to polled.Nothing found.Nothing = (new ≡ old) × (to ≡ from)
 TakesUpStream id old new from to (polled.Message bytes) (found.Message l) =
     (new.state ≡ old.state) × BeginsOnStream id old new from to bytes l

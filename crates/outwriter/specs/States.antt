@@ -325,7 +325,8 @@ fits_with size None = true
 fits_with size (Some b) = int_le (pos size +ℤ b) (pos MAX_WINDOW)
 
 -- it is credited, or isn't open, or would be larger than 2^31 - 1
-abbrev pub CreditsStream : SharedWindow → Option ℤ → Option ℤ → ℕ → Result (Unit {0}) WindowFault → Type 0
+abbrev pub CreditsStream : SharedWindow → Option ℤ → Option ℤ → ℕ
+    → Result (Unit {0}) WindowFault → Type 0
 CreditsStream shared None new n answer = (new ≡ None) × (answer ≡ Err Unknown)
 CreditsStream shared (Some b) new n (Ok done) =
     (new ≡ Some (b +ℤ pos n)) × FitsWindow ((pos shared.initial +ℤ b) +ℤ pos n)

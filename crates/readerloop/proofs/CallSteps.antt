@@ -200,7 +200,8 @@ module _ {J : Type 0} {book : Ghosts J} {known : ℕ → List (List ℕ) → Boo
       (λ half. fed-half id counted (since id told) piece old new there closing taken half) is
 
   -- its half is as it was
-  pub call-same : (told : List Step) (id method : ℕ) (number : CallNumber J book) (old new : HalfView)
+  pub call-same : (told : List Step) (id method : ℕ) (number : CallNumber J book)
+      (old new : HalfView)
       (finished : Option (FinishedJob J book)) (returning : Option (ReturningCall J book))
       → new ≡ old
       → IsCallOf known names carries told id method number old finished returning

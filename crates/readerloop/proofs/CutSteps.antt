@@ -41,7 +41,12 @@ use Rattle.handlers.specs.declared.step.MethodStep.{MethodStep as Answer}
 use Rattle.account.specs.declared.call.OutItem.{OutItem}
 use Rattle.readerloop.specs.declared.call.Call.{Call}
 use Rattle.readerloop.specs.declared.feeder_half.FeederHalf.{FeederHalf}
-use Rattle.readerloop.specs.declared.feeder_half.FeederHalf.TheVariants.{Open, Shut as Closed, Missed, Moving}
+use Rattle.readerloop.specs.declared.feeder_half.FeederHalf.TheVariants.{
+  Open,
+  Shut as Closed,
+  Missed,
+  Moving,
+}
 use Rattle.readerloop.specs.Calls.{IsCall}
 use Rattle.readerloop.specs.Halves.{is_closed, is_open, shown}
 use Rattle.readerloop.specs.Kept.{AreCut, fed_but, fed_in, ids_of}

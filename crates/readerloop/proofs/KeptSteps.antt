@@ -89,7 +89,12 @@ use Rattle.readerloop.specs.Calls.{IsCall, Rises, is_admitted}
 use Rattle.readerloop.specs.Concerns.{Concerns, IsIdle}
 use Rattle.readerloop.specs.declared.calls.Calls.{Calls}
 use Rattle.readerloop.specs.declared.feeder_half.FeederHalf.{FeederHalf}
-use Rattle.readerloop.specs.declared.feeder_half.FeederHalf.TheVariants.{Open, Shut as Closed, Missed, Moving}
+use Rattle.readerloop.specs.declared.feeder_half.FeederHalf.TheVariants.{
+  Open,
+  Shut as Closed,
+  Missed,
+  Moving,
+}
 use Rattle.readerloop.specs.Kept.{
   AreKept,
   IsFresh,

@@ -283,7 +283,8 @@ module _ {J M : Type 0} {book : Ghosts J} {known : ℕ → List (List ℕ) → B
     closes = closes;
   }
 
-  pub shuts-awaited : (told : List Step) (step : Step) (cut : HalfToShut) (old new : Reading J M book)
+  pub shuts-awaited : (told : List Step) (step : Step) (cut : HalfToShut)
+      (old new : Reading J M book)
       → new.is_draining ≡ old.is_draining → new.last ≡ old.last → new.begun ≡ old.begun
       → new.peer_goaway ≡ old.peer_goaway
       → (Concerns cut.id step → closing_at cut.id step ≡ Some (ShutAs cut.kind)
@@ -324,7 +325,8 @@ module _ {J M : Type 0} {book : Ghosts J} {known : ℕ → List (List ℕ) → B
 
   -- ---- what is decided
 
-  stands-none : (told : List Step) (step : Step) (cut : Option HalfToShut) (reading : Reading J M book)
+  stands-none : (told : List Step) (step : Step) (cut : Option HalfToShut)
+      (reading : Reading J M book)
       → cut ≡ None → Reads known names carries (step ∷ told) reading
       → Stands known names carries told step cut reading
   stands-none told step cut reading none reads =
@@ -336,12 +338,14 @@ module _ {J M : Type 0} {book : Ghosts J} {known : ℕ → List (List ℕ) → B
       → found ≡ Some cut → Awaits known names carries told step cut reading
       → Stands known names carries told step found reading
   stands-some told step found cut reading some awaits =
-      subst (λ (c : Option HalfToShut). Stands known names carries told step c reading) (sym some) awaits
+      subst (λ (c : Option HalfToShut).
+      Stands known names carries told step c reading) (sym some) awaits
 
   -- no half is to be shut
   pub decides-now : (told : List Step) (step : Step) (decided : Decision J book)
       (reading : Reading J M book)
-      → orders_in decided ≡ orders_at told step → decided.ends ≡ ends_at step → decided.to_shut ≡ None
+      → orders_in decided ≡ orders_at told step → decided.ends ≡ ends_at step
+      → decided.to_shut ≡ None
       → Reads known names carries (step ∷ told) reading
       → Decides known names carries told step decided reading
   decides-now told step decided reading orders ends none reads = record {

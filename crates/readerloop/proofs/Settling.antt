@@ -42,7 +42,12 @@ use Rattle.handlers.specs.declared.step.MethodStep.{MethodStep as Answer}
 use Rattle.lane.specs.RingLane.{got, put_shut}
 use Rattle.readerloop.specs.declared.call.Call.{Call}
 use Rattle.readerloop.specs.declared.feeder_half.FeederHalf.{FeederHalf}
-use Rattle.readerloop.specs.declared.feeder_half.FeederHalf.TheVariants.{Open, Shut as Closed, Missed, Moving}
+use Rattle.readerloop.specs.declared.feeder_half.FeederHalf.TheVariants.{
+  Open,
+  Shut as Closed,
+  Missed,
+  Moving,
+}
 use Rattle.readerloop.specs.Calls.{HasAnswered, IsCall, IsCallOf, is_over}
 use Rattle.readerloop.specs.Halves.{is_closed, shown}
 use Rattle.readerloop.specs.Reports.{IsSettled}
@@ -107,7 +112,8 @@ module _ {J : Type 0} {book : Ghosts J} where
       → found ≡ Some returning → number.value ≡ returning.sending.value.number.value
   one-sent number found returning one is =
       sym (subst (λ (o : Option (ReturningCall J book)).
-      unwrap_or (option_map (λ (r : ReturningCall J book). r.sending.value.number.value) o) number.value
+      unwrap_or (option_map (λ (r : ReturningCall J book).
+      r.sending.value.number.value) o) number.value
       ≡ number.value) is one)
 
 module _ {J : Type 0} {book : Ghosts J} {known : ℕ → List (List ℕ) → Bool → Answer → Type 0} where
@@ -138,7 +144,8 @@ module _ {J : Type 0} {book : Ghosts J} {known : ℕ → List (List ℕ) → Boo
       → slice_get number.seen.log number.value
       ≡ slice_get returning.sending.value.number.seen.log returning.sending.value.number.value
       → option_map (λ s. got s.rx) returning.sending.value.sender ≡ Some sent
-      → ((messages : List (List ℕ)) → TakesMessages (got finished.taker.rx) finished.taker.progress messages
+      → ((messages : List (List ℕ))
+      → TakesMessages (got finished.taker.rx) finished.taker.progress messages
       → CountsIn (pieces_of (shown half).items) (shut_in (shown half).closing) messages
       finished.taker.progress.told input)
       → CountsOut (put_shut finished.given.shut) sent output
@@ -256,7 +263,8 @@ module _ {J : Type 0} {book : Ghosts J} {known : ℕ → List (List ℕ) → Boo
       → slice_get call.number.seen.log call.number.value
       ≡ slice_get inner.number.seen.log inner.number.value)
       → (shown call.half).items ≡ items → shut_in (shown call.half).closing ≡ shut
-      → ((messages : List (List ℕ)) → TakesMessages (got finished.taker.rx) finished.taker.progress messages
+      → ((messages : List (List ℕ))
+      → TakesMessages (got finished.taker.rx) finished.taker.progress messages
       → CountsIn (pieces_of items) shut messages finished.taker.progress.told input)
       → CountsOut (put_shut finished.given.shut) (got sender.rx) output
       → IsCall known names carries told call
@@ -281,7 +289,8 @@ module _ {J : Type 0} {book : Ghosts J} {known : ℕ → List (List ℕ) → Boo
       slice_get call.number.seen.log call.number.value
       ≡ slice_get s.number.seen.log s.number.value) is_inner
       (sent (one ∙ ap (λ (s : SendingEnd J book). s.number.value) (sym is_inner))))
-      (ap (λ (s : SendingEnd J book). option_map (λ (o : OutSender). got o.rx) s.sender) (sym is_inner)
+      (ap (λ (s : SendingEnd J book).
+      option_map (λ (o : OutSender). got o.rx) s.sender) (sym is_inner)
       ∙ ap (λ (o : Option OutSender). option_map (λ (x : OutSender). got x.rx) o) is_sender)
       (λ messages took.
       counts-as (shown call.half).items items (shut_in (shown call.half).closing) shut messages

@@ -31,14 +31,16 @@ slice_get-set (y ∷ ys) zero x there = refl
 slice_get-set (y ∷ ys) (suc i) x there = slice_get-set ys i x (omega (arith, there))
 
 module _ {J M : Type 0} {book : Ghosts J} where
-  pub places-set : (seats : List (WorkerHandle J M book)) (number : ℕ) (seat : WorkerHandle J M book)
+  pub places-set : (seats : List (WorkerHandle J M book)) (number : ℕ)
+      (seat : WorkerHandle J M book)
       → number < length seats → HasPlaces seat
       → IsSomeAnd (slice_get (set seats number seat) number) HasPlaces
   places-set seats number seat there has =
       subst (λ (found : Option (WorkerHandle J M book)). IsSomeAnd found HasPlaces)
       (sym (slice_get-set seats number seat there)) has
 
-  pub places-found : (seats : List (WorkerHandle J M book)) (number : ℕ) (seat : WorkerHandle J M book)
+  pub places-found : (seats : List (WorkerHandle J M book)) (number : ℕ)
+      (seat : WorkerHandle J M book)
       → number < length seats → seat ≡ get_or seats number seat
       → IsSomeAnd (slice_get seats number) HasPlaces → HasPlaces seat
   places-found seats number seat there is has =

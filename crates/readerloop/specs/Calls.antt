@@ -86,7 +86,8 @@ carried_in sent id items = Contains sent (record { id = id; items = items })
 
 module _ {J : Type 0} {book : Ghosts J} where
   -- its worker answered what its client asked for
-  abbrev pub HasAnswered : (ℕ → List (List ℕ) → Bool → Answer → Type 0) → FinishedJob J book → Type 0
+  abbrev pub HasAnswered : (ℕ → List (List ℕ) → Bool → Answer → Type 0)
+      → FinishedJob J book → Type 0
   HasAnswered known finished =
       AnswersAt known finished.number.seen.log finished.number.value (got finished.taker.rx)
       finished.taker.progress (put_shut finished.given.shut) finished.status

@@ -21,7 +21,12 @@ use Rattle.callbox.specs.declared.piece.InPiece.TheVariants as in_piece
 use Rattle.callbox.specs.InSides.{bytes_of, pieces_of}
 use Rattle.lane.specs.RingLane.{LaneName, in_name, put_in, put_shut, shut_name}
 use Rattle.readerloop.specs.declared.feeder_half.FeederHalf.{FeederHalf}
-use Rattle.readerloop.specs.declared.feeder_half.FeederHalf.TheVariants.{Open, Shut as Closed, Missed, Moving}
+use Rattle.readerloop.specs.declared.feeder_half.FeederHalf.TheVariants.{
+  Open,
+  Shut as Closed,
+  Missed,
+  Moving,
+}
 use Rattle.readerloop.specs.Steps.{Closing, Misses, ShutAs, Step, closing_by, fed_by}
 
 -- ---- what a half shows

@@ -140,8 +140,8 @@ news_of (controls.Settings settings) = Settings settings
 news_of (controls.Ping bytes) = Ping bytes
 news_of (controls.Window id increment) = Window id increment
 
--- A call that isn't admitted is reset as not begun. For want of memory the connection ends, and also
--- where an id isn't greater than those before it (RFC 9113, section 5.1.1).
+-- A call that isn't admitted is reset as not begun. For want of memory the connection ends, and
+-- also where an id isn't greater than those before it (RFC 9113, section 5.1.1).
 abbrev pub turned_away : ℕ → ℕ → AdmitFault → Order
 turned_away last id refused.TooMany = Reset id RefusedStream true
 turned_away last id refused.Draining = Reset id RefusedStream true

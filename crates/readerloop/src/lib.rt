@@ -9,7 +9,8 @@
 //! how they close it, `specs/Orders.antt` exactly which orders they lead to, and
 //! `specs/Reports.antt` what the account of a call rests on.
 //!
-//! - `feeder_half`: the half of a call that its client sends; `call`: one call; `calls`: all of them.
+//! - `feeder_half`: the half of a call that its client sends; `call`: one call; `calls`: all of
+//!   them.
 //! - `worker_pool`: the workers, each by a ring of tasks and a ring of finished calls.
 //! - `reading`: what is decided of each event; `decision`: the form of a decision; `laws`: what
 //!   follows from the definitions.

@@ -4,7 +4,8 @@
 //! and how it is closed. Each function here does what they say of one step, and no more.
 //!
 //! An order that resets a stream is to be put before its call sees the reset. So a decision names
-//! the half that it shuts (`Decision::to_shut`), and `Reading::shut` shuts it once the order was put.
+//! the half that it shuts (`Decision::to_shut`), and `Reading::shut` shuts it once the order was
+//! put.
 
 ghost use Rattle.std.specs.Prelude.{
   ◌≡◌,

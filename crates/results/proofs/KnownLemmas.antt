@@ -79,7 +79,8 @@ pub contains_one : (x y : List ℕ) → Contains (x ∷ []) y → x ≡ y
 contains_one x y (zero, lt, e) = e
 contains_one x y (suc k, lt, e) = absurd (omega arith)
 
-named_at : (first : KnownFailure) (all : List KnownFailure) (name : List ℕ) (known : KnownFailure) (b : Bool)
+named_at : (first : KnownFailure) (all : List KnownFailure) (name : List ℕ)
+    (known : KnownFailure) (b : Bool)
     → has_name name first ≡ b
     → cond b (Some first) (find (has_name name) all) ≡ Some known
     → (find (has_name name) all ≡ Some known → Contains (names (map entry all)) name)
@@ -97,7 +98,8 @@ named_some [] name known found = absurd (none-some known found)
 named_some (first ∷ all) name known found =
     named_at first all name known (has_name name first) refl found (named_some all name known)
 
-unnamed_at : (first : KnownFailure) (all : List KnownFailure) (name : List ℕ) (b : Bool) → has_name name first ≡ b
+unnamed_at : (first : KnownFailure) (all : List KnownFailure) (name : List ℕ) (b : Bool)
+    → has_name name first ≡ b
     → cond b (Some first) (find (has_name name) all) ≡ None
     → (find (has_name name) all ≡ None → Contains (names (map entry all)) name → ⊥)
     → Contains (names (map entry (first ∷ all))) name → ⊥
@@ -159,7 +161,8 @@ pub nothing_more : (before : List Entry) (line : List ℕ) → None ≡ entry_of
 nothing_more before line none =
     sym (ap (λ (more : Option Entry). before ++ cons_option more []) (sym none) ∙ append-nil before)
 
-pub one_more : (before after : List KnownFailure) (line : List ℕ) (known : KnownFailure) (found : Entry)
+pub one_more : (before after : List KnownFailure) (line : List ℕ)
+    (known : KnownFailure) (found : Entry)
     → Some found ≡ entry_of line → entry known ≡ found
     → after ≡ before ++ known ∷ [] → map entry after ≡ map entry before ++ entries (line ∷ [])
 one_more before after line known found some same pushed =
@@ -168,7 +171,8 @@ one_more before after line known found some same pushed =
     (ap (λ (one : Entry). one ∷ []) same ∙ ap (λ (more : Option Entry). cons_option more []) some))
 
 -- and is right
-pub good_more : (before after : List KnownFailure) (known : KnownFailure) (found : Entry) → entry known ≡ found
+pub good_more : (before after : List KnownFailure) (known : KnownFailure) (found : Entry)
+    → entry known ≡ found
     → IsRightAfter (map entry before) found
     → after ≡ before ++ known ∷ [] → AreGood (map entry before) → AreGood (map entry after)
 good_more before after known found same right pushed good =

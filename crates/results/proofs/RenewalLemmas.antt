@@ -77,7 +77,8 @@ named_same name [] = refl
 named_same name (first ∷ all) = ap (λ (b : Bool). has_name name first || b) (named_same name all)
 
 pub lines_same : (all : List KnownFailure)
-    → flat_map (λ (known : KnownFailure). line_of (entry known)) all ≡ flat_map line_of (map entry all)
+    → flat_map (λ (known : KnownFailure). line_of (entry known)) all
+    ≡ flat_map line_of (map entry all)
 lines_same [] = refl
 lines_same (first ∷ all) = ap (λ (text : List ℕ). line_of (entry first) ++ text) (lines_same all)
 

@@ -4,8 +4,8 @@
 //! - `outcome`, `words`: what came of a case, and the words for it.
 //! - `standing`: what is said of an outcome beside a list of known failures, and whether it fails
 //!   the run.
-//! - `known_failure`: that list, as it is read from a file; `renewal`: the one after a run, as it is
-//!   written to one.
+//! - `known_failure`: that list, as it is read from a file; `renewal`: the one after a run, as it
+//!   is written to one.
 //! - `pattern`, `choice`: which cases a command line chooses by their names.
 //! - `summary`: how many cases ended in which way, and the line that says so.
 //! - `cause`: why a case isn't ok, in one line, and in more.

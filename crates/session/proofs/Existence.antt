@@ -377,7 +377,8 @@ Between entries rest = (now : Situation) → Outcome now entries rest
 
 abbrev Inside : List Entry → List ℕ → Type 0
 Inside entries rest =
-    (now : Situation) (frames : List Frame) (block : PendingBlock) → IsBegun now.history frames block
+    (now : Situation) (frames : List Frame) (block : PendingBlock)
+    → IsBegun now.history frames block
     → block.whole ≡ false → AreBytes block.block → Outcome now (map Whole frames ++ entries) rest
 
 -- the frames of a header block, whole or not

@@ -49,7 +49,8 @@ marks_push (first ∷ []) frame marks = (marks, refl)
 marks_push (first ∷ second ∷ frames) frame marks =
     (marks.0, marks_push (second ∷ frames) frame marks.1)
 
-pub collects_more : (frames : List Frame) (old new : PendingBlock) (frame : Frame) → Collects frames old
+pub collects_more : (frames : List Frame) (old new : PendingBlock) (frame : Frame)
+    → Collects frames old
     → old.whole ≡ false → IsContinuation old.head.stream frame
     → new.head ≡ old.head → new.block ≡ old.block ++ frame.content
     → new.whole ≡ has end_headers frame.head.flags → length new.block ≤ 65536

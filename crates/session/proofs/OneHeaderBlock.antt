@@ -87,7 +87,8 @@ marks_end (f ∷ g ∷ fs) m mid ended a b = marks_end (g ∷ fs) m mid ended a.
 
 -- ---- what is kept of a block
 
-same_pending : (a b : PendingBlock) → a.head ≡ b.head → a.block ≡ b.block → a.whole ≡ b.whole → a ≡ b
+same_pending : (a b : PendingBlock) → a.head ≡ b.head → a.block ≡ b.block
+    → a.whole ≡ b.whole → a ≡ b
 same_pending a b head block whole =
     ap (λ (h : FrameHead). pending_of h a.block a.whole) head
     ∙ ap (λ (t : List ℕ). pending_of b.head t a.whole) block
@@ -99,7 +100,8 @@ same_pending a b head block whole =
 first_frame : (f g : Frame) (fs gs : List Frame) → f ∷ fs ≡ g ∷ gs → (f ≡ g) × (fs ≡ gs)
 first_frame f g fs gs e = (cc, cc)
 
-pub collects_one : (fs gs : List Frame) (a b : PendingBlock) → Collects fs a → Collects gs b → fs ≡ gs
+pub collects_one : (fs gs : List Frame) (a b : PendingBlock) → Collects fs a
+    → Collects gs b → fs ≡ gs
     → a.whole ≡ b.whole → a ≡ b
 collects_one fs gs a b c d same whole =
     let first = first_frame c.first d.first c.others d.others (sym c.parts ∙ same ∙ d.parts) in

@@ -160,7 +160,8 @@ number_heads : (i j : ℕ) (x y : List Entry) → NoIncrement i ∷ x ≡ NoIncr
 number_heads i j x y e = (cc, cc)
 
 -- END_HEADERS is on the last frame of a whole block alone
-ends_inside : (frames others : List Frame) (m : Frame) (mid : List Frame) (block other : PendingBlock)
+ends_inside : (frames others : List Frame) (m : Frame) (mid : List Frame)
+    (block other : PendingBlock)
     → Collects frames block → Collects others other → block.whole ≡ true
     → others ≡ frames ++ m ∷ mid → ⊥
 ends_inside frames others m mid block other c d whole e =

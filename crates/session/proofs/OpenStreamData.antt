@@ -131,7 +131,8 @@ closed_headers Ended head closed kind = λ (e : on_begun Ended head ≡ Open).
     let wrong : StreamError StreamClosed ≡ Open = sym (ap on_ended kind) ∙ e in cc
 closed_headers Reset head closed kind = λ (e : Discard ≡ Open). cc
 
-closed_here : (id : ℕ) (old new : Situation) (group : Group) (given : List InEvent) (now : HalfState)
+closed_here : (id : ℕ) (old new : Situation) (group : Group)
+    (given : List InEvent) (now : HalfState)
     → GroupGives old group given new → nat_eq id (stream_at group) ≡ true
     → half_at old.history id ≡ Some now → IsClosed (Some now) → IsSilent id given
 closed_here id old new (Single frame) given now (gives, same) on at closed =

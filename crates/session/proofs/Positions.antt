@@ -278,7 +278,8 @@ first_credit Between entries id rest before old new streams kept is leads e = ab
 first_credit (Inside block judged) entries id rest before old new streams kept is
     leads e = absurd cc
 
-pub inner_credit : (at : Position) (block : PendingBlock) (judged : FrameAction) (entries : List Entry)
+pub inner_credit : (at : Position) (block : PendingBlock) (judged : FrameAction)
+    (entries : List Entry)
     (id : ℕ) (rest : List ℕ) (before old new : List InEvent) (streams : Streams)
     (kept : Option Table)
     → at ≡ Inside block judged → Leads entries (before ++ old) at streams kept

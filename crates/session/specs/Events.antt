@@ -69,7 +69,8 @@ entries_of (Credit id) = NoIncrement id ∷ []
 entries_of (Block frames block) = map Whole frames
 
 -- the frames of a header block, whole or not, whose HEADERS are no error of the connection
-pub record IsBegun (history : List Event) (frames : List Frame) (block : PendingBlock) : Type 0 where
+pub record IsBegun (history : List Event) (frames : List Frame)
+    (block : PendingBlock) : Type 0 where
   pub collects : Collects frames block
   pub lawful : is_connection_error (verdict history block.head) ≡ false
 

@@ -194,7 +194,8 @@ no_preface bytes none text more (Rest rest) e is = absurd is
 
 -- ---- lists of items
 
-pub cut_join : (first next last : SideStage) (bytes rest piece left : List ℕ) (items others : List Item)
+pub cut_join : (first next last : SideStage) (bytes rest piece left : List ℕ)
+    (items others : List Item)
     → Cut first bytes items next rest → Cut next (rest ++ piece) others last left
     → Cut first (bytes ++ piece) (items ++ others) last left
 cut_join first next last bytes rest piece left [] others (same, e) cut =
@@ -212,8 +213,13 @@ cut_join first next last bytes rest piece left (item ∷ items) others
 pub cut_push : (first next : SideStage) (bytes rest left : List ℕ) (items : List Item) (item : Item)
     → Cut first bytes items next rest → Takes next rest item left
     → Cut first bytes (items ++ item ∷ []) InFrames left
-cut_push first next bytes rest left [] item (same, e) (text, parts, spells) =
-    (text, left, sym e ∙ parts, subst (λ (s : SideStage). Spells s text item) same spells, (refl, refl))
+cut_push first next bytes rest left [] item (same, e) (text, parts, spells) = (
+  text,
+  left,
+  sym e ∙ parts,
+  subst (λ (s : SideStage). Spells s text item) same spells,
+  (refl, refl),
+)
 cut_push first next bytes rest left (thing ∷ items) item (text, more, parts, spells, cut) takes =
     (text, more, parts, spells, cut_push InFrames next more rest left items item cut takes)
 
@@ -235,7 +241,8 @@ one_cut first next last bytes rest left [] (thing ∷ others) (same, e) unfinish
 one_cut first next last bytes rest left (item ∷ items) [] (text, more, parts, spells, cut)
     unfinished (same, e) open_ =
     absurd
-    (open_ text more item (e ∙ parts) (subst (λ (s : SideStage). Spells s text item) (sym same) spells))
+    (open_ text more item (e ∙ parts)
+    (subst (λ (s : SideStage). Spells s text item) (sym same) spells))
 one_cut first next last bytes rest left (item ∷ items) (thing ∷ others) (text, more, e, spells, cut)
     unfinished (other, further, f, has, goes) open_ =
     let same = one_item first bytes text more other further item thing e spells f has in

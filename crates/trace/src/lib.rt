@@ -13,9 +13,9 @@
 //! to read the file and to write the text.
 //!
 //! Read `item` for what bytes are cut into, `cutter` for the cutting; `content`, `blocks`,
-//! `spelling`, `messages`, `windows` and `streams` for what is known of a connection, `frame_meaning` and
-//! `trace_state` for what a frame means, `tracing` for the lines; `names`, `text` and `line` for how they
-//! are written; `input` and `report` for files.
+//! `spelling`, `messages`, `windows` and `streams` for what is known of a connection,
+//! `frame_meaning` and `trace_state` for what a frame means, `tracing` for the lines; `names`,
+//! `text` and `line` for how they are written; `input` and `report` for files.
 #![tactic(auto)]
 
 mod blocks;

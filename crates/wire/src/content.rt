@@ -1,7 +1,7 @@
 //! What frames carry, as the rows spell it.
 //!
-//! Words with blanks between them, each of which adds bytes. A N is an amount (`server_settings`): a
-//! number, or one that is taken from what the server announced, as `frame+1`.
+//! Words with blanks between them, each of which adds bytes. A N is an amount (`server_settings`):
+//! a number, or one that is taken from what the server announced, as `frame+1`.
 //!
 //! - `0801`: these bytes, in hexadecimal; `00*N`: N times.
 //! - `te=trailers`: a field of a header block, without indexing and with its name spelled out (RFC

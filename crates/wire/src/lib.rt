@@ -6,10 +6,10 @@
 //! one and answers what came of it; `every_case` has all, and `text_of` the lines that are printed
 //! of one; `list` prints what there is.
 //!
-//! Read `group` and `case` for what a case is; `server_settings` for what it takes from the server's
-//! SETTINGS; `content`, `frame` and `step` for what is sent; `reaction` and `seen_frames` for what comes
-//! back and how it is judged; `server` and `talk` for the connection, `engine` for one try and
-//! `run` for one case; `verdict`, `outcome`, `report` and `every` for all of them.
+//! Read `group` and `case` for what a case is; `server_settings` for what it takes from the
+//! server's SETTINGS; `content`, `frame` and `step` for what is sent; `reaction` and `seen_frames`
+//! for what comes back and how it is judged; `server` and `talk` for the connection, `engine` for
+//! one try and `run` for one case; `verdict`, `outcome`, `report` and `every` for all of them.
 //! `specs/Verdicts.antt` says which verdict tries lead to.
 #![tactic(auto)]
 

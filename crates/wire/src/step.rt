@@ -25,8 +25,8 @@
 //! - `rounds N`: a try goes over N connections, one after another, and fails at the first over
 //!   which the case does. It is for what a server does only sometimes.
 //! - `needs NAME at least N`, `needs NAME at most N`: if the server's setting of this name
-//!   (`server_settings`) isn't so, the case is not applicable. A setting that wasn't announced has its
-//!   initial value; without one it counts as at least any number, and as at most none.
+//!   (`server_settings`) isn't so, the case is not applicable. A setting that wasn't announced has
+//!   its initial value; without one it counts as at least any number, and as at most none.
 //! - `control REACTION and REACTION ..`: the case is first tried without its fault, over a
 //!   connection of its own: lines and words that begin with `!` are left out (`content`), and those
 //!   that begin with `~` stand there alone. Where these reactions don't all come then, the case is

@@ -130,7 +130,8 @@ module _ {J : Type 0} {naming : Ghosts J} where
       ∙ (ap (λ (all : List (ℕ × Option LaneName)). length all) aligned ∙ length-map core key-of)
 
   -- what stands at a place
-  same-key : (sent : List (SendingCall J naming)) (core : List (ℕ × OutSender)) (k : ℕ) (d : SendingCall J naming)
+  same-key : (sent : List (SendingCall J naming)) (core : List (ℕ × OutSender)) (k : ℕ)
+      (d : SendingCall J naming)
       (e : ℕ × OutSender)
       → keys sent ≡ core_keys core → k < length core
       → key (get_or sent k d) ≡ key-of (get_or core k e)
@@ -157,7 +158,8 @@ module _ {J : Type 0} {naming : Ghosts J} where
         ∙ is),
   )
     where
-      there : (d : SendingCall J naming) → key (get_or sent releases.0 d) ≡ (id, Some (out_name sender.rx))
+      there : (d : SendingCall J naming)
+          → key (get_or sent releases.0 d) ≡ (id, Some (out_name sender.rx))
       there d =
           same-key sent core releases.0 d (id, sender) aligned releases.1
           ∙ ap key-of (sym releases.2)
@@ -205,7 +207,8 @@ module _ {J : Type 0} {naming : Ghosts J} where
       → calls ≡ sent → put ≡ from → HandsHome id sender calls after put to
       → HandsHome id sender sent after from to
   hands-of id sender calls sent after put from to same way hands =
-      subst (λ (all : List (SendingCall J naming)). HandsHome id sender all after from to) same (subst
+      subst (λ (all : List (SendingCall J naming)).
+      HandsHome id sender all after from to) same (subst
       (λ (all : List (ReturningCall J naming)). HandsHome id sender calls after all to) way hands)
 
   -- a call stands behind the others
@@ -227,7 +230,8 @@ module _ {J : Type 0} {naming : Ghosts J} where
   }
 
   -- without its sender it is the same call
-  pub adds-from : (id : ℕ) (sending taken : SendingEnd J naming) (old mid new : List (SendingCall J naming))
+  pub adds-from : (id : ℕ) (sending taken : SendingEnd J naming)
+      (old mid new : List (SendingCall J naming))
       → mid ≡ old → taken.number ≡ sending.number → Adds id taken mid new → Adds id sending old new
   adds-from id sending taken old mid new same number adds = record {
     keys =
@@ -242,7 +246,8 @@ module _ {J : Type 0} {naming : Ghosts J} where
   }
 
   -- of a call something is noted
-  pub same-noted : (calls : List (SendingCall J naming)) (place : ℕ) (call noted : SendingCall J naming)
+  pub same-noted : (calls : List (SendingCall J naming)) (place : ℕ)
+      (call noted : SendingCall J naming)
       → call ≡ get_or calls place call → noted.id ≡ call.id
       → noted.sending.value ≡ call.sending.value → SameCalls calls (set calls place noted)
   same-noted calls place call noted is same_id same_sending = record {
@@ -261,7 +266,8 @@ module _ {J : Type 0} {naming : Ghosts J} where
   missing-first id sender (call ∷ calls) first none = none first.0 call first.1.0 (first.1.1 call)
 
   -- the lane of a call whose sender is in its box is the sender's
-  pub lane-there : (sending : SendingEnd J naming) (sender : OutSender) → sending.sender ≡ Some sender
+  pub lane-there : (sending : SendingEnd J naming) (sender : OutSender)
+      → sending.sender ≡ Some sender
       → lane_of sending ≡ Some (out_name sender.rx)
   lane-there sending sender is =
       subst (λ (one : Option OutSender).

@@ -170,7 +170,8 @@ module _ {J W : Type 0} {naming : Ghosts J} {conn : ConnGhosts W} (contents : W 
       let run : List Step = written.run in
       let are : taken writer.inbox.ring ≡ led.0 ++ order_in rest.aside =
       sym led.1
-      ∙ ap (λ (one : Option (WriterOrder (OpeningCall J naming))). led.0 ++ order_in one) (sym aside) in
+      ∙ ap (λ (one : Option (WriterOrder (OpeningCall J naming))).
+      led.0 ++ order_in one) (sym aside) in
       let has : HasAll led.0 run rest.sends.calls.items rest.core.items (put_in rest.sends.home) =
       subst (λ (steps : List Step).
       HasAll led.0 steps rest.sends.calls.items rest.core.items (put_in rest.sends.home)) (sym same)
@@ -195,7 +196,8 @@ module _ {J W : Type 0} {naming : Ghosts J} {conn : ConnGhosts W} (contents : W 
         senders = has;
         told = λ apart.
             let parts : AreApart (led.0 ++ order_in rest.aside) =
-            subst (λ (orders : List (WriterOrder (OpeningCall J naming))). AreApart orders) are apart in
+            subst (λ (orders : List (WriterOrder (OpeningCall J naming))).
+            AreApart orders) are apart in
             All-append (IsTold run) (rest_calls rest) (handed_calls has.handed)
             (All-append (IsTold run) (map (λ call. (call.1, [])) (opens (order_in rest.aside)))
             (calls got rest.core.items) (told-aside led.0 rest.aside run parts obeys) tells)

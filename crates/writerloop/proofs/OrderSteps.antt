@@ -42,7 +42,12 @@ use Rattle.outwriter.specs.RunState.{Blames, Concerns, HasRoom}
 use Rattle.outwriter.specs.Runs.{is_opened, opens_stream}
 use Rattle.outwriter.specs.Steps.{Order, Step, Taken, Granted, Written, Returned, order_of}
 use Rattle.writerloop.specs.declared.order_outcome.OrderOutcome.{OrderOutcome}
-use Rattle.writerloop.specs.declared.order_outcome.OrderOutcome.TheVariants.{Done, Ended, Unanswered, HandedBack}
+use Rattle.writerloop.specs.declared.order_outcome.OrderOutcome.TheVariants.{
+  Done,
+  Ended,
+  Unanswered,
+  HandedBack,
+}
 use Rattle.writerloop.specs.OwnOrders.{Blamed, own_order, parting, steps_of}
 use Rattle.writerloop.specs.declared.inbox.Inbox.{Inbox}
 use Rattle.writerloop.specs.Orders.{
@@ -202,7 +207,8 @@ ends-fit true last id run = tt
 ends-fit false last id run = tt
 
 module _ {S : Type 0} where
-  answer-of : (taken : WriterOrder S) (last id : ℕ) (run : List Step) → Concerns (PeerWindow id) taken
+  answer-of : (taken : WriterOrder S) (last id : ℕ) (run : List Step)
+      → Concerns (PeerWindow id) taken
       → Blames (PeerWindow id) taken run
       → IsAnswer (own_order last id) (Taken (order_of taken) ∷ run)
   answer-of (control.Settings settings) last id run concerns blames =
@@ -218,7 +224,8 @@ module _ {S : Type 0} where
   answer-of control.InputEnded last id run concerns blames = absurd concerns
   answer-of control.Close last id run concerns blames = absurd concerns
 
-  room-of : (taken : WriterOrder S) (run : List Step) → HasRoom taken run → HasRoom (order_of taken) run
+  room-of : (taken : WriterOrder S) (run : List Step) → HasRoom taken run
+      → HasRoom (order_of taken) run
   room-of (control.Settings settings) run room = room
   room-of (control.Window stream n) run room = room
   room-of (control.Ping bytes) run room = tt
@@ -352,7 +359,8 @@ module _ {S : Type 0} where
 
   pub all-given : (inbox : Inbox S) → inbox.set_aside ≡ None → taken inbox.ring ≡ []
       → HasGiven [] inbox
-  all-given inbox none empty = ap (λ (aside : Option (WriterOrder S)). order_in aside) none ∙ sym empty
+  all-given inbox none empty =
+      ap (λ (aside : Option (WriterOrder S)). order_in aside) none ∙ sym empty
 
 -- an order that opens a call takes its turn
 pub obeys-opening : (id : ℕ) (orders : List Order) (run : List Step) → Obeys false orders run

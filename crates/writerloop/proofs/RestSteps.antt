@@ -110,7 +110,8 @@ module _ {J : Type 0} {naming : Ghosts J} where
       )
 
   -- its lane is the sender's
-  pub last-lane : (sender : OutSender) (sent rest : List (SendingCall J naming)) (call : SendingCall J naming)
+  pub last-lane : (sender : OutSender) (sent rest : List (SendingCall J naming))
+      (call : SendingCall J naming)
       → IsLastOf sender sent → sent ≡ rest ++ call ∷ []
       → lane_of call.sending.value ≡ Some (out_name sender.rx)
   last-lane sender sent rest call last is =
@@ -179,7 +180,8 @@ module _ {J : Type 0} {naming : Ghosts J} where
 
       all_numbers : rest_numbers old ≡ numbered id opening.sending.value ∷ sent
       all_numbers =
-          ap (λ (aside : Option (WriterOrder (OpeningCall J naming))). opens (order_in aside) ++ sent) is
+          ap (λ (aside : Option (WriterOrder (OpeningCall J naming))).
+          opens (order_in aside) ++ sent) is
 
       rest_sent : rest_numbers new ≡ sent
       rest_sent =

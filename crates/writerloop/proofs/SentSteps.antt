@@ -217,7 +217,8 @@ module _ {J : Type 0} {naming : Ghosts J} where
   opens-append (control.InputEnded ∷ xs) ys = opens-append xs ys
   opens-append (control.Close ∷ xs) ys = opens-append xs ys
 
-  pub opens-none : (order : WriterOrder (OpeningCall J naming)) → OpensNone order → opens (order ∷ []) ≡ []
+  pub opens-none : (order : WriterOrder (OpeningCall J naming)) → OpensNone order
+      → opens (order ∷ []) ≡ []
   opens-none (control.Open id opening) none = absurd none
   opens-none (control.Settings settings) none = refl
   opens-none (control.Ping bytes) none = refl
@@ -230,14 +231,16 @@ module _ {J : Type 0} {naming : Ghosts J} where
   opens-none control.Close none = refl
 
   -- a further order that opens none
-  opens-plain : (orders : List (WriterOrder (OpeningCall J naming))) (order : WriterOrder (OpeningCall J naming))
+  opens-plain : (orders : List (WriterOrder (OpeningCall J naming)))
+      (order : WriterOrder (OpeningCall J naming))
       → OpensNone order → opens (orders ++ order ∷ []) ≡ opens orders
   opens-plain orders order none =
       opens-append orders (order ∷ [])
       ∙ (ap (λ (all : List (CallNumber J naming × ℕ)). opens orders ++ all) (opens-none order none)
       ∙ append-nil (opens orders))
 
-  streams-open : (orders : List (WriterOrder (OpeningCall J naming))) (id : ℕ) (opening : OpeningCall J naming)
+  streams-open : (orders : List (WriterOrder (OpeningCall J naming))) (id : ℕ)
+      (opening : OpeningCall J naming)
       → map (λ call. call.1) (opens (orders ++ control.Open id opening ∷ []))
       ≡ map (λ call. call.1) (opens orders) ++ id ∷ []
   streams-open orders id opening =
@@ -246,7 +249,8 @@ module _ {J : Type 0} {naming : Ghosts J} where
       ∙ map-append (λ (call : CallNumber J naming × ℕ). call.1) (opens orders)
       (numbered id opening.sending.value ∷ [])
 
-  apart-front : (orders : List (WriterOrder (OpeningCall J naming))) (id : ℕ) (opening : OpeningCall J naming)
+  apart-front : (orders : List (WriterOrder (OpeningCall J naming))) (id : ℕ)
+      (opening : OpeningCall J naming)
       → AreApart (orders ++ control.Open id opening ∷ []) → AreApart orders
   apart-front orders id opening apart =
       distinct-front (map (λ call. call.1) (opens orders)) id
@@ -264,7 +268,8 @@ module _ {J : Type 0} {naming : Ghosts J} where
       last-new ids id (subst (λ (all : List ℕ). IsDistinct nat_eq all)
       (streams-open orders id opening) apart) found.0 found.1 found.2
 
-  plain-apart : (orders : List (WriterOrder (OpeningCall J naming))) (order : WriterOrder (OpeningCall J naming))
+  plain-apart : (orders : List (WriterOrder (OpeningCall J naming)))
+      (order : WriterOrder (OpeningCall J naming))
       → OpensNone order → AreApart (orders ++ order ∷ []) → AreApart orders
   plain-apart orders order none apart =
       subst (λ (all : List (CallNumber J naming × ℕ)). IsDistinct nat_eq (map (λ call. call.1) all))
@@ -275,7 +280,8 @@ module _ {J : Type 0} {naming : Ghosts J} where
       (aside : Option (WriterOrder (OpeningCall J naming)))
       → AreApart (orders ++ order_in aside) → AreApart orders
   plain-front orders None apart =
-      subst (λ (all : List (WriterOrder (OpeningCall J naming))). AreApart all) (append-nil orders) apart
+      subst (λ (all : List (WriterOrder (OpeningCall J naming))). AreApart all)
+      (append-nil orders) apart
   plain-front orders (Some (control.Open id opening)) apart = apart-front orders id opening apart
   plain-front orders (Some (control.Settings settings)) apart =
       plain-apart orders (control.Settings settings) tt apart
@@ -302,11 +308,13 @@ module _ {J : Type 0} {naming : Ghosts J} where
       (sym (map-append (λ (one : WriterOrder (OpeningCall J naming)). order_of one) orders more))
       (among-more order (orders_of orders) (orders_of more) among))
 
-  resets-last : (orders : List (WriterOrder (OpeningCall J naming))) (order : WriterOrder (OpeningCall J naming))
+  resets-last : (orders : List (WriterOrder (OpeningCall J naming)))
+      (order : WriterOrder (OpeningCall J naming))
       → ResetsNone (orders_of (orders ++ order ∷ [])) → left_by (order_of order) ≡ []
   resets-last orders order none =
       none (order_of order) (subst (λ (all : List Order). IsAmong (order_of order) all)
-      (sym (map-append (λ (one : WriterOrder (OpeningCall J naming)). order_of one) orders (order ∷ [])))
+      (sym
+      (map-append (λ (one : WriterOrder (OpeningCall J naming)). order_of one) orders (order ∷ [])))
       (among-last (order_of order) (orders_of orders)))
 
   -- ---- the steps
@@ -318,7 +326,8 @@ module _ {J : Type 0} {naming : Ghosts J} where
     handed = [];
     are = sym empty;
     all =
-        subst (λ (calls : List (SendingCall J naming)). IsPermutation [] (numbers calls ++ [])) (sym none)
+        subst (λ (calls : List (SendingCall J naming)).
+        IsPermutation [] (numbers calls ++ [])) (sym none)
         (IsPermutation-refl []);
     back = λ apart.
         All-nil (λ (one : ℕ × ReturningCall J naming). IsBack [] one.0 one.1.sending.value.sender);
@@ -340,7 +349,8 @@ module _ {J : Type 0} {naming : Ghosts J} where
         subst (λ (calls : List (CallNumber J naming × ℕ)).
         IsPermutation (opens orders) (calls ++ handed_numbers has.handed)) (sym same) has.all;
     back = λ apart.
-        All-weaker (λ (one : ℕ × ReturningCall J naming). IsBack run one.0 one.1.sending.value.sender)
+        All-weaker
+        (λ (one : ℕ × ReturningCall J naming). IsBack run one.0 one.1.sending.value.sender)
         (λ one. IsBack new one.0 one.1.sending.value.sender)
         (λ one back. back-on run new one.0 one.1.sending.value.sender (on one.0) back)
         has.handed (has.back apart);
@@ -350,8 +360,10 @@ module _ {J : Type 0} {naming : Ghosts J} where
   }
 
   -- a further order that opens no call, whether it was taken or lost
-  pub has-plain : (order : WriterOrder (OpeningCall J naming)) (orders : List (WriterOrder (OpeningCall J naming)))
-      (run new : List Step) (sent after : List (SendingCall J naming)) (core cores : List (ℕ × OutSender))
+  pub has-plain : (order : WriterOrder (OpeningCall J naming))
+      (orders : List (WriterOrder (OpeningCall J naming)))
+      (run new : List Step) (sent after : List (SendingCall J naming))
+      (core cores : List (ℕ × OutSender))
       (home homes : List (ReturningCall J naming))
       → OpensNone order → numbers after ≡ numbers sent → homes ≡ home → ((id : ℕ) → On run new id)
       → (left_by (order_of order) ≡ [] → (id : ℕ) → Contains (left_in new) id
@@ -382,7 +394,8 @@ module _ {J : Type 0} {naming : Ghosts J} where
       }
 
   -- a reset of a call that was left
-  pub has-reset : (id : ℕ) (orders : List (WriterOrder (OpeningCall J naming))) (run new : List Step)
+  pub has-reset : (id : ℕ) (orders : List (WriterOrder (OpeningCall J naming)))
+      (run new : List Step)
       (sent after : List (SendingCall J naming)) (core cores : List (ℕ × OutSender))
       (home homes : List (ReturningCall J naming))
       → numbers after ≡ numbers sent → homes ≡ home → ((k : ℕ) → On run new k)
@@ -510,8 +523,10 @@ module _ {J : Type 0} {naming : Ghosts J} where
       record {
         handed = has.handed ++ (id, returning) ∷ [];
         are =
-            map-append (λ (call : ℕ × ReturningCall J naming). call.1) has.handed ((id, returning) ∷ [])
-            ∙ (ap (λ (all : List (ReturningCall J naming)). all ++ returning ∷ []) has.are ∙ sym way);
+            map-append (λ (call : ℕ × ReturningCall J naming). call.1) has.handed
+            ((id, returning) ∷ [])
+            ∙ (ap (λ (all : List (ReturningCall J naming)). all ++ returning ∷ []) has.are
+            ∙ sym way);
         all =
             subst (λ (opened : List (CallNumber J naming × ℕ)).
             IsPermutation opened
@@ -545,8 +560,10 @@ module _ {J : Type 0} {naming : Ghosts J} where
       }
 
   -- the sender of a call that is through is handed back
-  pub has-returned : (id : ℕ) (sender : OutSender) (orders : List (WriterOrder (OpeningCall J naming)))
-      (run : List Step) (sent after : List (SendingCall J naming)) (core cores : List (ℕ × OutSender))
+  pub has-returned : (id : ℕ) (sender : OutSender)
+      (orders : List (WriterOrder (OpeningCall J naming)))
+      (run : List Step) (sent after : List (SendingCall J naming))
+      (core cores : List (ℕ × OutSender))
       (home homes : List (ReturningCall J naming))
       → HandsHome id sender sent after home homes → Releases id sender core cores
       → HasAll orders run sent core home

@@ -79,7 +79,8 @@ ended-more frame frames =
 pub parted-more : (frame : Frame) (frames : List Frame) (before now : Option (List ℕ))
     (buffer ended : List ℕ)
     → IsParted frames before now buffer ended
-    → IsParted (frame ∷ frames) before now (buffer ++ spelled frame) (ended ++ ended_by (frame ∷ []))
+    → IsParted (frame ∷ frames) before now (buffer ++ spelled frame)
+    (ended ++ ended_by (frame ∷ []))
 parted-more frame frames before now buffer ended p = record {
   waiting = frame ∷ p.waiting;
   written = p.written;

@@ -82,7 +82,12 @@ use Rattle.writerloop.specs.declared.standing.Standing.TheVariants as stands
 use Rattle.writerloop.specs.declared.steps.OrderStep.{OrderStep}
 use Rattle.writerloop.specs.declared.steps.OrderStep.TheVariants as took
 use Rattle.writerloop.specs.declared.order_outcome.OrderOutcome.{OrderOutcome}
-use Rattle.writerloop.specs.declared.order_outcome.OrderOutcome.TheVariants.{Done, Ended, Unanswered, HandedBack}
+use Rattle.writerloop.specs.declared.order_outcome.OrderOutcome.TheVariants.{
+  Done,
+  Ended,
+  Unanswered,
+  HandedBack,
+}
 use Rattle.writerloop.specs.declared.writing.Writing.{Writing}
 use Rattle.writerloop.specs.Blamed.{WouldOverflow, blames_by, blames_in}
 use Rattle.writerloop.specs.Keys.{Keys_set}
@@ -199,7 +204,8 @@ any-more is (one ∷ orders) order =
 
 module _ {S : Type 0} where
   -- an order that opens no call opens no stream
-  plain-opens : (one : WriterOrder S) (id : ℕ) → OpensNone one → opens_stream id (order_of one) ≡ false
+  plain-opens : (one : WriterOrder S) (id : ℕ) → OpensNone one
+      → opens_stream id (order_of one) ≡ false
   plain-opens (control.Open stream opening) id none = absurd none
   plain-opens (control.Settings settings) id none = refl
   plain-opens (control.Ping bytes) id none = refl
@@ -211,7 +217,8 @@ module _ {S : Type 0} where
   plain-opens control.InputEnded id none = refl
   plain-opens control.Close id none = refl
 
-  plain-as : (one : WriterOrder S) → ((id : ℕ) → opens_stream id (order_of one) ≡ false) → OpensNone one
+  plain-as : (one : WriterOrder S)
+      → ((id : ℕ) → opens_stream id (order_of one) ≡ false) → OpensNone one
   plain-as (control.Open stream opening) none =
       true≢false (sym (nat_eq_equiv.refl stream) ∙ none stream)
   plain-as (control.Settings settings) none = tt
@@ -253,7 +260,8 @@ module _ {S : Type 0} where
   closes-other control.Close closed other = absurd (other refl)
 
 -- the same order without a sender
-pub as-plain : {S T : Type 0} (one : WriterOrder S) (other : WriterOrder T) → order_of one ≡ order_of other
+pub as-plain : {S T : Type 0} (one : WriterOrder S) (other : WriterOrder T)
+    → order_of one ≡ order_of other
     → OpensNone other → OpensNone one
 as-plain one other is none =
     plain-as one (λ id.
@@ -292,7 +300,8 @@ module _ {S : Type 0} where
   on-steps order last (HandedBack back) run k plain = on-same run k
 
   -- and reset no call that was left
-  left-steps : (order : Order) (last : ℕ) (taking : OrderOutcome S) (run : List Step) → left_by order ≡ []
+  left-steps : (order : Order) (last : ℕ) (taking : OrderOutcome S) (run : List Step)
+      → left_by order ≡ []
       → left_in (steps_of order last taking ++ run) ≡ left_in run
   left-steps order last Done run none = ap (λ (ids : List ℕ). ids ++ left_in run) none
   left-steps order last (Ended id) run none =
@@ -306,12 +315,15 @@ module _ {S : Type 0} where
   EndsAll (Ended id) = id ≡ 0
   EndsAll _ = ⊥
 
-  pub ends-by : (taking one : OrderOutcome S) → taking ≡ one → (EndsAll one → ⊥) → EndsAll taking → ⊥
-  ends-by taking one is other ends = other (subst (λ (found : OrderOutcome S). EndsAll found) is ends)
+  pub ends-by : (taking one : OrderOutcome S) → taking ≡ one → (EndsAll one → ⊥)
+      → EndsAll taking → ⊥
+  ends-by taking one is other ends =
+      other (subst (λ (found : OrderOutcome S). EndsAll found) is ends)
 
   pub ended-by : {B : Type 0} (taking : OrderOutcome S) (id : ℕ) → taking ≡ Ended id → (id ≡ 0) ⊎ B
       → EndsAll taking ⊎ B
-  ended-by taking id is (inl none) = inl (subst (λ (one : OrderOutcome S). EndsAll one) (sym is) none)
+  ended-by taking id is (inl none) =
+      inl (subst (λ (one : OrderOutcome S). EndsAll one) (sym is) none)
   ended-by taking id is (inr other) = inr other
 
   overflow-taking : (one : WriterOrder S) (last : ℕ) (taking : OrderOutcome S) (run : List Step)
@@ -555,7 +567,8 @@ module _ {J : Type 0} {naming : Ghosts J} where
   among-opens (control.Close ∷ orders) id (inr among) = among-opens orders id among
 
   -- the next order is among those that were taken
-  aside-given : (next : WriterOrder (OpeningCall J naming)) (given : List (WriterOrder (OpeningCall J naming)))
+  aside-given : (next : WriterOrder (OpeningCall J naming))
+      (given : List (WriterOrder (OpeningCall J naming)))
       (mid : Inbox (OpeningCall J naming))
       → mid.set_aside ≡ None → HasGiven (given ++ next ∷ []) mid
       → given ++ next ∷ [] ≡ taken mid.ring
@@ -958,7 +971,8 @@ module _ {J W : Type 0} {naming : Ghosts J} {conn : ConnGhosts W} (contents : W 
       takes orders one before credit is
       (runs-between false old mid frames same blames orders before credit runs)
 
-  pub begins-from : (order : WriterOrder (OpeningCall J naming)) (old mid new : Writing J W naming conn)
+  pub begins-from : (order : WriterOrder (OpeningCall J naming))
+      (old mid new : Writing J W naming conn)
       → mid.frames ≡ old.frames → SameSent old mid → mid.blames ≡ old.blames
       → Begins contents failed order mid new
       → Begins contents failed order old new
@@ -973,7 +987,8 @@ module _ {J W : Type 0} {naming : Ghosts J} {conn : ConnGhosts W} (contents : W 
       parts orders before credit
       (runs-between true old mid frames same blames orders before credit runs)
 
-  pub passes-from : (order : WriterOrder (OpeningCall J naming)) (old mid new : Writing J W naming conn)
+  pub passes-from : (order : WriterOrder (OpeningCall J naming))
+      (old mid new : Writing J W naming conn)
       → mid.frames ≡ old.frames → SameSent old mid → mid.blames ≡ old.blames
       → PassesOver contents failed order mid new
       → PassesOver contents failed order old new
@@ -1121,7 +1136,8 @@ module _ {J W : Type 0} {naming : Ghosts J} {conn : ConnGhosts W} (contents : W 
   )
 
   -- a reset of the writer's own
-  pub resetting-on : (id last : ℕ) (taking : OrderOutcome OutSender) (old new : Writing J W naming conn)
+  pub resetting-on : (id last : ℕ) (taking : OrderOutcome OutSender)
+      (old new : Writing J W naming conn)
       → WritesOn got contents failed (steps_of (control.Reset id InternalError true) last taking)
       old.frames new.frames
       → ((before : Option (List ℕ)) (run : List Step)
@@ -1276,7 +1292,8 @@ module _ {J W : Type 0} {naming : Ghosts J} {conn : ConnGhosts W} (contents : W 
   -- no order is taken
   pub leads-to : (had has : ℕ) (old new : Writing J W naming conn) → new.inbox ≡ old.inbox
       → SameKnown old new
-      → ((lost : Bool) (orders : List (WriterOrder (OpeningCall J naming))) (before : Option (List ℕ))
+      → ((lost : Bool) (orders : List (WriterOrder (OpeningCall J naming)))
+      (before : Option (List ℕ))
       → Runs contents failed lost orders before had old
       → Runs contents failed lost orders before has new)
       → LeadsTo contents failed had old has new
@@ -1409,7 +1426,8 @@ module _ {J W : Type 0} {naming : Ghosts J} {conn : ConnGhosts W} (contents : W 
       → Gives (Some next) old.inbox mid → new.inbox.ring ≡ mid.ring
       → new.inbox.set_aside ≡ Some next
       → (new.inbox.has_lost ≡ false → old.inbox.has_lost ≡ false) → SameKnown old new
-      → ((orders : List (WriterOrder (OpeningCall J naming))) (before : Option (List ℕ)) (credit : ℕ)
+      → ((orders : List (WriterOrder (OpeningCall J naming)))
+      (before : Option (List ℕ)) (credit : ℕ)
       → Runs contents failed old.inbox.has_lost orders before credit old
       → Runs contents failed new.inbox.has_lost orders before credit new)
       → LeadsOn contents failed old new
@@ -1446,7 +1464,8 @@ module _ {J W : Type 0} {naming : Ghosts J} {conn : ConnGhosts W} (contents : W 
       (mid : Inbox (OpeningCall J naming))
       → Gives (Some next) old.inbox mid → mid.has_lost ≡ false
       → new.inbox ≡ record mid { has_lost = new.inbox.has_lost }
-      → ((orders : List (WriterOrder (OpeningCall J naming))) (before : Option (List ℕ)) (credit : ℕ)
+      → ((orders : List (WriterOrder (OpeningCall J naming)))
+      (before : Option (List ℕ)) (credit : ℕ)
       → Runs contents failed false orders before credit old
       → Runs contents failed new.inbox.has_lost (orders ++ next ∷ []) before credit new)
       → Heeds (order_of next) old new → in_name new.sends.home ≡ in_name old.sends.home
@@ -1486,7 +1505,8 @@ module _ {J W : Type 0} {naming : Ghosts J} {conn : ConnGhosts W} (contents : W 
         (record {
           input = λ kept.
               absurd (true≢false
-              (sym (ap (λ (inbox : Inbox (OpeningCall J naming)). inbox.has_lost) same ∙ lost) ∙ kept));
+              (sym (ap (λ (inbox : Inbox (OpeningCall J naming)). inbox.has_lost) same ∙ lost)
+              ∙ kept));
           closed = closed-more (order_of next) (orders_of led.0) old new heeds led.3.closed;
         });
   }
@@ -1606,7 +1626,8 @@ module _ {J W : Type 0} {naming : Ghosts J} {conn : ConnGhosts W} where
 
 module _ {J W : Type 0} {naming : Ghosts J} {conn : ConnGhosts W} (contents : W → Option (List ℕ))
     (failed : W → Bool) where
-  runs-lost : (writer : Writing J W naming conn) (orders : List (WriterOrder (OpeningCall J naming)))
+  runs-lost : (writer : Writing J W naming conn)
+      (orders : List (WriterOrder (OpeningCall J naming)))
       (before : Option (List ℕ)) (credit : ℕ)
       → Runs contents failed false orders before credit writer
       → Runs contents failed true orders before credit writer
@@ -1672,7 +1693,8 @@ module _ {J W : Type 0} {naming : Ghosts J} {conn : ConnGhosts W} (contents : W 
     where
       gives-lost : new.inbox ≡ record mid { set_aside = Some next }
           → old.inbox.has_lost ≡ new.inbox.has_lost
-      gives-lost is = sym gives.lost ∙ sym (ap (λ (i : Inbox (OpeningCall J naming)). i.has_lost) is)
+      gives-lost is =
+          sym gives.lost ∙ sym (ap (λ (i : Inbox (OpeningCall J naming)). i.has_lost) is)
   leads-over took.Nothing next old new mid gives lost passes whole early either heeds way =
       absurd (no (either (λ e. cc)))
     where
@@ -1695,7 +1717,8 @@ module _ {J W : Type 0} {naming : Ghosts J} {conn : ConnGhosts W} (contents : W 
       no e = cc
 
 module _ {J : Type 0} {naming : Ghosts J} where
-  opens-among : (orders : List (WriterOrder (OpeningCall J naming))) (n : CallNumber J naming) (id : ℕ)
+  opens-among : (orders : List (WriterOrder (OpeningCall J naming)))
+      (n : CallNumber J naming) (id : ℕ)
       → Contains (opens orders) (n, id) → IsAmong (control.Open id tt) (orders_of orders)
   opens-among [] n id (k, within, at) = absurd (omega (arith, within))
   opens-among (control.Open stream opening ∷ orders) n id (zero, within, at) =
@@ -1735,7 +1758,8 @@ module _ {J W : Type 0} {naming : Ghosts J} {conn : ConnGhosts W} (contents : W 
       (Contains-append_left (numbers writer.sends.calls.items) handed (call.0, id) call.1))
 
   -- a reset of a call that was left, where no order was lost and the input goes on
-  pub leads-reset : (id last : ℕ) (taking : OrderOutcome OutSender) (old new : Writing J W naming conn)
+  pub leads-reset : (id last : ℕ) (taking : OrderOutcome OutSender)
+      (old new : Writing J W naming conn)
       → old.inbox.has_lost ≡ false → old.input_ended ≡ false → new.inbox ≡ old.inbox
       → SameKnown old new
       → WritesOn got contents failed (steps_of (control.Reset id InternalError true) last taking)

@@ -84,8 +84,10 @@ module _ {L In Out Shut : Type 0} (got : Out → List OutItem) where
       → control ≡ (if is_zero then Goaway last reason.Window else Reset id FlowControlError true)
       → order_of control
       ≡ (if is_zero then Goaway last reason.Window else Reset id FlowControlError true)
-  own-order-by true last id control is = ap (λ (c : WriterOrder (Sender L In Out Shut)). order_of c) is
-  own-order-by false last id control is = ap (λ (c : WriterOrder (Sender L In Out Shut)). order_of c) is
+  own-order-by true last id control is =
+      ap (λ (c : WriterOrder (Sender L In Out Shut)). order_of c) is
+  own-order-by false last id control is =
+      ap (λ (c : WriterOrder (Sender L In Out Shut)). order_of c) is
 
   own-blameless-by : (is_zero : Bool) (last id stream : ℕ)
       (control : WriterOrder (Sender L In Out Shut))
@@ -115,7 +117,8 @@ module _ {L In Out Shut : Type 0} (got : Out → List OutItem) where
 
   -- out of memory
   pub handed-leads : (fault : OutFault (Sender L In Out Shut))
-      (back : Option (WriterOrder (Sender L In Out Shut))) (control : WriterOrder (Sender L In Out Shut))
+      (back : Option (WriterOrder (Sender L In Out Shut)))
+      (control : WriterOrder (Sender L In Out Shut))
       (old core : OutCore L In Out Shut)
       → fault ≡ out_fault.OutOfMemory back → LeadsControl got (Err fault) control old core
       → LeadsStill got old core

@@ -38,7 +38,12 @@ use Rattle.outwriter.specs.Drains.{draining, is_going_away, warning, was_probed}
 use Rattle.outwriter.specs.RunState.{Blames, Concerns, HasRoom}
 use Rattle.outwriter.specs.Steps.{Order, Step, Taken, Granted, Written, Returned, order_of}
 use Rattle.writerloop.specs.declared.order_outcome.OrderOutcome.{OrderOutcome}
-use Rattle.writerloop.specs.declared.order_outcome.OrderOutcome.TheVariants.{Done, Ended, Unanswered, HandedBack}
+use Rattle.writerloop.specs.declared.order_outcome.OrderOutcome.TheVariants.{
+  Done,
+  Ended,
+  Unanswered,
+  HandedBack,
+}
 use Rattle.writerloop.specs.OwnOrders.{own_order}
 use Rattle.writerloop.specs.declared.inbox.Inbox.{Inbox}
 use Rattle.writerloop.specs.declared.steps.WaitingOrder.{WaitingOrder}

@@ -12,7 +12,12 @@ use Rattle.outwriter.specs.Steps.{Order, Step, Taken, Written}
 use Rattle.writerloop.specs.declared.standing.Standing.{Standing}
 use Rattle.writerloop.specs.declared.standing.Standing.TheVariants.{Going}
 use Rattle.writerloop.specs.declared.order_outcome.OrderOutcome.{OrderOutcome}
-use Rattle.writerloop.specs.declared.order_outcome.OrderOutcome.TheVariants.{Done, Ended, Unanswered, HandedBack}
+use Rattle.writerloop.specs.declared.order_outcome.OrderOutcome.TheVariants.{
+  Done,
+  Ended,
+  Unanswered,
+  HandedBack,
+}
 
 -- the order that ends a stream, or the connection as stream 0, with FLOW_CONTROL_ERROR
 abbrev pub own_control : {S : Type 0} → ℕ → ℕ → WriterOrder S

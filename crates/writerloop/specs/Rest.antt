@@ -23,7 +23,8 @@ module _ {J : Type 0} {naming : Ghosts J} where
       map (λ call. (call.1, [])) (opens (order_in senders.aside)) ++ calls got senders.core.items
 
   -- one of the senders is handed over
-  pub record HandsOver (old new : Senders J naming) (returning : ReturningCall J naming) : Type 0 where
+  pub record HandsOver (old new : Senders J naming)
+      (returning : ReturningCall J naming) : Type 0 where
     pub id : ℕ
     pub number :
         IsPermutation (rest_numbers old) (numbered id returning.sending.value ∷ rest_numbers new)

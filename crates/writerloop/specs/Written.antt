@@ -123,9 +123,11 @@ module _ {J W : Type 0} {naming : Ghosts J} {conn : ConnGhosts W} (contents : W 
 
   -- the run goes on, and where it was over it stays over
   pub record StaysOn (lost loses : Bool) (old new : Writing J W naming conn) : Type 0 where
-    pub runs : (orders : List (WriterOrder (OpeningCall J naming))) (before : Option (List ℕ)) (credit : ℕ)
+    pub runs : (orders : List (WriterOrder (OpeningCall J naming)))
+        (before : Option (List ℕ)) (credit : ℕ)
         → Runs lost orders before credit old → Runs loses orders before credit new
-    pub ends : (orders : List (WriterOrder (OpeningCall J naming))) (before : Option (List ℕ)) (credit : ℕ)
+    pub ends : (orders : List (WriterOrder (OpeningCall J naming)))
+        (before : Option (List ℕ)) (credit : ℕ)
         → Ends lost orders before credit old → Ends loses orders before credit new
 
   -- the run leads to its end
@@ -138,7 +140,8 @@ module _ {J W : Type 0} {naming : Ghosts J} {conn : ConnGhosts W} (contents : W 
   -- The writer takes the order, which opens no call, or loses it. None was lost before.
   abbrev pub Takes : Order → Writing J W naming conn → Writing J W naming conn → Type 0
   Takes order old new =
-      (orders : List (WriterOrder (OpeningCall J naming))) (control : WriterOrder (OpeningCall J naming))
+      (orders : List (WriterOrder (OpeningCall J naming)))
+      (control : WriterOrder (OpeningCall J naming))
       (before : Option (List ℕ)) (credit : ℕ)
       → order_of control ≡ order
       → Runs false orders before credit old
@@ -259,7 +262,8 @@ pub record HasWritten {W : Type 0} (contents : W → Option (List ℕ)) (failed 
 -- than it got.
 pub record HasSent {J W : Type 0} {naming : Ghosts J} (contents : W → Option (List ℕ))
     (failed : W → Bool) (before : Option (List ℕ)) (credit : ℕ)
-    (orders : List (WriterOrder (OpeningCall J naming))) (rest : Senders J naming) (ending : Option Ending)
+    (orders : List (WriterOrder (OpeningCall J naming))) (rest : Senders J naming)
+    (ending : Option Ending)
     (device : W) : Type 0 where
   pub given : List (WriterOrder (OpeningCall J naming))
   pub orders_are : orders ≡ given ++ order_in rest.aside

@@ -27,7 +27,12 @@ use Rattle.writerloop.specs.declared.fill_end.FillEnd.{FillEnd}
 use Rattle.writerloop.specs.declared.fill_end.FillEnd.TheVariants.{Full, Idle, Over, Stopped}
 use Rattle.writerloop.specs.declared.standing.Standing.TheVariants.{Going, Broken}
 use Rattle.writerloop.specs.declared.order_outcome.OrderOutcome.{OrderOutcome}
-use Rattle.writerloop.specs.declared.order_outcome.OrderOutcome.TheVariants.{Done, Ended, Unanswered, HandedBack}
+use Rattle.writerloop.specs.declared.order_outcome.OrderOutcome.TheVariants.{
+  Done,
+  Ended,
+  Unanswered,
+  HandedBack,
+}
 use Rattle.writerloop.specs.declared.frames.Frames.{Frames}
 use Rattle.writerloop.specs.Spelled.{Holds, ended_by}
 

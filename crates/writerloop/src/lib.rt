@@ -10,7 +10,8 @@
 //!
 //! - `inbox`: the writing side's end of the ring of orders; `sends`: the calls that are sent;
 //!   `opening`: how a call begins.
-//! - `frames`: core, buffer and device, with `standing`, `order_outcome` and `fill_end` for its answers.
+//! - `frames`: core, buffer and device, with `standing`, `order_outcome` and `fill_end` for its
+//!   answers.
 //! - `steps`: what a step answers; `writing`: the machine; `writer_ending`: how it ends by itself.
 //!
 //! `specs/Orders.antt` says when a run of the core obeys orders, `specs/Spelled.antt` and

@@ -36,7 +36,8 @@ spawn_with-requires-clause-keeps g c = λ κs within r claims.
     let failed = g.W.ConnWrite.failed in
     let kept : (out_name r.written.orders ≡ out_name c.of-2.result.value)
     × (in_name r.written.senders.sends.home ≡ in_name c.of-3.result.value)
-    × HasSent contents failed (contents c.of.result.value) r.announced.amount (taken r.written.orders)
+    × HasSent contents failed (contents c.of.result.value) r.announced.amount
+    (taken r.written.orders)
     r.written.senders (ending_told r.written.ending) r.written.device
     × (r.announced.parts ≡ g.C.Ledger.parts) = (
       claims.0 ∙ (ap out_name c.new-writing.ensures.ring ∙ ap out_name (sym c.of-2.ensures)),

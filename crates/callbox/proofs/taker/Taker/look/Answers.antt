@@ -15,7 +15,8 @@ loop-preserved g c =
       told = c.accept.ensures.told;
       name = c.poll.ensures.name ∙ c.loop.invariant.name;
       took = λ messages t.
-          subst (λ (items : List InPiece). TakesMessages items c.accept.new.self messages) (sym polled.1)
+          subst (λ (items : List InPiece).
+          TakesMessages items c.accept.new.self messages) (sym polled.1)
           (c.accept.ensures.took before item messages
           (c.in_default.ensures.took before messages (c.loop.invariant.took messages t)) polled.2);
       needed = λ messages t.

@@ -12,9 +12,11 @@ pub returns-clause-answers : goal.returns-clause-answers
 returns-clause-answers g c =
     let work = c.args.work in
     let fresh = c.requires.fresh in
-    let untouched : TakesMessages (got c.new-run.result.taker.rx) c.new-run.result.taker.progress [] =
+    let untouched : TakesMessages (got c.new-run.result.taker.rx)
+    c.new-run.result.taker.progress [] =
     rw c.new-run.ensures.taker
-    (subst (λ (items : List InPiece). TakesMessages items work.taker.progress []) (sym fresh.0) fresh.1) in
+    (subst (λ (items : List InPiece). TakesMessages items work.taker.progress [])
+    (sym fresh.0) fresh.1) in
     let untold : c.new-run.result.taker.progress.told ≡ None = rw c.new-run.ensures.taker fresh.2 in
     call_answers _ _ (listed c.args.methods.now) _ work.request c.run.new.run _ _ _ _ refl
     (λ none. absurd (search rules))
@@ -31,7 +33,8 @@ returns-then-is_none-clause-answers g c =
     let work = c.args.work in
     let fresh = c.requires.fresh in
     let took : TakesMessages (got work.taker.rx) work.taker.progress [] =
-    subst (λ (items : List InPiece). TakesMessages items work.taker.progress []) (sym fresh.0) fresh.1 in
+    subst (λ (items : List InPiece). TakesMessages items work.taker.progress [])
+    (sym fresh.0) fresh.1 in
     let nothing : IsGivenAs [] (put_shut c.pass_over.result.given.shut) =
     subst (λ (items : List OutItem). IsGivenAs items (put_shut c.pass_over.result.given.shut))
     fresh.3 c.pass_over.ensures.given in

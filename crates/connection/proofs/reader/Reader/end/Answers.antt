@@ -29,7 +29,8 @@ returns-clause-ended g c = λ sent told carried reads.
     (collects-seats _ _ c.join_all.ensures.reading) c.close.ensures.collects)) in
     let same : c.close.new.self.orders.has_stopped ≡ c.put.new.self.has_stopped =
     c.close.ensures.stopped
-    ∙ (ap (λ orders. orders.has_stopped) c.join_all.ensures.orders ∙ c.wake_writer.ensures.stopped) in (
+    ∙ (ap (λ orders. orders.has_stopped) c.join_all.ensures.orders
+    ∙ c.wake_writer.ensures.stopped) in (
       cuts.0,
       record {
         silent = cuts.1.silent;

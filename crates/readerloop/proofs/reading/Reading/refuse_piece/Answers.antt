@@ -41,7 +41,8 @@ returns g c = record {
   decides = λ piece counted sent told reads.
       let done = c.reset.ensures in
       let step = Told (events.Data c.args.id piece counted) Missed in
-      let cut : HalfToShut = record { id = c.args.id; kind = shut.Reset (error_number EnhanceYourCalm) } in
+      let cut : HalfToShut =
+      record { id = c.args.id; kind = shut.Reset (error_number EnhanceYourCalm) } in
       decides-as told step _ c.reset.result c.args.self.now (fate-missed c.args.id counted piece
       c.reset.result.order c.reset.result.ends _ done.order.1 done.ends)
       (decides-cut told step c.reset.result cut c.args.self.now
