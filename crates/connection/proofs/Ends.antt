@@ -49,7 +49,7 @@ use Rattle.readerloop.specs.Orders.{orders_by}
 use Rattle.readerloop.specs.Readings.{Reads}
 use Rattle.readerloop.specs.Reports.{AreAccounts, is_heard_out}
 use Rattle.readerloop.specs.Steps.{Step, events_of, reported}
-use Rattle.writerloop.specs.declared.writing.Senders.{Senders}
+use Rattle.writerloop.specs.declared.senders.Senders.{Senders}
 use Rattle.readerloop.proofs.Resets.{calm-more}
 use Rattle.writerloop.specs.Orders.{Obeys, orders_of, order_in}
 use Rattle.writerloop.specs.Written.{HasSent, HasWritten, IsOver}

@@ -76,7 +76,7 @@ use Rattle.readerloop.specs.Orders.{orders_at, orders_by}
 use Rattle.readerloop.specs.Steps.{IsRising, Step, admitted, admitted_by, last_of, once}
 use Rattle.readerloop.proofs.KeptLemmas.{below-last}
 use Rattle.readerloop.proofs.KeptSteps.{distinct-push}
-use Rattle.writerloop.specs.declared.writing.Senders.{Senders}
+use Rattle.writerloop.specs.declared.senders.Senders.{Senders}
 use Rattle.writerloop.specs.Orders.{order_in}
 use Rattle.writerloop.specs.Rest.{rest_calls}
 use Rattle.writerloop.specs.Sent.{got_of, handed_calls, handed_numbers, numbered, numbers, opens}

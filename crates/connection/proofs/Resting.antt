@@ -5,7 +5,7 @@ use Rattle.std.proofs.lemmas.List.Sorted.{Contains-permutation, IsPermutation-sy
 use Rattle.callparts.specs.declared.order.ReturningCall.{ReturningCall}
 use Rattle.callparts.specs.declared.register.Naming.{Ghosts as Naming}
 use Rattle.readerloop.specs.Calls.{HasReturned, SentItems, carried_in}
-use Rattle.writerloop.specs.declared.writing.Senders.{Senders}
+use Rattle.writerloop.specs.declared.senders.Senders.{Senders}
 use Rattle.writerloop.specs.Rest.{HandsOver, rest_calls, rest_numbers}
 use Rattle.writerloop.specs.Sent.{got_of, numbered}
 use Rattle.connection.specs.Rest.{CarriesRest}

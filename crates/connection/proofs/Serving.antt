@@ -106,7 +106,7 @@ use Rattle.readerloop.specs.Calls.{SentItems, carried_in}
 use Rattle.readerloop.specs.Orders.{orders_by}
 use Rattle.readerloop.specs.Reports.{AreAccounts, IsAccounted, IsSettled}
 use Rattle.readerloop.specs.Steps.{IsRising, Step, WasTold, admitted}
-use Rattle.writerloop.specs.declared.writing.Senders.{Senders}
+use Rattle.writerloop.specs.declared.senders.Senders.{Senders}
 use Rattle.writerloop.specs.declared.sends.SendingCall.{SendingCall as SentCall}
 use Rattle.writerloop.specs.Left.{left_by, left_in}
 use Rattle.writerloop.specs.Orders.{Obeys, order_in, orders_of}

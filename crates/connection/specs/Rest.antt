@@ -7,7 +7,7 @@ use Rattle.callparts.specs.declared.register.Naming.{Ghosts as Naming}
 use Rattle.outwriter.specs.declared.control.WriterOrder.{WriterOrder}
 use Rattle.outwriter.specs.declared.control.WriterOrder.TheVariants.{Open}
 use Rattle.readerloop.specs.Calls.{HasReturned, SentItems, carried_in}
-use Rattle.writerloop.specs.declared.writing.Senders.{Senders}
+use Rattle.writerloop.specs.declared.senders.Senders.{Senders}
 use Rattle.writerloop.specs.Rest.{rest_calls, rest_numbers}
 use Rattle.writerloop.specs.Sent.{got_of, numbered}
 

@@ -18,7 +18,8 @@
 //! - `drain`: how a server ends a connection while its calls go on.
 //! - `intake`: the reader's hold on the credit book, `outlet` the writer's.
 //! - `new_workers`: new workers. `orders`: the reader's end of the ring of orders.
-//! - `reader`: the reading thread; `writer`: the writing thread.
+//! - `reader`: the reading thread, with `reader::streams` for streams that begin and `reader::end`
+//!   for calls that come back and for the end; `writer`: the writing thread.
 //! - `served_conn`: the report of a connection; `serve`: one connection from its first byte to its
 //!   last.
 //! - `laws`, `credit`, `sent`: laws that follow from the report.

@@ -11,10 +11,11 @@
 //! carry, and what items spell.
 //!
 //! Read `control` for what goes in; `out_frame`, `frames` and `blocks` for the frames that come
-//! out; `stream`, `due`, `stream_state`, `resize` and `states` for what is kept, and `outbound`,
-//! `writing` and `sending`, which bring it together; `out_core` for what a control does, `next` for
-//! the choice of a frame, `left` for the calls that were left without trailers, and `release` for
-//! the senders that are given back. `laws` has what follows from the definitions.
+//! out; `stream`, `due`, `stream_state`, `resize` and `states` with `states::entries` for what is
+//! kept, and `outbound`, `writing` and `sending`, which bring it together; `out_core` for what a
+//! control does, `next` for the choice of a frame, `left` for the calls that were left without
+//! trailers, and `release` for the senders that are given back. `laws` has what follows from the
+//! definitions.
 #![tactic(auto)]
 
 mod blocks;

@@ -12,8 +12,9 @@
 //! - `feeder_half`: the half of a call that its client sends; `call`: one call; `calls`: all of
 //!   them.
 //! - `worker_pool`: the workers, each by a ring of tasks and a ring of finished calls.
-//! - `reading`: what is decided of each event; `decision`: the form of a decision; `laws`: what
-//!   follows from the definitions.
+//! - `reading`: what is decided of each event, with `reading::streams` for streams that begin,
+//!   `reading::data` for what comes on them, and `reading::past_calls` for calls that are over.
+//! - `decision`: the form of a decision; `laws`: what follows from the definitions.
 #![tactic(auto)]
 
 pub mod call;

@@ -50,7 +50,7 @@ use Rattle.callparts.specs.declared.report.Ending.TheVariants as ending
 use Rattle.callparts.specs.Lanes.{OutSender}
 use Rattle.writerloop.specs.declared.sends.Sends.{Sends}
 use Rattle.writerloop.specs.declared.standing.Standing.TheVariants as stands
-use Rattle.writerloop.specs.declared.writing.Senders.{Senders}
+use Rattle.writerloop.specs.declared.senders.Senders.{Senders}
 use Rattle.writerloop.specs.declared.writing.Writing.{Writing}
 use Rattle.writerloop.specs.Blamed.{WouldOverflow, blames_in}
 use Rattle.writerloop.specs.Orders.{Obeys, order_in, orders_of}

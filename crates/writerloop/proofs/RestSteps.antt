@@ -40,7 +40,7 @@ use Rattle.callparts.specs.declared.register.Naming.{Ghosts}
 use Rattle.callparts.specs.Lanes.{OutSender}
 use Rattle.writerloop.specs.declared.sends.Sends.{Sends}
 use Rattle.writerloop.specs.declared.sends.SendingCall.{SendingCall}
-use Rattle.writerloop.specs.declared.writing.Senders.{Senders}
+use Rattle.writerloop.specs.declared.senders.Senders.{Senders}
 use Rattle.writerloop.specs.Orders.{order_in}
 use Rattle.writerloop.specs.Rest.{HandsOver, rest_calls, rest_numbers}
 use Rattle.writerloop.specs.Sent.{

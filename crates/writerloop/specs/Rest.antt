@@ -7,7 +7,7 @@ use Rattle.outwriter.specs.Cores.{calls}
 use Rattle.callparts.specs.declared.order.ReturningCall.{ReturningCall}
 use Rattle.callparts.specs.declared.register.CallNumber.{CallNumber}
 use Rattle.callparts.specs.declared.register.Naming.{Ghosts}
-use Rattle.writerloop.specs.declared.writing.Senders.{Senders}
+use Rattle.writerloop.specs.declared.senders.Senders.{Senders}
 use Rattle.writerloop.specs.Orders.{order_in}
 use Rattle.writerloop.specs.Sent.{got_of, numbered, numbers, opens}
 

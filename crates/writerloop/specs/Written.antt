@@ -53,7 +53,7 @@ use Rattle.writerloop.specs.declared.frames.Frames.{Frames}
 use Rattle.writerloop.specs.declared.standing.Standing.TheVariants.{Going, Broken}
 use Rattle.writerloop.specs.declared.steps.AfterWrite.{AfterWrite}
 use Rattle.writerloop.specs.declared.steps.AfterWrite.TheVariants as rests
-use Rattle.writerloop.specs.declared.writing.Senders.{Senders}
+use Rattle.writerloop.specs.declared.senders.Senders.{Senders}
 use Rattle.writerloop.specs.declared.writing.Writing.{Writing}
 use Rattle.writerloop.specs.Blamed.{WouldOverflow, blames_by, blames_in}
 use Rattle.writerloop.specs.Orders.{HasGiven, Obeys, closes, ends_input, order_in, orders_of}

@@ -1,6 +1,6 @@
 use Rattle.std.proofs.Common.{◌≡◌, ◌≤◌, length}
 use Rattle.outwriter.specs.States.{IsSettledFrom}
-use Rattle.outwriter.proofs.states.take_last.Given as goal
+use Rattle.outwriter.proofs.states.entries.take_last.Given as goal
 
 abbrev pub invariant-loop-left : goal.invariant-loop-left
 invariant-loop-left l =

@@ -4,7 +4,7 @@ use Rattle.writerloop.specs.Sent.{opens}
 use Rattle.writerloop.proofs.RestSteps.{hands-aside}
 use Rattle.writerloop.proofs.SentSteps.{opens-none}
 use Rattle.writerloop.proofs.WrittenSteps.{as-plain}
-use Rattle.writerloop.proofs.writing.Senders.next_aside.Goals as goal
+use Rattle.writerloop.proofs.senders.Senders.next_aside.Goals as goal
 
 pub returns-in-Ok-clause-none : goal.returns-in-Ok-clause-none
 returns-in-Ok-clause-none g c =

@@ -1,6 +1,6 @@
 use Rattle.std.proofs.Common.{rules}
 use Rattle.writerloop.proofs.RestSteps.{aligned-last, hands-last, last-of, nothing-left}
-use Rattle.writerloop.proofs.writing.Senders.next_in_core.Goals as goal
+use Rattle.writerloop.proofs.senders.Senders.next_in_core.Goals as goal
 
 pub take_last-requires : goal.take_last-requires
 take_last-requires g c = record {

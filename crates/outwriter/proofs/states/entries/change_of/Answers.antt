@@ -1,6 +1,6 @@
 use Rattle.std.proofs.Common.{sym}
 use Rattle.outwriter.proofs.StateLemmas.{changed-there}
-use Rattle.outwriter.proofs.states.change_of.Goals as goal
+use Rattle.outwriter.proofs.states.entries.change_of.Goals as goal
 
 pub returns-in-Some-clause-changes : goal.returns-in-Some-clause-changes
 returns-in-Some-clause-changes c =

@@ -1,5 +1,5 @@
 use Rattle.readerloop.proofs.Starting.{ungot-sender}
-use Rattle.readerloop.proofs.reading.ends_of.Goals as goal
+use Rattle.readerloop.proofs.reading.streams.ends_of.Goals as goal
 
 pub returns-clause-stands : goal.returns-clause-stands
 returns-clause-stands g c = c.in_ok-sending.ensures.stands

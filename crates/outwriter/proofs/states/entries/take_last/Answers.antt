@@ -1,6 +1,6 @@
 use Rattle.std.proofs.Common.{arith}
 use Rattle.outwriter.proofs.StateLemmas.{taken-length, taken-settled}
-use Rattle.outwriter.proofs.states.take_last.Goals as goal
+use Rattle.outwriter.proofs.states.entries.take_last.Goals as goal
 
 pub returns-then-is_some-clause-owing : goal.returns-then-is_some-clause-owing
 returns-then-is_some-clause-owing c =

@@ -6,7 +6,7 @@ use Rattle.outwriter.specs.declared.states.Stream.{Stream}
 use Rattle.outwriter.specs.declared.stream_state.StreamState.{StreamState}
 use Rattle.outwriter.specs.declared.stream_state.StreamState.TheVariants.{Call}
 use Rattle.outwriter.proofs.StateLemmas.{value-at}
-use Rattle.outwriter.proofs.states.take_at.Goals as goal
+use Rattle.outwriter.proofs.states.entries.take_at.Goals as goal
 
 pub returns-in-Some : goal.returns-in-Some
 returns-in-Some c =

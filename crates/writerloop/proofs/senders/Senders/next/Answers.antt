@@ -1,6 +1,6 @@
 use Rattle.std.proofs.Common.{Option, None}
 use Rattle.writerloop.proofs.RestSteps.{none-from, some-from}
-use Rattle.writerloop.proofs.writing.Senders.next.Goals as goal
+use Rattle.writerloop.proofs.senders.Senders.next.Goals as goal
 
 pub returns-in-None-clause-some : goal.returns-in-None-clause-some
 returns-in-None-clause-some g c =

@@ -1,7 +1,7 @@
 use Rattle.std.proofs.Common.{sym}
 use Rattle.outwriter.specs.Polls.{coming}
 use Rattle.outwriter.proofs.StateLemmas.{entry-next}
-use Rattle.outwriter.proofs.states.next_at.Goals as goal
+use Rattle.outwriter.proofs.states.entries.next_at.Goals as goal
 
 pub returns-in-Some-clause-next : goal.returns-in-Some-clause-next
 returns-in-Some-clause-next g c =

@@ -1,6 +1,6 @@
 use Rattle.std.proofs.Common.{◌∙◌}
 use Rattle.readerloop.proofs.Starting.{fresh-work, given-lane, same-request, taken-lane}
-use Rattle.readerloop.proofs.reading.open_lanes.Goals as goal
+use Rattle.readerloop.proofs.reading.streams.open_lanes.Goals as goal
 
 pub ends_of-requires-clause-one_lane : goal.ends_of-requires-clause-one_lane
 ends_of-requires-clause-one_lane g c =

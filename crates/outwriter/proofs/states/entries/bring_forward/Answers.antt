@@ -2,7 +2,7 @@ use Rattle.std.proofs.Common.{refl}
 use Rattle.std.proofs.lemmas.List.Sorted.{All-permutation}
 use Rattle.outwriter.specs.States.{Fits}
 use Rattle.outwriter.proofs.StateLemmas.{settled-swap}
-use Rattle.outwriter.proofs.states.bring_forward.Goals as goal
+use Rattle.outwriter.proofs.states.entries.bring_forward.Goals as goal
 
 pub returns-clause-settled : goal.returns-clause-settled
 returns-clause-settled c =
