@@ -34,6 +34,7 @@ ONE_USE = [
     ("writerloop/src/writing.rt", "left", "fn"),
     ("writerloop/src/writing.rt", "rest", "fn"),
     ("writerloop/src/writing.rt", "rest", "field"),
+    ("writerloop/src/senders.rt", "rest", "field"),
     ("readerloop/src/reading.rt", "cut", "field"),
 ]
 STANDS = {"fn": r"\bfn {}\b", "field": r"(?m)^ +(?:pub(?:\([a-z]+\))? )?(?:ghost )?{}: "}
