@@ -11,6 +11,7 @@ mod warning;
 use crate::fill_end::FillEnd;
 use crate::frames::Frames;
 use crate::inbox::Inbox;
+use crate::senders::{Senders, WriterResult};
 use crate::sends::Sends;
 use crate::standing::Standing;
 use crate::steps::AfterWrite;
