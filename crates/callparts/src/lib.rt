@@ -1,4 +1,5 @@
-//! What a connection's threads hand each other of a call, its number, and the accounts.
+//! What the threads of a connection hand each other for a call. The numbers of calls and their
+//! accounts are here, too.
 //!
 //! A call has lanes of its own, with four ends. The reader makes them, and they come back to it
 //! once the call is over: the `Taker` and the giving end with a `FinishedJob`, from a worker; the

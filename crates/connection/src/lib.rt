@@ -1,4 +1,4 @@
-//! A connection with its threads: bytes come in, calls are answered, bytes go out.
+//! Serves one connection with its threads. Bytes come in, calls are answered, bytes go out.
 //!
 //! `serve_connection` reads in its caller's thread. One more thread writes, and each worker answers
 //! one call after another. The threads share one lock, which holds the connection's credit book,
@@ -12,8 +12,9 @@
 //! | done, one a worker | worker | reader | the same of a call that is over |
 //!
 //! Machines without threads decide what becomes of a stream: `readerloop` for the side that reads,
-//! `callworker` for a worker, `writerloop` for the side that writes. This crate runs them: it has
-//! the threads, the lock, the bells, and the join.
+//! `callrun` for a call, `writerloop` for the side that writes. This crate runs those of the two
+//! sides, and `callworker`, which waits, those of the calls. The threads, the lock, the bells and
+//! the join are here.
 //!
 //! - `drain`: how a server ends a connection while its calls go on.
 //! - `intake`: the reader's hold on the credit book, `outlet` the writer's.

@@ -1,4 +1,4 @@
-//! Which frame a connection's writer writes next (RFC 9113, sections 5, 6 and 8.1).
+//! Chooses the frame that a connection's writer writes next (RFC 9113, sections 5, 6 and 8.1).
 //!
 //! An `OutCore` takes controls, which are what the peer said or what this side is to say, and
 //! credit for the peer. It looks at the senders of the open calls, and answers the next frame, one

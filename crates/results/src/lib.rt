@@ -1,5 +1,5 @@
-//! Results of test cases: what came of each, which of them fail a run, and the forms in which a
-//! build reads them.
+//! The results of test cases, and the forms in which a build reads them. It says what came of each
+//! case, and which of them fail a run.
 //!
 //! - `outcome`, `words`: what came of a case, and the words for it.
 //! - `standing`: what is said of an outcome beside a list of known failures, and whether it fails

@@ -1,5 +1,5 @@
-//! The events that the bytes of an HTTP/2 connection mean. RFC 9113, sections 3.4 to 6, says what
-//! they mean.
+//! Turns the bytes of an HTTP/2 connection into events. RFC 9113, sections 3.4 to 6, says what the
+//! bytes mean.
 //!
 //! Each part has a contract of its own: `preface` is the text with which a client begins,
 //! `settings` the content of a SETTINGS frame, `judge` what a frame means after those before it,

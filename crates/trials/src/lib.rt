@@ -1,4 +1,4 @@
-//! Cases and wire cases, run against a server.
+//! Runs cases and wire cases against a server.
 //!
 //! - `run_case` runs test cases (`client`, `attempt`), several at a time (`load`), or as a soak
 //!   (`soak`). `connecting` makes the connections, `captured_conn` keeps what passes on one.
