@@ -108,7 +108,7 @@ where
             let _said = eprintln!(rt; "interop: bad input: {fault}");
             BAD_WORDS
         }
-        Err(FramesFault::WriteFailed) => fail(rt, UNWRITTEN),
+        Err(FramesFault::WriteFailed) => end_unwritten(rt),
         Err(FramesFault::ReadFailed) if words.files.is_empty() => {
             fail(rt, "standard input can't be read")
         }
@@ -138,7 +138,7 @@ where
     let mut output = StdDevice::new(io::writer(rt));
     let answer = run_case(*rt, words, is_shown, &mut output);
     if lists && output.has_failed() {
-        return fail(rt, UNWRITTEN);
+        return end_unwritten(rt);
     }
     status_of(answer)
 }
@@ -153,7 +153,7 @@ where
     let mut output = StdDevice::new(io::writer(rt));
     let answer = run_misbehave(*rt, words, is_shown, &mut output);
     if lists && output.has_failed() {
-        return fail(rt, UNWRITTEN);
+        return end_unwritten(rt);
     }
     status_of(answer)
 }
@@ -168,7 +168,7 @@ where
     let mut output = StdDevice::new(io::writer(rt));
     let answer = run_wire(*rt, words, is_shown, &mut output);
     if lists && output.has_failed() {
-        return fail(rt, UNWRITTEN);
+        return end_unwritten(rt);
     }
     status_of(answer)
 }
@@ -302,7 +302,7 @@ where
     if let Some(said) = describe(rt, words) {
         return match said {
             Ok(()) => 0,
-            Err(_) => fail(rt, UNWRITTEN),
+            Err(_) => end_unwritten(rt),
         };
     }
     if let Some(reason) = signed::signed_port(words) {
@@ -361,6 +361,16 @@ fn explain_fault(rt: &impl Eprint, fault: RunFault) -> u8 {
         RunFault::ReadFailed => fail(rt, "standard input can't be read"),
         RunFault::WriteFailed => fail(rt, UNWRITTEN),
         RunFault::OutOfMemory => fail(rt, "out of memory"),
+    }
+}
+
+// Says on standard error that standard output can't be written. If nobody reads it any more, as
+// after `| head`, that is no failure, and nothing is said. A device doesn't keep why a write failed,
+// so one more is tried, which then fails for the same reason.
+fn end_unwritten<R: Print + Eprint>(rt: &R) -> u8 {
+    match println!(rt; "") {
+        Err(error) if error.kind() == ErrorKind::BrokenPipe => 0,
+        _ => fail(rt, UNWRITTEN),
     }
 }
 

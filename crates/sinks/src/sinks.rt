@@ -382,7 +382,7 @@ fn known_failures<R: Files + Eprint + AllocGlobal>(
     if let Some(other) = stray(known.as_slice(), names) {
         let name = other.name.as_str();
         let number = line_of(text.as_str(), name);
-        let _said = eprintln!(rt; "interop: {file}, line {number}: {name} is the name of no case");
+        let _said = eprintln!(rt; "interop: {file}, line {number}: there is no case {name}");
         return Err(SinkFault::BadKnown);
     }
     let head = head_of(alloc, text.as_str())?;

@@ -56,6 +56,11 @@ pub enum Reason<'a> {
         command: &'a str,
         what: &'static str,
     },
+    /// It takes no more than this.
+    TooMany {
+        command: &'a str,
+        what: &'static str,
+    },
     /// These exclude each other.
     Excluding {
         both: &'static str,
@@ -138,6 +143,7 @@ impl<'a> fmt::Display for Reason<'a> {
                 "{other} and {option} are the same option"
             ),
             Reason::Missing { command, what } => write!(f, "{command} needs {what}"),
+            Reason::TooMany { command, what } => write!(f, "{command} takes {what}"),
             Reason::Excluding { both } => write!(f, "{both} exclude each other"),
         }
     }
@@ -316,6 +322,10 @@ fn given_by<'c, 'a>(
 fn reason_of_whole<'a>(command: &'a str, words: &[String], is_placed: bool) -> Reason<'a> {
     match excluding(command, words, is_placed) {
         Some(both) => Reason::Excluding { both },
+        None if command == "frames" => Reason::TooMany {
+            command,
+            what: "two files at most",
+        },
         None => Reason::Missing {
             command,
             what: missing(command, words, is_placed),
@@ -349,7 +359,6 @@ fn missing(command: &str, words: &[String], is_placed: bool) -> &'static str {
         "misbehave" => "NAME.., or --list",
         "serve" => "--port P or --any-port",
         "wire" => "all, GROUP, GROUP/N or GROUP/N-M, or --list",
-        "frames" => "two files at most",
         _ => takes(command),
     }
 }
