@@ -365,8 +365,8 @@ fn explain_fault(rt: &impl Eprint, fault: RunFault) -> u8 {
 }
 
 // Says on standard error that standard output can't be written. If nobody reads it any more, as
-// after `| head`, that is no failure, and nothing is said. A device doesn't keep why a write failed,
-// so one more is tried, which then fails for the same reason.
+// after `| head`, that is no failure, and nothing is said. A device doesn't keep why a write
+// failed, so one more is tried, which then fails for the same reason.
 fn end_unwritten<R: Print + Eprint>(rt: &R) -> u8 {
     match println!(rt; "") {
         Err(error) if error.kind() == ErrorKind::BrokenPipe => 0,
