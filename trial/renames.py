@@ -239,6 +239,10 @@ EDIT_ROWS = {
         ("new: let WriterParts { written, mut told } = writing.join(&rt); let told",
          "new: } = writing.join(&rt); let mut told = told; let told"),
     ],
+    "crates/connection/wrong/stream_is_cancelled_where_memory_runs_out.edit": [
+        ("let order = PeerControl::Reset", "let order = WriterOrder::Reset"),
+    ],
+    "crates/readerloop/wrong/refused_for_memory_goes_on.edit": [("..Decided::nothing()", "..Decision::nothing()")],
 }
 
 
