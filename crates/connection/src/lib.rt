@@ -12,9 +12,9 @@
 //! | done, one a worker | worker | reader | the same of a call that is over |
 //!
 //! Machines without threads decide what becomes of a stream: `readerloop` for the side that reads,
-//! `callrun` for a call, `writerloop` for the side that writes. This crate runs those of the two
-//! sides, and `callworker`, which waits, those of the calls. The threads, the lock, the bells and
-//! the join are here.
+//! `callrun` for a call, `writerloop` for the side that writes. `callworker` runs calls in threads
+//! of workers, and waits there; it has the lock and the bells, too. This crate runs the two sides,
+//! hires the workers, and joins all threads.
 //!
 //! - `drain`: how a server ends a connection while its calls go on.
 //! - `intake`: the reader's hold on the credit book, `outlet` the writer's.
