@@ -23,17 +23,17 @@ TRIED = "Tests and measurements"
 
 def crates():
     """The table of the crates."""
-    yield "| Crate | Holds |"
+    yield "|Crate|Holds|"
     yield "|---|---|"
     for heading, names in proved.groups():
-        yield f"| **{heading}** | |"
+        yield f"|**{heading}**||"
         if heading == TRIED:
-            yield f"| {', '.join(f'`{it}`' for it in names)} | [MAINTAINERS.md](MAINTAINERS.md) |"
+            yield f"|{', '.join(f'`{it}`' for it in names)}|[MAINTAINERS.md](MAINTAINERS.md)|"
             return
         for name in names:
             said = re.sub(r"\s\([^()]*\)", "", proved.root_of(name)[1]).rstrip(".")
             short = re.match(r"(?:[^ :;]+ ){4,}[^ :;]+(?=[:;])", said)
-            yield f"| `{name}` | {short[0] if short else said} |"
+            yield f"|`{name}`|{short[0] if short else said}|"
 
 
 def script(path):

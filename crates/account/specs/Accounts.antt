@@ -1,7 +1,13 @@
 -- Which accounts of a call are lawful.
 use Rattle.std.specs.Prelude.{◌≡◌, ◌≢◌, ℕ, List, [], ◌∷◌, ◌++◌, Option, Some, None}
 use Rattle.lpm.specs.declared.fault.LpmFault.{LpmFault}
-use Rattle.lpm.specs.declared.fault.LpmFault.TheVariants.{Compressed, BadFlag, TooLong, CutAtEnd, OutOfMemory}
+use Rattle.lpm.specs.declared.fault.LpmFault.TheVariants.{
+  Compressed,
+  BadFlag,
+  TooLong,
+  CutAtEnd,
+  OutOfMemory,
+}
 use Rattle.lpm.specs.Messages.{frames, IsFrame, Spells, IsFaultyAfter}
 use Rattle.lpm.specs.Reading.{messages_of}
 use Rattle.account.specs.declared.call.Account.{Account}
@@ -16,7 +22,7 @@ use Rattle.account.specs.declared.call.Told.TheVariants as told
 abbrev pub Begins : {A : Type 0} → List A → List A → Type 0
 Begins {A} front all = (rest : List A) × (all ≡ front ++ rest)
 
--- messages, and at most at the end trailers, or that the call was left
+-- messages, and maybe at the end trailers, or that the call was left
 abbrev pub IsBody : List OutItem → Type 0
 IsBody [] = Unit {0}
 IsBody (Head fields ∷ items) = ⊥
@@ -24,8 +30,9 @@ IsBody (Message bytes ∷ items) = IsFrame bytes × IsBody items
 IsBody (Trailers fields ∷ items) = items ≡ []
 IsBody (Left ∷ items) = items ≡ []
 
--- What a handler may give: nothing, trailers alone, or a head, messages, and trailers at most at the end
--- (gRPC over HTTP/2, "Responses"); and in place of the trailers, that it left the call without them.
+-- What a handler may give: nothing, trailers alone, or a head, messages, and maybe trailers at the
+-- end (gRPC over HTTP/2, "Responses"); and in place of the trailers, that it left the call without
+-- them.
 abbrev pub IsResponse : List OutItem → Type 0
 IsResponse [] = Unit {0}
 IsResponse (Head fields ∷ items) = IsBody items
@@ -33,21 +40,23 @@ IsResponse (Message bytes ∷ items) = ⊥
 IsResponse (Trailers fields ∷ items) = items ≡ []
 IsResponse (Left ∷ items) = items ≡ []
 
--- A fault may be told only where it stands behind the messages that were taken: one of the bytes themselves, or that
--- they ended inside a message. Want of memory is never told.
+-- A fault may be told only if it comes right after the messages that were taken: a fault of the
+-- bytes, or their end inside a message. Want of memory is never told.
 abbrev pub MayTellFault : LpmFault → List ℕ → Option Shut → List (List ℕ) → Type 0
 MayTellFault Compressed fed closed taken = IsFaultyAfter fed taken Compressed
 MayTellFault BadFlag fed closed taken = IsFaultyAfter fed taken BadFlag
 MayTellFault TooLong fed closed taken = IsFaultyAfter fed taken TooLong
-MayTellFault CutAtEnd fed closed taken = (closed ≡ Some shut.End) × ((rest : List ℕ) × Spells fed taken rest × (rest ≢ []))
+MayTellFault CutAtEnd fed closed taken =
+    (closed ≡ Some shut.End) × ((rest : List ℕ) × Spells fed taken rest × (rest ≢ []))
 MayTellFault OutOfMemory fed closed taken = ⊥
 
--- The end may be told only where the half was ended and all its bytes were taken; a reset only where the half was reset
--- and each message that came whole before it was taken.
+-- The end may be told only where the half was ended and all its bytes were taken; a reset only
+-- where the half was reset and each message that came whole before it was taken.
 abbrev pub MayTell : Option Told → List ℕ → Option Shut → List (List ℕ) → Type 0
 MayTell None fed closed taken = Unit {0}
 MayTell (Some told.End) fed closed taken = (closed ≡ Some shut.End) × (fed ≡ frames taken)
-MayTell (Some (told.Reset code)) fed closed taken = (closed ≡ Some (shut.Reset code)) × ((rest : List ℕ) × Spells fed taken rest)
+MayTell (Some (told.Reset code)) fed closed taken =
+    (closed ≡ Some (shut.Reset code)) × ((rest : List ℕ) × Spells fed taken rest)
 MayTell (Some (told.Fault fault)) fed closed taken = MayTellFault fault fed closed taken
 
 pub record IsLawful (account : Account) : Type 0 where

@@ -1,5 +1,23 @@
 -- The account that a list of events makes.
-use Rattle.std.specs.Prelude.{ℕ, ◌-◌, Bool, true, false, List, [], ◌∷◌, ◌++◌, length, Option, Some, None, slice_get, fold, if◌then◌else◌, is_none}
+use Rattle.std.specs.Prelude.{
+  ℕ,
+  ◌-◌,
+  Bool,
+  true,
+  false,
+  List,
+  [],
+  ◌∷◌,
+  ◌++◌,
+  length,
+  Option,
+  Some,
+  None,
+  slice_get,
+  fold,
+  if◌then◌else◌,
+  is_none,
+}
 use Rattle.lpm.specs.declared.fault.LpmFault.{LpmFault}
 use Rattle.lpm.specs.declared.fault.LpmFault.TheVariants.{CutAtEnd}
 use Rattle.lpm.specs.Reading.{is_frame, messages_of, rest_of, fault_of}
@@ -17,7 +35,7 @@ use Rattle.account.specs.declared.call.Told.TheVariants as told
 abbrev pub opened : Account
 opened = record { fed = []; shut = None; taken = []; told = None; given = []; sent = [] }
 
--- what there is to be told behind the last message: the fault of the bytes, or how the half was shut
+-- what there is to be told after the last message: the fault of the bytes, or how the half was shut
 abbrev pub telling : Option LpmFault → List ℕ → Option Shut → Option Told
 telling (Some fault) rest closed = Some (told.Fault fault)
 telling None rest None = None
@@ -25,7 +43,7 @@ telling None rest (Some (shut.Reset code)) = Some (told.Reset code)
 telling None [] (Some shut.End) = Some told.End
 telling None (byte ∷ rest) (Some shut.End) = Some (told.Fault CutAtEnd)
 
--- the next message that the fed bytes spell where there is one, and else what there is to be told
+-- the next message that the fed bytes spell, if there is one, and else what there is to be told
 abbrev pub after_next : Account → Option (List ℕ) → Account
 after_next a (Some message) = record a { taken = a.taken ++ message ∷ [] }
 after_next a None = record a { told = telling (fault_of a.fed) (rest_of a.fed) a.shut }
@@ -34,7 +52,7 @@ abbrev pub after_take : Account → Option Told → Account
 after_take a (Some told) = a
 after_take a None = after_next a (slice_get (messages_of a.fed) (length a.taken))
 
--- whether an item may be given behind the last one
+-- whether an item may be given after the last one
 abbrev pub may_follow : Option OutItem → OutItem → Bool
 may_follow None (Head fields) = true
 may_follow None (Message bytes) = false
@@ -63,7 +81,8 @@ unfoldable pub after : Account → CallEvent → Account
 after a (event.Feed bytes) = if is_none a.shut then record a { fed = a.fed ++ bytes } else a
 after a (event.Shut closed) = if is_none a.shut then record a { shut = Some closed } else a
 after a event.Take = after_take a a.told
-after a (event.Give item) = if may_follow (last_of a.given) item then record a { given = a.given ++ item ∷ [] } else a
+after a (event.Give item) =
+    if may_follow (last_of a.given) item then record a { given = a.given ++ item ∷ [] } else a
 after a event.Send = after_send a (slice_get a.given (length a.sent))
 
 -- events, one after another

@@ -8,7 +8,14 @@ use Rattle.account.specs.declared.serial.SerialCall.{SerialCall}
 use Rattle.account.specs.Accounts.{Begins, IsResponse, MayTell}
 
 abbrev pub account_of : SerialCall → Account
-account_of r = record { fed = r.fed.items; shut = r.shut; taken = r.taken.items; told = r.told; given = r.given.items; sent = r.sent.items }
+account_of r = record {
+  fed = r.fed.items;
+  shut = r.shut;
+  taken = r.taken.items;
+  told = r.told;
+  given = r.given.items;
+  sent = r.sent.items;
+}
 
 pub record IsConsistent (r : SerialCall) : Type 0 where
   -- the splitter has what was fed, but for the messages that were taken
@@ -18,7 +25,7 @@ pub record IsConsistent (r : SerialCall) : Type 0 where
   pub sent : Begins r.sent.items r.given.items
   pub given : IsResponse r.given.items
 
--- if it is a message, it is one with its prefix
+-- if the item is a message, it is one with its prefix
 abbrev pub IsFramed : OutItem → Type 0
 IsFramed (Head fields) = Unit {0}
 IsFramed (Message bytes) = IsFrame bytes

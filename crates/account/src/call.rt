@@ -1,4 +1,4 @@
-//! What happens to a call, and what is kept of it.
+//! What happens to a call, and the account of it.
 
 ghost use Rattle.std.specs.Prelude.{◌≡◌, IfOk};
 
@@ -17,7 +17,7 @@ pub enum Shut {
     Reset(u32),
 }
 
-/// What a call's handler was told behind the messages.
+/// What a call's handler was told after the messages.
 #[derive(Clone, Copy, Debug, PartialEq, Eq)]
 pub enum Told {
     /// There are no more messages.
@@ -35,14 +35,14 @@ pub enum OutItem {
     Head(Sequence<Field>),
     /// One message with its prefix.
     Message(ZeroTail),
-    /// The trailers, or the one block of an answer that has no headers of its own.
+    /// The trailers, or the one block of a response without headers of its own.
     Trailers(Sequence<Field>),
-    /// The call was left without trailers: nothing is to be sent for it, and no item follows.
+    /// The call was left without trailers: nothing is sent for this item, and none follows it.
     Left,
 }
 
 impl OutItem {
-    /// The same item. The first bytes of a message are shared, those of fields are copied.
+    /// A copy of the item. The first bytes of a message are shared, and those of fields are copied.
     pub fn copy(&self) -> Result<OutItem, AllocError>
         ensures { IfOk result (λ copy. copy ≡ self.now) }
     {
@@ -66,11 +66,11 @@ pub enum CallEvent {
     Take,
     /// The handler gave an item.
     Give(OutItem),
-    /// An item left.
+    /// An item was sent.
     Send,
 }
 
-/// All that is kept of a call.
+/// The account of a call.
 #[derive(Debug, Drop)]
 pub struct Account {
     /// The bytes that were fed, joined.
@@ -79,10 +79,10 @@ pub struct Account {
     pub shut: Option<Shut>,
     /// The messages that were taken.
     pub taken: Sequence<Bytes>,
-    /// What was told behind them, if anything was.
+    /// What was told after them, if anything was.
     pub told: Option<Told>,
     /// The items that were given.
     pub given: Sequence<OutItem>,
-    /// Those of them that left.
+    /// The items that were sent.
     pub sent: Sequence<OutItem>,
 }

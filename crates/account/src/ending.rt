@@ -7,8 +7,8 @@ ghost use Rattle.lpm.specs.Messages.{IsUnfinished};
 use crate::call::{Shut, Told};
 use lpm::Splitter;
 
-/// What is told where a splitter holds no whole message and no fault: how the half was shut, if it was. An end inside a
-/// message is told as that fault.
+/// What is told where a splitter has no whole message and no fault: how the half was shut, if it
+/// was. For an end inside a message that is the fault.
 ///
 /// It takes no memory, and time linear in the bytes that wait.
 pub fn told_behind(splitter: &Splitter, shut: Option<Shut>) -> Option<Told>

@@ -17,10 +17,11 @@ use std::alloc::{AllocError, Global};
 
 /// The account of a call to which these events happen, one after another.
 ///
-/// Some events change nothing: a Feed or Shut once the half was shut; a Take once something was told, or while there is
-/// nothing to take or tell; a Give that is out of place (a Head that isn't first, a Message with no Head before it or
-/// that isn't one message with its prefix, anything behind Trailers or Left); a Send with nothing left to send.
-/// It takes time linear in the events and their bytes.
+/// Some events change nothing: a Feed or Shut once the half was shut; a Take once something was
+/// told, or while there is nothing to take or tell; a Give that is out of place (a Head that isn't
+/// first, a Message without a Head before it or that isn't one message with its prefix, anything
+/// after Trailers or Left); a Send with nothing left to send. It takes time linear in the events
+/// and their bytes.
 pub fn replay(alloc: Global, events: &[CallEvent]) -> Result<Account, AllocError>
     ensures run { IfOk result (λ account. account ≡ run events.now) }
     ensures lawful { IfOk result IsLawful }
@@ -37,7 +38,7 @@ pub fn replay(alloc: Global, events: &[CallEvent]) -> Result<Account, AllocError
 struct SerialCall {
     /// The bytes that were fed.
     fed: Vec<u8>,
-    /// The same bytes, but for those of the messages that were taken.
+    /// The bytes that were fed, without those of the messages that were taken.
     splitter: Splitter,
     shut: Option<Shut>,
     taken: Vec<Bytes>,
@@ -65,7 +66,7 @@ impl SerialCall {
         }
     }
 
-    /// One event more.
+    /// Lets one more event happen.
     fn step(&mut self, event: &CallEvent) -> Result<(), AllocError>
         requires { IsConsistent self.old }
         ensures account { OnOk result
@@ -186,7 +187,7 @@ impl SerialCall {
 
 ghost use Rattle.account.specs.SerialCalls.{IsFramed};
 
-/// Whether an item may be given behind the last one.
+/// Whether an item may be given after the last one.
 fn may_follow(last: Option<&OutItem>, item: &OutItem) -> bool
     ensures computed { result ≡ may_follow (option_copied last.entry) item.now }
     ensures framed { IsTrue result → IsFramed item.now }

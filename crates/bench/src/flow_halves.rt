@@ -69,7 +69,7 @@ fn judge(halves: &mut Halves, streams: u16, rounds: u32) -> Result<Count, AllocE
     Ok(count)
 }
 
-/// Judges so often on so many streams, and answers the nanoseconds too.
+/// Judges a number of times on a number of streams, and answers the nanoseconds too.
 fn judge_timed(
     rt: &(impl Clock + AllocGlobal),
     streams: u16,
@@ -90,7 +90,8 @@ fn timed_over(
     Ok((count, start.elapsed(rt)?.as_nanos()))
 }
 
-/// `flow-halves STREAMS ROUNDS`: prints the heads that were judged, those that were lawful and the nanoseconds.
+/// `flow-halves STREAMS ROUNDS`: prints the heads that were judged, those that were lawful and the
+/// nanoseconds.
 pub fn timed(rt: &(impl Clock + AllocGlobal + Print), sizes: &[String]) -> Result<()> {
     let (count, nanos) = judge_timed(rt, number16(sizes, 0)?, number32(sizes, 1)?)?;
     let heads = count.heads;

@@ -8,7 +8,8 @@ use std::alloc::Global;
 use std::rt::Clock;
 use std::time::Instant;
 
-/// Payloads of a connection that carries large messages and small ones, and the bytes of their frames.
+/// Payloads of a connection that carries large messages and small ones, and the bytes of their
+/// frames.
 const PAYLOADS: [usize; 4] = [16_384, 5, 16_384, 1_000];
 
 const ROUND: usize = 33_809;
@@ -52,8 +53,8 @@ fn drain(reader: &mut FrameReader, count: &mut Count) -> Result<()> {
     Ok(())
 }
 
-/// Reads these bytes again and again, in pieces of a size. A socket's buffer too is used again, so what is measured
-/// isn't where the bytes come from.
+/// Reads these bytes again and again, in pieces of a size. A socket's buffer too is used again, so
+/// what is measured isn't where the bytes come from.
 fn read(alloc: Global, bytes: &[u8], rounds: usize, piece: usize) -> Result<Count> {
     let mut reader = FrameReader::new(alloc);
     let mut count = Count {
@@ -79,7 +80,8 @@ fn read_once(
     Ok(())
 }
 
-/// `h2frame-feed PIECE TOTAL`: prints the bytes fed, the frames read, the bytes of their contents and the nanoseconds.
+/// `h2frame-feed PIECE TOTAL`: prints the bytes fed, the frames read, the bytes of their contents
+/// and the nanoseconds.
 pub fn timed(rt: &(impl Clock + AllocGlobal + Print), sizes: &[String]) -> Result<()> {
     let alloc = rt.alloc();
     let bytes = round(alloc)?;

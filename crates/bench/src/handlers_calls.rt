@@ -11,7 +11,7 @@ use std::time::Instant;
 /// The bytes of a reply's prefix: its flag and its length in four bytes.
 const PREFIX: usize = 5;
 
-/// The frame of a reply, made of its bytes: they are written, and copied behind the prefix.
+/// The frame of a reply, made of its bytes: they are written, and copied after the prefix.
 fn copied(alloc: Global, reply: &Reply) -> Result<Vec<u8>> {
     let message = reply.bytes(alloc)?;
     let mut framed = Vec::new(alloc);
@@ -19,7 +19,7 @@ fn copied(alloc: Global, reply: &Reply) -> Result<Vec<u8>> {
     Ok(framed)
 }
 
-/// The frame of a reply, made in place: the prefix, and the reply's bytes behind it.
+/// The frame of a reply, made in place: the prefix, and then the reply's bytes.
 fn in_place(alloc: Global, reply: &Reply) -> Result<Vec<u8>, AllocError> {
     let len = reply.len();
     let mut framed = Vec::with_capacity(alloc, len.saturating_add(PREFIX))?;
@@ -32,7 +32,7 @@ fn in_place(alloc: Global, reply: &Reply) -> Result<Vec<u8>, AllocError> {
     Ok(framed)
 }
 
-/// `handlers-reply LENGTH`: the frame of a reply of so many zeros, copied and in place.
+/// `handlers-reply LENGTH`: the frame of a reply of LENGTH zeros, copied and in place.
 pub fn reply<R: Clock + AllocGlobal + Print>(rt: &R, sizes: &[String]) -> Result<()> {
     let reply = Reply::Zeros(number32(sizes, 0)?);
     let (first, copying) = copied_timed(rt, &reply)?;
@@ -48,14 +48,15 @@ fn copied_timed<R: Clock + AllocGlobal>(rt: &R, reply: &Reply) -> Result<(usize,
     Ok((framed.len(), start.elapsed(rt)?.as_nanos()))
 }
 
-/// The same of the frame that is made in place.
+/// The nanoseconds of the frame that is made in place.
 fn in_place_timed<R: Clock + AllocGlobal>(rt: &R, reply: &Reply) -> Result<(usize, u128)> {
     let start = Instant::now(rt)?;
     let framed = in_place(rt.alloc(), reply)?;
     Ok((framed.len(), start.elapsed(rt)?.as_nanos()))
 }
 
-/// A request whose body, of so many zeros, is the one field of its payload; both have a length of four bytes.
+/// A request whose body, of `len` zeros, is the one field of its payload; both have a length of
+/// four bytes.
 fn request(alloc: Global, len: usize) -> Result<Vec<u8>, AllocError> {
     let mut bytes = Vec::with_capacity(alloc, len.saturating_add(10))?;
     push_tag(&mut bytes, 0x0a, len.saturating_add(5))?;
@@ -76,7 +77,7 @@ fn push_tag(bytes: &mut Vec<u8>, tag: u8, len: usize) -> Result<(), AllocError> 
     Ok(())
 }
 
-/// `handlers-request LENGTH`: StreamingInputCall takes a request whose body has so many bytes.
+/// `handlers-request LENGTH`: StreamingInputCall takes a request whose body has LENGTH bytes.
 pub fn one_request<R: Clock + AllocGlobal + Print>(rt: &R, sizes: &[String]) -> Result<()> {
     let bytes = request(rt.alloc(), number(sizes, 0)?)?;
     let (replies, taking) = taken_timed(rt, bytes.as_slice())?;

@@ -1,4 +1,5 @@
-//! Reading header blocks: one long Huffman text, and entries that go from the table one after another.
+//! Reading header blocks: one long Huffman text, and entries that go from the table one after
+//! another.
 
 use crate::sizes::number;
 use anyhow::Result;
@@ -46,7 +47,8 @@ fn read(decoder: &mut Decoder, block: &[u8]) -> Result<usize, HpackFault> {
     Ok(bytes)
 }
 
-/// Reads a block so often. Answers how many bytes of names and values stood in it altogether, and the nanoseconds.
+/// Reads a block so often. Answers how many bytes of names and values stood in it altogether, and
+/// the nanoseconds.
 fn read_timed(
     rt: &(impl Clock + AllocGlobal),
     block: &[u8],
@@ -66,7 +68,8 @@ fn read_often(decoder: &mut Decoder, block: &[u8], times: usize) -> Result<usize
     Ok(bytes)
 }
 
-/// `hpack-huffman LENGTH`: prints what was read in a Huffman text of this many bytes, and the nanoseconds.
+/// `hpack-huffman LENGTH`: prints what was read in a Huffman text of this many bytes, and the
+/// nanoseconds.
 pub fn huffman(rt: &(impl Clock + AllocGlobal + Print), sizes: &[String]) -> Result<()> {
     let block = text(rt.alloc(), number(sizes, 0)?)?;
     let (bytes, nanos) = read_timed(rt, block.as_slice(), 1)?;
@@ -74,7 +77,8 @@ pub fn huffman(rt: &(impl Clock + AllocGlobal + Print), sizes: &[String]) -> Res
     Ok(())
 }
 
-/// `hpack-evictions THOUSANDS`: prints what was read in this many thousand entries, and the nanoseconds.
+/// `hpack-evictions THOUSANDS`: prints what was read in this many thousand entries, and the
+/// nanoseconds.
 pub fn evictions(rt: &(impl Clock + AllocGlobal + Print), sizes: &[String]) -> Result<()> {
     let block = entries(rt.alloc())?;
     let (bytes, nanos) = read_timed(rt, block.as_slice(), number(sizes, 0)?)?;

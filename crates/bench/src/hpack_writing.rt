@@ -1,4 +1,5 @@
-//! Writing header blocks: the head and the trailers of one call after another, and random fields for other decoders to read.
+//! Writing header blocks: the head and the trailers of one call after another, and random fields
+//! for other decoders to read.
 
 use crate::sizes::number;
 use anyhow::{Result, ensure};
@@ -75,7 +76,7 @@ fn trailers(alloc: Global) -> Result<Vec<Field>, AllocError> {
     Ok(fields)
 }
 
-/// How many bytes the blocks of so many calls have, and the nanoseconds that they took.
+/// How many bytes the blocks of a number of calls have, and the nanoseconds that they took.
 fn written(rt: &(impl Clock + AllocGlobal), times: usize) -> Result<(usize, u128)> {
     let (head, trailers) = (head(rt.alloc())?, trailers(rt.alloc())?);
     let mut encoder = Encoder::new(rt.alloc());
@@ -94,7 +95,8 @@ fn write(encoder: &mut Encoder, head: &[Field], trailers: &[Field], times: usize
     Ok(bytes)
 }
 
-/// `hpack-heads CALLS`: prints the bytes of the head and the trailers of so many calls, and the nanoseconds of writing them.
+/// `hpack-heads CALLS`: prints the bytes of the head and the trailers of CALLS calls, and the
+/// nanoseconds of writing them.
 pub fn heads(rt: &(impl Clock + AllocGlobal + Print), sizes: &[String]) -> Result<()> {
     let (bytes, nanos) = written(rt, number(sizes, 0)?)?;
     println!(rt; "{bytes} {nanos}")?;
@@ -148,8 +150,8 @@ fn line_of(alloc: Global, block: &[u8], fields: &[Field]) -> Result<String, Allo
     Ok(line)
 }
 
-/// Prints the blocks of random fields that one encoder writes, a line each, and between them the limits that its peer sets.
-/// Each block is read back.
+/// Prints the blocks of random fields that one encoder writes, a line each, and between them the
+/// limits that its peer sets. Each block is read back.
 fn connection(rt: &(impl AllocGlobal + Print), chance: &mut Chance, blocks: usize) -> Result<()> {
     let mut encoder = Encoder::new(rt.alloc());
     let mut decoder = Decoder::new(rt.alloc());
@@ -190,7 +192,8 @@ fn written_line(
     Ok(line_of(alloc, block.as_slice(), fields)?)
 }
 
-/// `hpack-random SEED CONNECTIONS BLOCKS`: prints so many random blocks of each of so many connections.
+/// `hpack-random SEED CONNECTIONS BLOCKS`: prints BLOCKS random blocks of each of CONNECTIONS
+/// connections.
 pub fn random(rt: &(impl AllocGlobal + Print), sizes: &[String]) -> Result<()> {
     let mut chance = Chance(number(sizes, 0)? as u64);
     for _ in 0..number(sizes, 1)? {

@@ -14,7 +14,7 @@ pub fn small<R: Print + AllocGlobal>(rt: &R) -> Result<()> {
     Ok(())
 }
 
-/// `lane-opened LANES ITEMS`: so many items and a last one through each of so many `RingLane`s.
+/// `lane-opened LANES ITEMS`: ITEMS items and a last one through each of LANES `RingLane`s.
 pub fn opened<R: Print + Clock + AllocGlobal>(rt: &R, sizes: &[String]) -> Result<()> {
     let lanes = number32(sizes, 0)?;
     let items = number(sizes, 1)?;
@@ -25,7 +25,7 @@ pub fn opened<R: Print + Clock + AllocGlobal>(rt: &R, sizes: &[String]) -> Resul
     Ok(())
 }
 
-/// How many items are taken of so many lanes.
+/// How many items are taken from a number of lanes.
 fn pass_all<L: Lane<Item = u64>>(
     alloc: Global,
     lanes: u32,
@@ -38,7 +38,7 @@ fn pass_all<L: Lane<Item = u64>>(
     Ok(taken)
 }
 
-/// Puts so many items and a last one, and takes them. How many those were.
+/// Puts a number of items and a last one, and takes them. Answers how many it took.
 fn pass<L: Lane<Item = u64>>(alloc: Global, items: usize) -> Result<u64, AllocError> {
     let (mut tx, mut rx) = L::open(alloc, items)?;
     for _ in 0..items {

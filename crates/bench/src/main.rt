@@ -1,10 +1,11 @@
 //! Measurements, for the scripts of `bench/`.
 //!
-//! The first word chooses one, and the numbers after it its size: it prints how long it took, in nanoseconds. Without
-//! words each runs once, small, and prints what it did but no time.
+//! The first word chooses one, and the numbers after it its size: it prints how long it took, in
+//! nanoseconds. Without words each runs once, small, and prints what it did but no time.
 //!
-//! Each module measures one library: `lane_bench` and `lane_opened`, `h2frame_feed`, `hpack_blocks`, `hpack_writing`, `flow_halves`, `protobuf_messages`,
-//! `handlers_calls`, `session_reading` and `outbound_frames`; `sizes` reads the numbers.
+//! Each module measures one library: `lane_bench` and `lane_opened`, `h2frame_feed`,
+//! `hpack_blocks`, `hpack_writing`, `flow_halves`, `protobuf_messages`, `handlers_calls`,
+//! `session_reading` and `outbound_frames`; `sizes` reads the numbers.
 #![tactic(auto)]
 
 mod flow_halves;

@@ -1,5 +1,5 @@
-//! Writing the frames of calls: one stream of long replies, 64 streams of small ones, and one small reply at a time on a
-//! stream of 64 or of one, over windows that don't bind.
+//! Writing the frames of calls: one stream of long replies, 64 streams of small ones, and one small
+//! reply at a time on a stream of 64 or of one, over windows that don't bind.
 
 ghost use Rattle.h2frame.specs.Spelling.{IsWritable};
 
@@ -70,21 +70,21 @@ fn open_response(alloc: Global, id: u32) -> Result<(Giver<Ring>, Sender<Ring>)> 
     Ok((giver, sender))
 }
 
-/// The sender of a call that gave a head, so many replies of a length, and trailers.
+/// The sender of a call that gave a head, a number of replies of one length, and trailers.
 fn sender(alloc: Global, id: u32, replies: usize, len: usize) -> Result<Sender<Ring>> {
     let (giver, sender) = open_response(alloc, id)?;
     give_all(alloc, giver, replies, len)?;
     Ok(sender)
 }
 
-/// Gives a head, so many replies and trailers.
+/// Gives a head, a number of replies, and trailers.
 fn give_all(alloc: Global, mut giver: Giver<Ring>, replies: usize, len: usize) -> Result<()> {
     give_some(alloc, &mut giver, replies, len)?;
     let _shut = giver.trailers(field(alloc, "grpc-status", "0")?);
     Ok(())
 }
 
-/// Gives a head and so many replies.
+/// Gives a head and a number of replies.
 fn give_some(alloc: Global, giver: &mut Giver<Ring>, replies: usize, len: usize) -> Result<()> {
     give_head(alloc, giver)?;
     for _ in 0..replies {
@@ -104,7 +104,7 @@ fn give_head(alloc: Global, giver: &mut Giver<Ring>) -> Result<()> {
     Ok(())
 }
 
-/// Gives a reply behind the head.
+/// Gives a reply after the head.
 fn give(giver: &mut Giver<Ring>, reply: Bytes) -> Result<()> {
     if giver.has_head() && reply.len() <= LONG_LEN {
         giver.give(reply).ok().context("a reply is refused")?;
@@ -159,7 +159,7 @@ fn write_some(core: &mut OutCore<Ring>, out: &mut ZeroBuffer, count: &mut Count)
     Ok(())
 }
 
-/// So many calls of so many replies each, which are all given.
+/// A number of calls with a number of replies each, which are all given.
 #[derive(Clone, Copy)]
 struct Calls {
     streams: u32,
@@ -195,8 +195,8 @@ fn write_calls(
     Ok((count, start.elapsed(rt)?))
 }
 
-/// `outwriter-long REPLIES`: prints the frames, their bytes and the nanoseconds of writing so many replies of 1 MiB on
-/// one stream.
+/// `outwriter-long REPLIES`: prints the frames, their bytes and the nanoseconds of writing REPLIES
+/// replies of 1 MiB on one stream.
 pub fn long(rt: &(impl Clock + AllocGlobal + Print), sizes: &[String]) -> Result<()> {
     let replies = number(sizes, 0)?;
     let (count, spent) = written(rt, long_calls(replies))?;
@@ -211,8 +211,8 @@ fn long_calls(replies: usize) -> Calls {
     }
 }
 
-/// `outwriter-small TIMES`: prints the frames, their bytes and the nanoseconds of so many connections of 64 streams with
-/// small replies.
+/// `outwriter-small TIMES`: prints the frames, their bytes and the nanoseconds of TIMES connections
+/// of 64 streams with small replies.
 pub fn small_replies(rt: &(impl Clock + AllocGlobal + Print), sizes: &[String]) -> Result<()> {
     let mut count = NOTHING;
     let mut spent = Duration::ZERO;
@@ -256,7 +256,8 @@ fn opened(alloc: Global, core: &mut OutCore<Ring>, id: u32) -> Result<Giver<Ring
     Ok(giver)
 }
 
-/// Gives so many small replies, each on the stream behind the last one's, and writes each before the next is given.
+/// Gives a number of small replies, each on the stream after the last one's, and writes each before
+/// it gives the next.
 fn write_each(
     alloc: Global,
     core: &mut OutCore<Ring>,
@@ -276,7 +277,8 @@ fn write_each(
     Ok(count)
 }
 
-/// What is written of so many replies, one at a time, while so many calls stand, and the time that giving and writing took.
+/// What is written of a number of replies, one at a time, while a number of calls are open, and the
+/// time that giving and writing took.
 fn each_written(
     rt: &(impl Clock + AllocGlobal),
     streams: u32,
@@ -300,14 +302,14 @@ fn each_timed(
     Ok((count, start.elapsed(rt)?))
 }
 
-/// `outwriter-each REPLIES`: prints the frames, their bytes and the nanoseconds of so many small replies, one at a time, of
-/// 64 calls in turn.
+/// `outwriter-each REPLIES`: prints the frames, their bytes and the nanoseconds of REPLIES small
+/// replies, one at a time, of 64 calls in turn.
 pub fn each(rt: &(impl Clock + AllocGlobal + Print), sizes: &[String]) -> Result<()> {
     let (count, spent) = each_written(rt, STREAMS, number(sizes, 0)?)?;
     print_count(rt, count, spent)
 }
 
-/// `outwriter-one REPLIES`: the same where one call stands.
+/// `outwriter-one REPLIES`: prints what `outwriter-each` does, with one call.
 pub fn one(rt: &(impl Clock + AllocGlobal + Print), sizes: &[String]) -> Result<()> {
     let (count, spent) = each_written(rt, 1, number(sizes, 0)?)?;
     print_count(rt, count, spent)

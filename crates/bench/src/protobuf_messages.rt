@@ -30,7 +30,8 @@ fn parameters(alloc: Global, count: usize) -> Result<Vec<u8>, AllocError> {
     Ok(bytes)
 }
 
-/// Prints how many bytes are written of the message that these are, and the nanoseconds of reading and of writing.
+/// Prints how many bytes are written of the message that these are, and the nanoseconds of reading
+/// and of writing.
 fn timed<'a, M: Message<'a>, R: Clock + AllocGlobal + Print>(
     rt: &R,
     bytes: &'a [u8],

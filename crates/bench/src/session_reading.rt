@@ -19,8 +19,8 @@ const SETTINGS: [u8; 9] = [0, 0, 0, 4, 0, 0, 0, 0, 0];
 const CALL: &[u8] =
     b"\x83\x86\x04\x23/grpc.testing.TestService/EmptyCall\x00\x02te\x08trailers\x0f\x10\x10application/grpc";
 
-/// The heads of frames, without their streams: HEADERS with that block, DATA of an empty message with END_STREAM, and
-/// DATA of the greatest payload.
+/// The heads of frames, without their streams: HEADERS with that block, DATA of an empty message
+/// with END_STREAM, and DATA of the greatest payload.
 const HEADERS: [u8; 5] = [0, 0, 71, 1, 4];
 
 const LAST_DATA: [u8; 5] = [0, 0, 5, 0, 1];
@@ -68,7 +68,7 @@ fn add_headers(bytes: &mut Vec<u8>, stream: u32) -> Result<(), AllocError> {
     bytes.extend_from_slice(CALL)
 }
 
-/// So many frames of 16,384 bytes of DATA on stream 1.
+/// A number of frames with 16,384 bytes of DATA on stream 1.
 fn long_data(alloc: Global, frames: usize) -> Result<Vec<u8>, AllocError> {
     let payload = [7u8; 16_384];
     let mut bytes = Vec::new(alloc);
@@ -80,7 +80,7 @@ fn long_data(alloc: Global, frames: usize) -> Result<Vec<u8>, AllocError> {
     Ok(bytes)
 }
 
-/// A connection with so many calls of an empty message, one after another.
+/// A connection with `calls` calls of an empty message, one after another.
 fn small_calls(alloc: Global, calls: u16) -> Result<Vec<u8>, AllocError> {
     let mut bytes = greeting(alloc)?;
     for index in 0..calls {
@@ -132,7 +132,8 @@ fn read_calls(alloc: Global, connection: &[u8], times: usize) -> Result<Count, A
     Ok(count)
 }
 
-/// `session-data MEBIBYTES`: prints the events, the bytes of data and the nanoseconds of so much DATA.
+/// `session-data MEBIBYTES`: prints the events, the bytes of data and the nanoseconds of MEBIBYTES
+/// of DATA.
 pub fn data(rt: &(impl Clock + AllocGlobal + Print), sizes: &[String]) -> Result<()> {
     let alloc = rt.alloc();
     let mebibytes = number(sizes, 0)?;
@@ -146,8 +147,8 @@ pub fn data(rt: &(impl Clock + AllocGlobal + Print), sizes: &[String]) -> Result
     Ok(())
 }
 
-/// `session-calls TIMES CALLS`: prints the events, the bytes of data and the nanoseconds of so many connections with so
-/// many calls each.
+/// `session-calls TIMES CALLS`: prints the events, the bytes of data and the nanoseconds of TIMES
+/// connections with CALLS calls each.
 pub fn calls(rt: &(impl Clock + AllocGlobal + Print), sizes: &[String]) -> Result<()> {
     let alloc = rt.alloc();
     let times = number(sizes, 0)?;

@@ -1,4 +1,4 @@
-//! The numbers behind a measurement's name.
+//! The numbers after a measurement's name.
 
 use anyhow::{Context, Result};
 

@@ -12,13 +12,16 @@ use Rattle.account.specs.declared.call.Told.TheVariants as told
 use Rattle.callbox.specs.declared.in_side.InAccount.{InAccount}
 use Rattle.callbox.specs.InAccounts.{CountsIn}
 
--- of these pieces the half was fed a beginning where it stayed open, and all where it was shut, in this way
+-- of these pieces the half was fed a beginning where it stayed open, and all where it was shut, in
+-- this way
 abbrev pub IsFed : List (List ℕ) → Shut → List (List ℕ) → Option Shut → Type 0
 IsFed pieces kind fed None = IsPrefix fed pieces
 IsFed pieces kind fed (Some closed) = (fed ≡ pieces) × (closed ≡ kind)
 
--- what became of the in side of a call whose client sends these pieces and shuts the half in this way
-pub record RunsIn (pieces : List (List ℕ)) (kind : Shut) (messages : List (List ℕ)) (r : InAccount) : Type 0 where
+-- what became of the in side of a call whose client sends these pieces and shuts the half in this
+-- way
+pub record RunsIn (pieces : List (List ℕ)) (kind : Shut) (messages : List (List ℕ))
+    (r : InAccount) : Type 0 where
   pub fed : List (List ℕ)
   pub as_asked : IsFed pieces kind fed r.shut
   pub counts : CountsIn fed r.shut messages r.told r

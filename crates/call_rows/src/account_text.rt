@@ -1,4 +1,5 @@
-//! An account as rows have it: its parts in order, which semicolons part. What is empty or isn't there has no part.
+//! An account as rows have it: its parts in order, which semicolons part. What is empty or isn't
+//! there has no part.
 
 use account::{Account, OutItem};
 use anyhow::Result;

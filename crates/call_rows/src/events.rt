@@ -7,7 +7,7 @@ use lists::{Field, Octets, Sequence};
 use std::alloc::Global;
 use zeros::ZeroTail;
 
-/// The first word of a text, and what stands behind it.
+/// The first word of a text, and what follows it.
 fn first_word(text: &str) -> (&str, &str) {
     match text.split_once(' ') {
         Some((word, rest)) => (word, rest.trim()),

@@ -1,12 +1,14 @@
-//! Worked calls and their messages: rows in the files of `data/`, and runs that have no rows. What differs is printed.
+//! Worked calls and their messages: rows in the files of `data/`, and runs that have no rows. What
+//! differs is printed.
 //!
-//! A row of `data/ends.rows` is a line `EVENTS => ACCOUNT`, whose words that file explains. It is run through the serial core
-//! (`account::replay`), and through the four ends of a call, over rings and over rows of cells.
+//! A row of `data/ends.rows` is a line `EVENTS => ACCOUNT`, whose words that file explains. It is
+//! run through the serial core (`account::replay`), and through the four ends of a call, over rings
+//! and over rows of cells.
 //!
-//! Read `events` first, which reads the events of a row, and `account_text`, which writes an account as rows have it; then
-//! `in_ends` and `out_ends`, which run the two sides of a call by its ends. `messages` has the rows of messages, fields and
-//! methods; `runs` tries what has no rows: lists, queues,
-//! bells, devices, and ends in threads.
+//! Read `events` first, which reads the events of a row, and `account_text`, which writes an
+//! account as rows have it; then `in_ends` and `out_ends`, which run the two sides of a call by its
+//! ends. `messages` has the rows of messages, fields and methods; `runs` tries what has no rows:
+//! lists, queues, bells, devices, and ends in threads.
 #![tactic(auto)]
 
 use account::{Account, CallEvent, OutItem, replay};
@@ -31,7 +33,7 @@ mod runs;
 
 const FILES: [&str; 1] = ["ends.rows"];
 
-/// What the ends of a call did and told, over such lanes.
+/// What the ends of a call did and told, over lanes of this kind.
 fn account_of_ends<I: Lane<Item = InPiece>, O: Lane<Item = OutItem>>(
     alloc: Global,
     events: &[CallEvent],
@@ -48,7 +50,8 @@ fn account_of_ends<I: Lane<Item = InPiece>, O: Lane<Item = OutItem>>(
     })
 }
 
-/// The text of the account that events make through the serial core, and of that over rings or over rows of cells.
+/// The text of the account that events make through the serial core, and of that over rings or over
+/// rows of cells.
 fn serial_text(alloc: Global, events: &[CallEvent]) -> Result<String> {
     let account = replay(alloc, events)?;
     text_of(alloc, &account)

@@ -1,9 +1,11 @@
-//! Rows for `lpm`, `pbwire`, `testproto`, `handlers` and `callrun`: bytes and the messages, fields and values that they are,
-//! the calls of the seven methods with what each is answered, and calls by their turns. A row is what is given, an arrow, and what is wanted.
+//! Rows for `lpm`, `pbwire`, `testproto`, `handlers` and `callrun`: bytes and the messages, fields
+//! and values that they are, the calls of the seven methods with what each is answered, and calls
+//! by their turns. A row is what is given, an arrow, and what is wanted.
 //!
-//! To be read in this order: `rows` for what a row is, and `words` for how bytes are written in one; then a module for
-//! each crate, `bodies` (`lpm`), `fields` (`pbwire`), `test_messages` with `text_form` (`testproto`), `calls`
-//! (`handlers`) and `turns` (`callrun`); `faults` has the numbers and texts of all their faults.
+//! To be read in this order: `rows` for what a row is, and `words` for how bytes are written in
+//! one; then a module for each crate, `bodies` (`lpm`), `fields` (`pbwire`), `test_messages` with
+//! `text_form` (`testproto`), `calls` (`handlers`) and `turns` (`callrun`); `faults` has the
+//! numbers and texts of all their faults.
 
 use anyhow::Result;
 use handlers::{

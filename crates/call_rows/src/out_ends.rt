@@ -18,7 +18,8 @@ const ROOM: usize = 64;
 
 const STREAM: u32 = 1;
 
-/// The bytes before those of a message: its flag and its length (gRPC over HTTP/2, "Length-Prefixed-Message").
+/// The bytes before those of a message: its flag and its length (gRPC over HTTP/2,
+/// "Length-Prefixed-Message").
 const PREFIX_LEN: usize = 5;
 
 /// Gives an item, where it is in place.
@@ -28,7 +29,8 @@ fn give_open<L: Lane<Item = OutItem>>(
     item: &OutItem,
     given: &mut Vec<OutItem>,
 ) -> Result<End<Giver<L>, GivenShut<L>>>
-    ensures { IfOk result (λ end. of_end (λ g. L.in_name g.tx) (λ s. L.shut_name s.shut) end ≡ L.in_name giver.tx) }
+    ensures { IfOk result
+        (λ end. of_end (λ g. L.in_name g.tx) (λ s. L.shut_name s.shut) end ≡ L.in_name giver.tx) }
 {
     let mut giver = giver;
     match item {
@@ -61,7 +63,7 @@ fn give_head<L: Lane<Item = OutItem>>(
     Ok(())
 }
 
-/// Gives a message behind a head, where the bytes are one.
+/// Gives a message after a head, where the bytes are one.
 fn give_message<L: Lane<Item = OutItem>>(
     alloc: Global,
     giver: &mut Giver<L>,

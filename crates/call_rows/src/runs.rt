@@ -1,5 +1,6 @@
-//! Runs that have no rows: what was put into a queue is found, waits at a bell end, the ends of a call settle over rings
-//! and in threads, and signals don't end a read or a write. No clause says that these calls succeed while there is memory.
+//! Runs that have no rows: what was put into a queue is found, waits at a bell end, the ends of a
+//! call settle over rings and in threads, and signals don't end a read or a write. No clause says
+//! that these calls succeed while there is memory.
 
 use anyhow::{Result, ensure};
 use std::rt::Clock;

@@ -1,4 +1,4 @@
--- What the two ends of the in side say of a call when they are brought together.
+-- What the two ends of a call's in side give when they are brought together.
 use Rattle.std.specs.Prelude.{◌≡◌, ℕ, List, Option}
 use Rattle.std.specs.List.{concat}
 use Rattle.lane.specs.Lawful.{count_of}
@@ -9,7 +9,8 @@ use Rattle.account.specs.Accounts.{IsLawful}
 use Rattle.account.specs.Runs.{run}
 use Rattle.callbox.specs.InSides.{in_account, in_events}
 
-pub record CountsIn (pieces : List (List ℕ)) (closed : Option Shut) (messages : List (List ℕ)) (said : Option Told) (r : InAccount) : Type 0 where
+pub record CountsIn (pieces : List (List ℕ)) (closed : Option Shut) (messages : List (List ℕ))
+    (said : Option Told) (r : InAccount) : Type 0 where
   pub lawful : IsLawful (in_account pieces closed messages said)
   pub run : in_account pieces closed messages said ≡ run (in_events pieces closed messages said)
   pub fed : r.fed ≡ count_of (concat pieces)

@@ -1,9 +1,31 @@
 -- What went through the in side of a call: pieces, and then at most one shut.
-use Rattle.std.specs.Prelude.{◌≡◌, ℕ, Bool, true, false, List, [], ◌∷◌, ◌++◌, length, map, Option, Some, None, All}
+use Rattle.std.specs.Prelude.{
+  ◌≡◌,
+  ℕ,
+  Bool,
+  true,
+  false,
+  List,
+  [],
+  ◌∷◌,
+  ◌++◌,
+  length,
+  map,
+  Option,
+  Some,
+  None,
+  All,
+}
 use Rattle.std.specs.List.{concat}
 use Rattle.lane.specs.Lawful.{count_of, last_of}
 use Rattle.lpm.specs.declared.fault.LpmFault.{LpmFault}
-use Rattle.lpm.specs.declared.fault.LpmFault.TheVariants.{Compressed, BadFlag, TooLong, CutAtEnd, OutOfMemory}
+use Rattle.lpm.specs.declared.fault.LpmFault.TheVariants.{
+  Compressed,
+  BadFlag,
+  TooLong,
+  CutAtEnd,
+  OutOfMemory,
+}
 use Rattle.lpm.specs.Messages.{frames, IsMessage, Spells}
 use Rattle.account.specs.declared.call.Account.{Account}
 use Rattle.account.specs.declared.call.CallEvent.{CallEvent}
@@ -36,7 +58,7 @@ shut_of [] = None
 shut_of (piece.Bytes bytes ∷ items) = shut_of items
 shut_of (piece.Shut closed ∷ items) = Some closed
 
--- nothing stands behind a shut
+-- no item follows a shut
 abbrev pub ends_at_shut : List InPiece → Bool
 ends_at_shut [] = true
 ends_at_shut (piece.Bytes bytes ∷ items) = ends_at_shut items
@@ -47,11 +69,12 @@ abbrev pub is_piece : InPiece → Bool
 is_piece (piece.Bytes bytes) = true
 is_piece (piece.Shut closed) = false
 
--- what is made of a polled item; of a piece that can't be shared its length
+-- what a polled item becomes; a piece that can't be shared becomes its length
 abbrev pub IsPolled : InPiece → Polled → Type 0
 IsPolled item (polled.Bytes bytes) = item ≡ piece.Bytes bytes
 IsPolled item (polled.Shut closed) = item ≡ piece.Shut closed
-IsPolled item (polled.Unshared len) = (bytes : List ℕ) × (item ≡ piece.Bytes bytes) × (len ≡ length bytes)
+IsPolled item (polled.Unshared len) =
+    (bytes : List ℕ) × (item ≡ piece.Bytes bytes) × (len ≡ length bytes)
 
 -- how many bytes an item has
 abbrev pub length_of : InPiece → ℕ
@@ -63,9 +86,10 @@ abbrev pub IsMissing : Bool → List InPiece → List ℕ → Type 0
 IsMissing true items missing = last_of items ≡ Some (piece.Bytes missing)
 IsMissing false items missing = missing ≡ []
 
--- Of the items that were polled these messages were taken, and this is what is kept behind them. Where the last piece
--- is unread, for want of memory, its bytes are missing from what is kept.
-pub record Took (items : List InPiece) (progress : Progress) (messages : List (List ℕ)) : Type 0 where
+-- These messages were taken of the items that were polled, and the taker keeps what follows them.
+-- Where the last piece is unread, for want of memory, its bytes are missing from what it keeps.
+pub record Took (items : List InPiece) (progress : Progress)
+    (messages : List (List ℕ)) : Type 0 where
   pub missing : List ℕ
   pub whole : bytes_of items ≡ frames messages ++ (progress.splitter ++ missing)
   pub each : All IsMessage messages
@@ -74,15 +98,17 @@ pub record Took (items : List InPiece) (progress : Progress) (messages : List (L
   pub telling : MayTell progress.told (bytes_of items) (shut_of items) messages
   pub count : progress.taken ≡ count_of messages
 
--- What was got spells these messages and less than a whole one behind them, and no shut came: so more is needed before
--- there is anything to take or tell.
+-- What was got spells these messages and then less than a whole one, and no shut came: so more is
+-- needed before there is anything to take or tell.
 abbrev pub NeedsMore : List InPiece → List (List ℕ) → Type 0
-NeedsMore got messages = (rest : List ℕ) × Spells (bytes_of got) messages rest × (shut_of got ≡ None)
+NeedsMore got messages =
+    (rest : List ℕ) × Spells (bytes_of got) messages rest × (shut_of got ≡ None)
 
 -- each of the items was got only where what had been got before it needed more
 abbrev pub EachNeeded : List InPiece → List InPiece → List (List ℕ) → Type 0
 EachNeeded got [] messages = Unit {0}
-EachNeeded got (item ∷ items) messages = NeedsMore got messages × EachNeeded (got ++ item ∷ []) items messages
+EachNeeded got (item ∷ items) messages =
+    NeedsMore got messages × EachNeeded (got ++ item ∷ []) items messages
 
 -- the messages that were taken, after an answer
 abbrev pub grown : List (List ℕ) → Taken → List (List ℕ)
@@ -92,7 +118,7 @@ grown messages taken.End = messages
 grown messages (taken.Reset code) = messages
 grown messages (taken.Fault fault) = messages
 
--- the answer that tells a thing
+-- the answer by which a thing is told
 abbrev pub telling : Told → Taken
 telling told.End = taken.End
 telling (told.Reset code) = taken.Reset code
@@ -115,9 +141,16 @@ Tells (taken.Fault fault) old new = TellsFault fault old new
 
 -- the in side of an account
 abbrev pub in_account : List (List ℕ) → Option Shut → List (List ℕ) → Option Told → Account
-in_account pieces closed messages said = record { fed = concat pieces; shut = closed; taken = messages; told = said; given = []; sent = [] }
+in_account pieces closed messages said = record {
+  fed = concat pieces;
+  shut = closed;
+  taken = messages;
+  told = said;
+  given = [];
+  sent = [];
+}
 
--- one event for what is there
+-- one event for an option's value, if there is one
 abbrev pub once : {A : Type 0} → (A → CallEvent) → Option A → List CallEvent
 once event_of None = []
 once event_of (Some x) = event_of x ∷ []
@@ -125,7 +158,8 @@ once event_of (Some x) = event_of x ∷ []
 -- pieces, the shut, a Take for each message that was taken and one for what was told
 abbrev pub in_events : List (List ℕ) → Option Shut → List (List ℕ) → Option Told → List CallEvent
 in_events pieces closed messages said =
-    map event.Feed pieces ++ (once event.Shut closed ++ (map (λ _. event.Take) messages ++ once (λ _. event.Take) said))
+    map event.Feed pieces
+    ++ (once event.Shut closed ++ (map (λ _. event.Take) messages ++ once (λ _. event.Take) said))
 
 -- the shut, where it was put
 abbrev pub shut_if : Bool → Shut → Option Shut

@@ -1,4 +1,4 @@
--- What the two ends of the out side say of a call when they are brought together.
+-- What the two ends of a call's out side give when they are brought together.
 use Rattle.std.specs.Prelude.{◌≡◌, List}
 use Rattle.lane.specs.Lawful.{count_of}
 use Rattle.account.specs.declared.call.OutItem.{OutItem}

@@ -1,5 +1,22 @@
 -- What went through the out side of a call: the items of a response.
-use Rattle.std.specs.Prelude.{◌≡◌, ℕ, ◌+◌, ◌≤◌, Bool, true, false, List, [], ◌∷◌, ◌++◌, map, Option, None, Some, refl}
+use Rattle.std.specs.Prelude.{
+  ◌≡◌,
+  ℕ,
+  ◌+◌,
+  ◌≤◌,
+  Bool,
+  true,
+  false,
+  List,
+  [],
+  ◌∷◌,
+  ◌++◌,
+  map,
+  Option,
+  None,
+  Some,
+  refl,
+}
 use Rattle.std.specs.Coded.{le_prop, coded_list, coded_ℕ, Coded-set, ×_prop, Unit-prop}
 use Rattle.std.proofs.Common.{sym, ap, subst, ◌∙◌}
 use Rattle.std.proofs.Math.Path.{path_j, path_j'}
@@ -18,7 +35,7 @@ use Rattle.account.specs.Accounts.{IsBody, IsResponse}
 use Rattle.callbox.specs.declared.giver.FramedFault.{FramedFault}
 use Rattle.callbox.specs.declared.giver.FramedFault.TheVariants.{NotAFrame, Refused}
 
--- whether a head stands first
+-- whether the first item is a head
 abbrev pub has_head : List OutItem → Bool
 has_head [] = false
 has_head (Head fields ∷ items) = true
@@ -26,7 +43,7 @@ has_head (Message bytes ∷ items) = false
 has_head (Trailers fields ∷ items) = false
 has_head (Left ∷ items) = false
 
--- whether trailers stand among the items
+-- whether trailers are among the items
 abbrev pub has_trailers : List OutItem → Bool
 has_trailers [] = false
 has_trailers (Head fields ∷ items) = has_trailers items
@@ -34,7 +51,7 @@ has_trailers (Message bytes ∷ items) = has_trailers items
 has_trailers (Trailers fields ∷ items) = true
 has_trailers (Left ∷ items) = has_trailers items
 
--- whether the last item that a call gives stands among the items: trailers, or that it was left
+-- whether the last item that a call gives is among the items: trailers, or that it was left
 abbrev pub has_end : List OutItem → Bool
 has_end [] = false
 has_end (Head fields ∷ items) = has_end items
@@ -62,28 +79,36 @@ is_message (Message bytes) = true
 is_message (Trailers fields) = false
 is_message Left = false
 
--- Why a message is handed back: as the lane refuses an item, or for want of memory for the message with its prefix.
+-- Why a message is handed back: the lane refuses its item, or there is no memory for the message
+-- with its prefix.
 abbrev pub MayRefuseMessage : Type 0 → ℕ → ℕ → ℕ → PutFault (List ℕ) → Type 0
-MayRefuseMessage MayMiss room put seen_taken (Full message waiting) = (waiting + seen_taken ≡ put) × (room ≤ waiting)
+MayRefuseMessage MayMiss room put seen_taken (Full message waiting) =
+    (waiting + seen_taken ≡ put) × (room ≤ waiting)
 MayRefuseMessage MayMiss room put seen_taken (OutOfMemory message) = Unit {0}
 MayRefuseMessage MayMiss room put seen_taken (NotTaken message) = MayMiss
 
--- Why bytes with their prefix are handed back: they aren't one message, or they are, and the lane refuses them.
+-- Why bytes with their prefix are handed back: they aren't one message, or they are, and the lane
+-- refuses them.
 abbrev pub RefusesFramed : (ℕ → Type 0) → Type 0 → ℕ → ℕ → ℕ → List ℕ → FramedFault → Type 0
-RefusesFramed WantsMemory MayMiss room put seen_taken framed (NotAFrame bytes) = (bytes ≡ framed) × (IsFrame framed → ⊥)
-RefusesFramed WantsMemory MayMiss room put seen_taken framed (Refused fault) = (item_of fault ≡ framed) × IsFrame framed × MayRefuse WantsMemory MayMiss room put seen_taken fault
+RefusesFramed WantsMemory MayMiss room put seen_taken framed (NotAFrame bytes) =
+    (bytes ≡ framed) × (IsFrame framed → ⊥)
+RefusesFramed WantsMemory MayMiss room put seen_taken framed (Refused fault) =
+    (item_of fault ≡ framed) × IsFrame framed
+    × MayRefuse WantsMemory MayMiss room put seen_taken fault
 
 -- the out side of an account
 abbrev pub out_account : List OutItem → List OutItem → Account
-out_account given sent = record { fed = []; shut = None; taken = []; told = None; given = given; sent = sent }
+out_account given sent =
+    record { fed = []; shut = None; taken = []; told = None; given = given; sent = sent }
 
--- the items that were given, and a Send for each that left
+-- the items that were given, and a Send for each that was sent
 abbrev pub out_events : List OutItem → List OutItem → List CallEvent
 out_events given sent = map event.Give given ++ map (λ _. event.Send) sent
 
 -- ---- a response is one in at most one way, so a struct may say of its items that they are one
 
-same_message : (bytes message other : List ℕ) → IsMessage message → IsMessage other → bytes ≡ frame message → bytes ≡ frame other → message ≡ other
+same_message : (bytes message other : List ℕ) → IsMessage message → IsMessage other
+    → bytes ≡ frame message → bytes ≡ frame other → message ≡ other
 same_message bytes message other fits other_fits is other_is =
     let one = front_of-frame message [] fits in
     let two = front_of-frame other [] other_fits in
@@ -91,18 +116,22 @@ same_message bytes message other fits other_fits is other_is =
     cc
 
 -- the whole of what makes bytes a frame
-abbrev as_frame : (bytes message : List ℕ) → IsMessage message → bytes ≡ frame message → IsFrame bytes
+abbrev as_frame : (bytes message : List ℕ) → IsMessage message
+    → bytes ≡ frame message → IsFrame bytes
 as_frame bytes message fits is = (message, fits, is)
 
 pub IsFrame-prop : (bytes : List ℕ) → IsProp (IsFrame bytes)
 IsFrame-prop bytes (message, fits, is) (other, other_fits, other_is) =
-    path_j (λ (y : List ℕ) (q : message ≡ y). (y_fits : IsMessage y) (y_is : bytes ≡ frame y) → as_frame bytes message fits is ≡ as_frame bytes y y_fits y_is)
+    path_j (λ (y : List ℕ) (q : message ≡ y).
+    (y_fits : IsMessage y) (y_is : bytes ≡ frame y)
+    → as_frame bytes message fits is ≡ as_frame bytes y y_fits y_is)
     (λ y_fits y_is.
     ap (λ (f : IsMessage message). as_frame bytes message f is) (le_prop fits y_fits)
-    ∙ ap (λ (e : bytes ≡ frame message). as_frame bytes message y_fits e) (Coded-set (coded_list coded_ℕ) bytes (frame message) is y_is))
+    ∙ ap (λ (e : bytes ≡ frame message). as_frame bytes message y_fits e)
+    (Coded-set (coded_list coded_ℕ) bytes (frame message) is y_is))
     (same_message bytes message other fits other_fits is other_is) other_fits other_is
 
--- that a list is empty is so in one way
+-- a list is empty in one way only
 IsNone : List OutItem → Type 0
 IsNone [] = Unit {0}
 IsNone (item ∷ items) = ⊥
@@ -123,11 +152,14 @@ to_none items e = subst IsNone (sym e) tt
 
 there_and_back : (items : List OutItem) (e : items ≡ []) → from_none items (to_none items e) ≡ e
 unfolding from_none
-there_and_back items e = path_j' (λ (xs : List OutItem) (p : xs ≡ []). from_none xs (to_none xs p) ≡ p) refl e
+there_and_back items e =
+    path_j' (λ (xs : List OutItem) (p : xs ≡ []). from_none xs (to_none xs p) ≡ p) refl e
 
 IsEmpty-prop : (items : List OutItem) → IsProp (items ≡ [])
 IsEmpty-prop items p q =
-    sym (there_and_back items p) ∙ ap (from_none items) (IsNone-prop items (to_none items p) (to_none items q)) ∙ there_and_back items q
+    sym (there_and_back items p)
+    ∙ ap (from_none items) (IsNone-prop items (to_none items p) (to_none items q))
+    ∙ there_and_back items q
 
 IsBody-prop : (items : List OutItem) → IsProp (IsBody items)
 IsBody-prop [] = Unit-prop

@@ -10,9 +10,11 @@ use account::OutItem;
 use lane::Lane;
 use std::alloc::{AllocError, Global};
 
-/// The four ends of one call, over two lanes with these rooms, where `id` is the number of its stream.
+/// The four ends of one call, over two lanes with these rooms, where `id` is the number of its
+/// stream.
 ///
-/// Any threads may hold them. What the feeder is fed the taker takes, and what the giver gives the sender sends.
+/// Any threads may hold them. The taker takes what the feeder is fed, and the sender sends what the
+/// giver gives.
 pub fn open_call<I: Lane<Item = InPiece>, O: Lane<Item = OutItem>>(
     alloc: Global,
     id: u32,

@@ -1,6 +1,18 @@
 //! The end of a call that is fed what comes in.
 
-ghost use Rattle.std.specs.Prelude.{◌≡◌, true, None, [], ◌∷◌, ◌++◌, length, IfErr, OnErr, OnOk, MatchBool};
+ghost use Rattle.std.specs.Prelude.{
+  ◌≡◌,
+  true,
+  None,
+  [],
+  ◌∷◌,
+  ◌++◌,
+  length,
+  IfErr,
+  OnErr,
+  OnOk,
+  MatchBool,
+};
 ghost use Rattle.lane.specs.Lawful.{count_of};
 ghost use Rattle.lane.specs.PutFault.{item_of, MayRefuse};
 ghost use Rattle.callbox.specs.InSides.{bytes_of, ends_at_shut, shut_if, shut_of};

@@ -1,16 +1,43 @@
 //! The end of a call that gives what goes out.
 //!
-//! A giver keeps a message until the lane has taken its frame, so that each refusal hands back the message, also where
-//! there was no memory for the frame. Bytes that have their prefix, and a head, are handed back out of the item.
+//! A giver keeps a message until the lane has taken its frame. So each refusal hands the message
+//! back, also one for want of memory for the frame. Bytes that have their prefix, and a head, come
+//! back out of the item.
 //!
-//! That what was given is a response is a ghost field and no test: there is at most one proof of it
-//! (`specs/OutSides.antt`), as a struct's facts need.
+//! A ghost field says that what was given is a response; no code tests it. There is at most one
+//! proof of it (`specs/OutSides.antt`), as a struct's facts need.
 
-ghost use Rattle.std.specs.Prelude.{◌≡◌, ◌+◌, ◌<◌, ◌≤◌, ◌&&◌, true, false, [], ◌∷◌, ◌++◌, length, IfErr, IfOk, OnErr, OnOk, MatchBool};
+ghost use Rattle.std.specs.Prelude.{
+  ◌≡◌,
+  ◌+◌,
+  ◌<◌,
+  ◌≤◌,
+  ◌&&◌,
+  true,
+  false,
+  [],
+  ◌∷◌,
+  ◌++◌,
+  length,
+  IfErr,
+  IfOk,
+  OnErr,
+  OnOk,
+  MatchBool,
+};
 ghost use Rattle.lane.specs.PutFault.{item_of, MayRefuse};
 ghost use Rattle.lpm.specs.Messages.{frame, IsFrame};
 ghost use Rattle.account.specs.Accounts.{IsResponse};
-ghost use Rattle.callbox.specs.OutSides.{has_end, has_head, has_trailers, is_head, is_message, IsResponse-prop, MayRefuseMessage, RefusesFramed};
+ghost use Rattle.callbox.specs.OutSides.{
+  has_end,
+  has_head,
+  has_trailers,
+  is_head,
+  is_message,
+  IsResponse-prop,
+  MayRefuseMessage,
+  RefusesFramed,
+};
 ghost use Rattle.account.specs.declared.call.OutItem.TheVariants as out_item;
 
 use account::OutItem;
@@ -29,11 +56,12 @@ pub type GiveFault<T> = PutFault<T>;
 pub enum FramedFault {
     /// They aren't one message with its prefix.
     NotAFrame(ZeroTail),
-    /// They are, and were not given for this.
+    /// They are one, and the lane refused them for this.
     Refused(GiveFault<ZeroTail>),
 }
 
-/// Gives the items of a call's response, as far as the trailers, or until the call is left without them.
+/// Gives the items of a call's response, up to the trailers, or until the call is left without
+/// them.
 #[derive(Drop)]
 pub struct Giver<L: Lane<Item = OutItem>> {
     pub(crate) tx: L::In,
@@ -102,8 +130,9 @@ impl<L: Lane<Item = OutItem>> Giver<L> {
         }
     }
 
-    /// Whether there is room for a head or a message: if not, how many of the items that were given this end had not seen
-    /// sent, in this call. After `Ok` the next `head`, `give` or `give_framed` isn't `Full`. It takes no memory.
+    /// Whether there is room for a head or a message; `Err` has how many of the given items this
+    /// end hadn't seen sent when it looked. After `Ok` the next `head`, `give` or `give_framed`
+    /// isn't `Full`. It takes no memory.
     pub fn check_room(&mut self) -> Result<(), u64>
         ensures name { L.in_name self.new.tx ≡ L.in_name self.old.tx }
         ensures seen { L.seen_taken self.old.tx ≤ L.seen_taken self.new.tx }
@@ -152,7 +181,8 @@ impl<L: Lane<Item = OutItem>> Giver<L> {
         }
     }
 
-    /// Gives one message whose prefix stands before it already, or hands the bytes back and changes nothing.
+    /// Gives one message whose prefix stands before it already, or hands the bytes back and changes
+    /// nothing.
     ///
     /// The bytes are shared, and nothing is copied. It takes constant time.
     pub fn give_framed(&mut self, framed: ZeroTail) -> Result<(), FramedFault>
@@ -200,7 +230,7 @@ impl<L: Lane<Item = OutItem>> Giver<L> {
         }
     }
 
-    /// Gives the trailers, where `placed` then says so. It takes no memory.
+    /// Gives the trailers, if `placed` says so after it. It takes no memory.
     pub fn trailers(self, fields: Sequence<Field>) -> GivenShut<L>
         ensures name { L.shut_name result.shut ≡ L.in_name self.tx }
         ensures put { MatchBool (L.was_placed result.shut)
@@ -215,9 +245,10 @@ impl<L: Lane<Item = OutItem>> Giver<L> {
         }
     }
 
-    /// Leaves the call without trailers, where `placed` then says so. It takes no memory.
+    /// Leaves the call without trailers, if `placed` says so after it. It takes no memory.
     ///
-    /// Nothing is sent for it. It is for a call that needs no answer any more, as one that was reset.
+    /// Nothing is sent for it. It is for a call that needs no answer any more, such as one that was
+    /// reset.
     pub fn leave(self) -> GivenShut<L>
         ensures name { L.shut_name result.shut ≡ L.in_name self.tx }
         ensures put { MatchBool (L.was_placed result.shut)

@@ -19,18 +19,19 @@ pub struct InAccount {
     pub shut: Option<Shut>,
     /// How many messages were taken.
     pub taken: u64,
-    /// What was told behind them.
+    /// What was told after them.
     pub told: Option<Told>,
 }
 
-/// Brings the two ends of one call's in side together.
+/// Brings the two ends of one call's in side together. What was taken of what was fed is a lawful
+/// account (`account::IsLawful`), and the answer has its counts.
 pub fn settle_in<L: Lane<Item = InPiece>>(
     end: End<Feeder<L>, FedShut<L>>,
     taker: Taker<L>,
 ) -> InAccount
     requires one_call { of_end (λ f. L.in_name f.tx) (λ s. L.shut_name s.shut) end
         ≡ L.out_name taker.rx }
-    // Of the messages that were taken.
+    // For the messages that were taken.
     ensures account { (messages : List (List ℕ)) → Took (L.got taker.rx) taker.progress messages
         → CountsIn (pieces_of (of_end (λ f. L.put_in f.tx) (λ s. L.put_shut s.shut) end))
         (of_end (λ _. None) (λ s. Some s.kind) end) messages taker.progress.told result }

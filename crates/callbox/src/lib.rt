@@ -1,12 +1,13 @@
-//! The four ends of a call, which any threads may hold: a `Feeder` that is fed what comes in, a `Taker` that takes the
-//! messages of it, a `Giver` that gives what they are answered with, and a `Sender` that sends it.
+//! The four ends of a call, which any threads may hold: a `Feeder` that is fed what comes in, a
+//! `Taker` that takes its messages, a `Giver` that gives the response, and a `Sender` that sends
+//! it.
 //!
-//! Each end does its part of the call's account (the crate `account`), over a lane; `settle_in` and `settle_out` bring two
-//! of them together. In every schedule what they did is a lawful account, the one that the serial core makes of the same
-//! events.
+//! Each end does its part of the call's account (the crate `account`), over a lane. `settle_in` and
+//! `settle_out` bring two of them together: in every schedule what they did is a lawful account,
+//! the one that the serial core makes of their events.
 //!
-//! Read the crate `account` first; then `specs/InSides.antt` with `piece`, `feeder`, `taker` and `in_side`;
-//! `specs/OutSides.antt` with `giver`, `sender` and `out_side`; and `call` last.
+//! Read the crate `account` first; then `specs/InSides.antt` with `piece`, `feeder`, `taker` and
+//! `in_side`; `specs/OutSides.antt` with `giver`, `sender` and `out_side`; and `call` last.
 #![tactic(auto)]
 
 pub mod call;

@@ -1,7 +1,7 @@
 //! The two ends of a call's out side, brought together.
 //!
-//! Neither end counts: the numbers come from `Lane::settle`, and trailers were sent exactly where they were placed and
-//! nothing is left.
+//! Neither end counts: the numbers come from `Lane::settle`. Trailers were sent exactly where they
+//! were placed and nothing is left.
 
 ghost use Rattle.std.specs.Prelude.{◌≡◌, [], IfOk};
 ghost use Rattle.lane.specs.End.{of_end};
@@ -17,11 +17,11 @@ use std::alloc::{AllocError, Global};
 pub struct OutAccount {
     /// How many items were given.
     pub given: u64,
-    /// How many of them left.
+    /// How many of them were sent.
     pub sent: u64,
     /// Whether trailers were given: exactly where there was a place for them in the lane.
     pub trailers_given: bool,
-    /// Whether they left.
+    /// Whether the trailers were sent.
     pub trailers_sent: bool,
 }
 

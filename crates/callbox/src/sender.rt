@@ -12,8 +12,8 @@ use lane::Lane;
 
 /// Takes the items of a call's response, in the order in which they were given.
 ///
-/// It is the one end that leaves its call, for the connection's writer, which has those of many calls: so it alone
-/// knows the number of its call's stream.
+/// It alone leaves its call, for the connection's writer, which has the senders of many calls. So
+/// it alone knows the number of its call's stream.
 #[derive(Drop)]
 pub struct Sender<L: Lane<Item = OutItem>> {
     pub(crate) rx: L::Out,
@@ -54,7 +54,7 @@ impl<L: Lane<Item = OutItem>> Sender<L> {
         L::poll(&mut self.rx)
     }
 
-    /// Whether the item that was got last says that the call was left. It takes no memory.
+    /// Whether the last item that was got says that the call was left. It takes no memory.
     pub fn was_left(&mut self) -> bool
         ensures left { result ≡ is_left (last_of (L.got self.old.rx)) }
         ensures name { L.out_name self.new.rx ≡ L.out_name self.old.rx }

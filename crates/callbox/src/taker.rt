@@ -1,20 +1,50 @@
 //! The end of a call that takes its messages.
 //!
-//! The messages that were taken are stored nowhere: `take` speaks of each list of messages that leads there (`Took`),
-//! and `open_in` starts it with none.
+//! The messages that were taken are stored nowhere: `take` speaks of each list of messages that
+//! leads there (`Took`), and `open_in` starts with none.
 //!
-//! A piece whose sharing is refused stays unread. A lane lends its item until the next poll, and `Bytes::clone` can be
-//! refused; so the taker counts the piece for `credit` once, marks it unread, still takes the messages and tells the
-//! faults that were whole before it, then answers Fault(OutOfMemory), and reads it again (`Lane::polled`) at its next
+//! A piece that can't be shared for want of memory stays unread. A lane lends its item until the
+//! next poll, and `Bytes::clone` can be refused. So the taker counts the piece for `credit` once
+//! and marks it unread. It still takes the messages and tells the faults that were whole before the
+//! piece, then answers Fault(OutOfMemory), and reads the piece again (`Lane::polled`) at its next
 //! `take`.
 //!
-//! `Taker::look`: it polls at most 2^64 - 1 times, since it has to return and a writer may put pieces without bytes
-//! for good.
+//! `Taker::look` polls at most 2^64 - 1 times, since it has to return, and a writer may put pieces
+//! without bytes forever.
 
-ghost use Rattle.std.specs.Prelude.{◌≡◌, ℕ, ◌+◌, ◌-◌, min, true, false, None, Some, List, [], ◌∷◌, ◌++◌, length, All, IfNone, IfSome, MatchOption, is_some};
+ghost use Rattle.std.specs.Prelude.{
+  ◌≡◌,
+  ℕ,
+  ◌+◌,
+  ◌-◌,
+  min,
+  true,
+  false,
+  None,
+  Some,
+  List,
+  [],
+  ◌∷◌,
+  ◌++◌,
+  length,
+  All,
+  IfNone,
+  IfSome,
+  MatchOption,
+  is_some,
+};
 ghost use Rattle.lpm.specs.Messages.{IsUnfinished};
 ghost use Rattle.lane.specs.Lawful.{last_of};
-ghost use Rattle.callbox.specs.InSides.{EachNeeded, IsPolled, Took, Tells, bytes_of, grown, length_of, telling};
+ghost use Rattle.callbox.specs.InSides.{
+  EachNeeded,
+  IsPolled,
+  Took,
+  Tells,
+  bytes_of,
+  grown,
+  length_of,
+  telling,
+};
 ghost use Rattle.callbox.specs.declared.piece.InPiece.{InPiece};
 ghost use Rattle.callbox.specs.declared.taker.Taken.TheVariants as taken;
 
@@ -40,19 +70,20 @@ pub enum Taken {
     Fault(LpmFault),
 }
 
-/// What is made of an item that was polled.
+/// What a polled item becomes.
 #[derive(Debug, Drop)]
 pub(crate) enum Polled {
     Bytes(Bytes),
     Shut(Shut),
-    /// A piece of so many bytes whose sharing ran out of memory.
+    /// A piece that wasn't shared for want of memory, by its length.
     Unshared(u64),
 }
 
 /// How far a `Taker` has come.
 #[derive(Drop)]
 pub(crate) struct Progress {
-    /// The bytes that were polled, but for those of the messages that were taken and of an unread piece.
+    /// The bytes that were polled, but for those of the messages that were taken and of an unread
+    /// piece.
     pub(crate) splitter: Splitter,
     /// Whether the piece that was polled last is unread, since memory ran out.
     pub(crate) unread: bool,
@@ -80,7 +111,7 @@ impl Progress {
         }
     }
 
-    /// The next answer, where what was polled has one.
+    /// The next answer, if what was polled has one.
     fn answer(&mut self) -> Option<Taken>
         requires { self.old.told ≡ None }
         ensures took { (items : List InPiece) (messages : List (List ℕ))
@@ -109,7 +140,7 @@ impl Progress {
         }
     }
 
-    /// What is told behind the last whole message, or `None` where more is to be polled.
+    /// What is told after the last whole message, or `None` where more is to be polled.
     fn ending(&mut self) -> Option<Taken>
         requires unfinished { IsUnfinished self.old.splitter }
         requires untold { self.old.told ≡ None }
@@ -193,7 +224,7 @@ impl Polled {
     }
 }
 
-/// The answer that tells a thing.
+/// The answer by which a thing is told.
 fn answer_of(told: Told) -> Taken
     ensures { result ≡ telling told }
 {
@@ -205,7 +236,7 @@ fn answer_of(told: Told) -> Taken
 }
 
 impl InPiece {
-    /// The same, with the bytes shared.
+    /// The item, with its bytes shared.
     fn share(&self) -> Polled
         ensures { IsPolled self.now result }
     {
@@ -232,7 +263,7 @@ fn poll<L: Lane<Item = InPiece>>(rx: &mut L::Out) -> Option<Polled>
     }
 }
 
-/// What the item that was got last is, once more.
+/// Reads the last item that was got once more.
 fn poll_again<L: Lane<Item = InPiece>>(rx: &mut L::Out) -> Option<Polled>
     ensures name { L.out_name rx.new ≡ L.out_name rx.old }
     ensures got { L.got rx.new ≡ L.got rx.old }
@@ -245,7 +276,7 @@ fn poll_again<L: Lane<Item = InPiece>>(rx: &mut L::Out) -> Option<Polled>
     }
 }
 
-/// Takes the messages of what was fed, and is told how the half was shut.
+/// Takes the messages of what was fed, and hears how the half was shut.
 #[derive(Drop)]
 pub struct Taker<L: Lane<Item = InPiece>> {
     pub(crate) rx: L::Out,
@@ -265,13 +296,14 @@ impl<L: Lane<Item = InPiece>> Taker<L> {
         Taker { rx, progress }
     }
 
-    /// The next message, or what there is to be told.
+    /// The next message, or what there is to be told. It answers `Nothing` only where it holds no
+    /// whole message and no fault, no shut was polled, and nothing is known to be ahead.
     ///
-    /// Once the end, a reset or a fault of the bytes was told it is told again. After `Fault(OutOfMemory)` nothing is lost,
-    /// and it may be called again.
+    /// Once it has told the end, a reset or a fault of the bytes, it tells that again.
+    /// `Fault(OutOfMemory)` loses nothing: it may be called again.
     pub fn take(&mut self) -> Taken
         ensures name { L.out_name self.new.rx ≡ L.out_name self.old.rx }
-        // Of all messages that were taken so far.
+        // For all messages that were taken so far.
         ensures took { (messages : List (List ℕ))
             → Took (L.got self.old.rx) self.old.progress messages
             → Took (L.got self.new.rx) self.new.progress (grown messages result) }
@@ -282,7 +314,8 @@ impl<L: Lane<Item = InPiece>> Taker<L> {
         ensures nothing { result ≡ taken.Nothing → IsUnfinished self.new.progress.splitter
             × (self.new.progress.shut ≡ None) × (self.new.progress.unread ≡ false)
             × (L.ahead self.new.rx ≡ []) }
-        // It polls only where the bytes that are held make no whole message and no fault, and no shut was polled.
+        // It polls only where the bytes that it holds make no whole message and no fault, and no
+        // shut was polled.
         ensures needed { (messages : List (List ℕ))
             → Took (L.got self.old.rx) self.old.progress messages
             → (items : List InPiece) × (L.got self.new.rx ≡ L.got self.old.rx ++ items)
@@ -329,7 +362,8 @@ impl<L: Lane<Item = InPiece>> Taker<L> {
         ensures nothing { result ≡ taken.Nothing → IsUnfinished self.new.progress.splitter
             × (self.new.progress.shut ≡ None) × (self.new.progress.unread ≡ false)
             × (L.ahead self.new.rx ≡ []) }
-        // It polls only where the bytes that are held make no whole message and no fault, and no shut was polled.
+        // It polls only where the bytes that it holds make no whole message and no fault, and no
+        // shut was polled.
         ensures needed { (messages : List (List ℕ))
             → Took (L.got self.old.rx) self.old.progress messages
             → (items : List InPiece) × (L.got self.new.rx ≡ L.got self.old.rx ++ items)
@@ -369,7 +403,7 @@ impl<L: Lane<Item = InPiece>> Taker<L> {
         self.progress.taken
     }
 
-    /// What was told behind them.
+    /// What was told after them.
     pub fn told(&self) -> Option<Told>
         ensures { result ≡ self.now.progress.told }
     {

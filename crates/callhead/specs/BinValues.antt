@@ -1,5 +1,19 @@
--- The value of a binary metadata field, whose name ends in -bin: gRPC over HTTP/2, "Custom-Metadata"; RFC 4648, section 4.
-use Rattle.std.specs.Prelude.{◌≡◌, ℕ, ◌<◌, ◌⊎◌, List, [], ◌∷◌, ◌++◌, length, replicate, slice_index, codes}
+-- The value of a binary metadata field, whose name ends in -bin: gRPC over HTTP/2,
+-- "Custom-Metadata"; RFC 4648, section 4.
+use Rattle.std.specs.Prelude.{
+  ◌≡◌,
+  ℕ,
+  ◌<◌,
+  ◌⊎◌,
+  List,
+  [],
+  ◌∷◌,
+  ◌++◌,
+  length,
+  replicate,
+  slice_index,
+  codes,
+}
 use Rattle.base64.specs.Rfc4648.{encode_symbols, padding_len}
 
 -- the alphabet of RFC 4648, section 4, in order
@@ -10,7 +24,7 @@ alphabet = codes "ABCDEFGHIJKLMNOPQRSTUVWXYZabcdefghijklmnopqrstuvwxyz0123456789
 unfoldable pub unpadded : List ℕ → List ℕ
 unpadded bytes = encode_symbols alphabet bytes
 
--- and with all the padding that is due
+-- bytes in base64, with all the padding that is due
 unfoldable pub padded : List ℕ → List ℕ
 padded bytes = unpadded bytes ++ replicate (padding_len (length bytes)) 0x3D
 
@@ -26,4 +40,6 @@ IsPart part value = AreBytes value × ((part ≡ unpadded value) ⊎ (part ≡ p
 abbrev pub IsBinValues : List ℕ → List (List ℕ) → Type 0
 IsBinValues text [] = ⊥
 IsBinValues text (value ∷ []) = IsPart text value
-IsBinValues text (value ∷ next ∷ values) = (part : List ℕ) × (behind : List ℕ) × (text ≡ part ++ 0x2C ∷ behind) × IsPart part value × IsBinValues behind (next ∷ values)
+IsBinValues text (value ∷ next ∷ values) =
+    (part : List ℕ) × (behind : List ℕ) × (text ≡ part ++ 0x2C ∷ behind) × IsPart part value
+    × IsBinValues behind (next ∷ values)

@@ -12,7 +12,13 @@ use Rattle.callhead.specs.declared.head.Encoding.TheVariants.{Identity}
 use Rattle.callhead.specs.Fields.{field_of}
 use Rattle.callhead.specs.MalformedHeads.{is_malformed, are_malformed_trailers}
 use Rattle.callhead.specs.declared.fault.HeadFault.{HeadFault}
-use Rattle.callhead.specs.declared.fault.HeadFault.TheVariants.{Malformed, NotPost, NotGrpc, BadTimeout, OutOfMemory}
+use Rattle.callhead.specs.declared.fault.HeadFault.TheVariants.{
+  Malformed,
+  NotPost,
+  NotGrpc,
+  BadTimeout,
+  OutOfMemory,
+}
 use Rattle.callhead.specs.Faults.{code_of}
 use Rattle.callhead.specs.Heads.{IsHead, IsFirstFault}
 use Rattle.callhead.specs.StatusFields.{unknown_method}
@@ -30,7 +36,8 @@ five_milliseconds = record {
 }
 
 -- a tab, a percent sign, a letter and U+263A
-pub percent_text-escapes : percent_text (0x09 ∷ 0x25 ∷ 0x41 ∷ 0xE2 ∷ 0x98 ∷ 0xBA ∷ []) ≡ codes "%09%25A%E2%98%BA"
+pub percent_text-escapes : percent_text (0x09 ∷ 0x25 ∷ 0x41 ∷ 0xE2 ∷ 0x98 ∷ 0xBA ∷ [])
+    ≡ codes "%09%25A%E2%98%BA"
 unfolding percent_text
 percent_text-escapes = refl
 
@@ -77,50 +84,71 @@ request-head = record {
   trailing = refl;
 }
 
--- a pseudo-header behind another field, and an upper-case letter
-pub is_malformed-late : is_malformed (request ++ field_of (codes ":authority") (codes "localhost") ∷ []) ≡ true
+-- a pseudo-header after another field, and an upper-case letter
+pub is_malformed-late :
+    is_malformed (request ++ field_of (codes ":authority") (codes "localhost") ∷ [])
+    ≡ true
 unfolding is_malformed
 is_malformed-late = refl
 
-pub is_malformed-upper_case : is_malformed (request ++ field_of (codes "X-a") (codes "1") ∷ []) ≡ true
+pub is_malformed-upper_case : is_malformed (request ++ field_of (codes "X-a") (codes "1") ∷ [])
+    ≡ true
 unfolding is_malformed
 is_malformed-upper_case = refl
 
--- trailers: none, a field of the caller's own, a pseudo-header, an upper-case letter, a line feed, and a field of the connection
+-- trailers: none, a field of the caller's own, a pseudo-header, an upper-case letter, a line feed,
+-- and a field of the connection
 pub are_malformed_trailers-none : are_malformed_trailers [] ≡ false
 unfolding are_malformed_trailers
 are_malformed_trailers-none = refl
 
-pub are_malformed_trailers-own : are_malformed_trailers (field_of (codes "x-sum") (codes "5") ∷ field_of (codes "te") (codes "trailers") ∷ []) ≡ false
+pub are_malformed_trailers-own :
+    are_malformed_trailers
+    (field_of (codes "x-sum") (codes "5") ∷ field_of (codes "te") (codes "trailers") ∷ [])
+    ≡ false
 unfolding are_malformed_trailers
 are_malformed_trailers-own = refl
 
-pub are_malformed_trailers-pseudo_header : are_malformed_trailers (field_of (codes ":path") (codes "/a") ∷ []) ≡ true
+pub are_malformed_trailers-pseudo_header :
+    are_malformed_trailers (field_of (codes ":path") (codes "/a") ∷ [])
+    ≡ true
 unfolding are_malformed_trailers
 are_malformed_trailers-pseudo_header = refl
 
-pub are_malformed_trailers-upper_case : are_malformed_trailers (field_of (codes "x-sum") (codes "5") ∷ field_of (codes "X-a") (codes "1") ∷ []) ≡ true
+pub are_malformed_trailers-upper_case :
+    are_malformed_trailers
+    (field_of (codes "x-sum") (codes "5") ∷ field_of (codes "X-a") (codes "1") ∷ [])
+    ≡ true
 unfolding are_malformed_trailers
 are_malformed_trailers-upper_case = refl
 
-pub are_malformed_trailers-line_feed : are_malformed_trailers (field_of (codes "x-sum") (codes "5\n6") ∷ []) ≡ true
+pub are_malformed_trailers-line_feed :
+    are_malformed_trailers (field_of (codes "x-sum") (codes "5\n6") ∷ [])
+    ≡ true
 unfolding are_malformed_trailers
 are_malformed_trailers-line_feed = refl
 
-pub are_malformed_trailers-connection : are_malformed_trailers (field_of (codes "connection") (codes "close") ∷ []) ≡ true
+pub are_malformed_trailers-connection :
+    are_malformed_trailers (field_of (codes "connection") (codes "close") ∷ [])
+    ≡ true
 unfolding are_malformed_trailers
 are_malformed_trailers-connection = refl
 
-pub are_malformed_trailers-te : are_malformed_trailers (field_of (codes "te") (codes "gzip") ∷ []) ≡ true
+pub are_malformed_trailers-te : are_malformed_trailers (field_of (codes "te") (codes "gzip") ∷ [])
+    ≡ true
 unfolding are_malformed_trailers
 are_malformed_trailers-te = refl
 
 -- the answer to a call of no method
-pub unknown_method-fields : unknown_method ≡ field_of (codes ":status") (codes "200") ∷ field_of (codes "content-type") (codes "application/grpc") ∷ field_of (codes "grpc-status") (codes "12") ∷ field_of (codes "grpc-message") (codes "unknown method") ∷ []
+pub unknown_method-fields : unknown_method
+    ≡ field_of (codes ":status") (codes "200")
+    ∷ field_of (codes "content-type") (codes "application/grpc")
+    ∷ field_of (codes "grpc-status") (codes "12")
+    ∷ field_of (codes "grpc-message") (codes "unknown method") ∷ []
 unfolding percent_text digits
 unknown_method-fields = refl
 
--- no fields at all: the first fault is that they are no request
+-- no fields at all: the first fault is that they aren't a request's
 pub no-fields : IsFirstFault [] Malformed
 unfolding is_malformed
 no-fields = record { stands = refl; first = λ other less stands. absurd (least other less) }

@@ -1,7 +1,13 @@
--- The numbers by which the faults are known outside.
+-- The numbers by which programs print the faults.
 use Rattle.std.specs.Prelude.{ℕ}
 use Rattle.callhead.specs.declared.fault.HeadFault.{HeadFault}
-use Rattle.callhead.specs.declared.fault.HeadFault.TheVariants.{Malformed, NotPost, NotGrpc, BadTimeout, OutOfMemory}
+use Rattle.callhead.specs.declared.fault.HeadFault.TheVariants.{
+  Malformed,
+  NotPost,
+  NotGrpc,
+  BadTimeout,
+  OutOfMemory,
+}
 
 abbrev pub code_of : HeadFault → ℕ
 code_of Malformed = 1

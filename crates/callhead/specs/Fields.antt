@@ -8,7 +8,7 @@ field_of name_bytes value_bytes = record { name = name_bytes; value = value_byte
 abbrev pub is_named : List ℕ → Field → Bool
 is_named name field = bytes_eq field.name name
 
--- of several fields with one name the first counts
+-- the value of a field: of several with one name the first counts
 abbrev pub first_of : List ℕ → List Field → Option (List ℕ)
 first_of name fields = option_map (λ (field : Field). field.value) (find (is_named name) fields)
 

@@ -1,5 +1,28 @@
 -- The fields that open a call: gRPC over HTTP/2, "Requests"; RFC 9113, section 8.3.1.
-use Rattle.std.specs.Prelude.{◌≡◌, ◌≢◌, ℕ, ◌-◌, nat_le, Bool, not, ◌&&◌, List, [], ◌∷◌, ◌++◌, length, map, slice_get, Option, Some, None, MatchOption, IfSome, IsTrue, codes}
+use Rattle.std.specs.Prelude.{
+  ◌≡◌,
+  ◌≢◌,
+  ℕ,
+  ◌-◌,
+  nat_le,
+  Bool,
+  not,
+  ◌&&◌,
+  List,
+  [],
+  ◌∷◌,
+  ◌++◌,
+  length,
+  map,
+  slice_get,
+  Option,
+  Some,
+  None,
+  MatchOption,
+  IfSome,
+  IsTrue,
+  codes,
+}
 use Rattle.std.specs.List.{list_all}
 use Rattle.lists.specs.declared.field.Field.{Field}
 use Rattle.callhead.specs.declared.head.Encoding.TheVariants.{Identity}
@@ -22,7 +45,9 @@ IsPathText path = (path ≢ []) × IsTrue (is_visible path)
 
 -- printable bytes, without a blank at an end
 abbrev pub is_text_value : List ℕ → Bool
-is_text_value value = is_printable value && not (is_blank (slice_get value 0)) && not (is_blank (slice_get value (length value - 1)))
+is_text_value value =
+    is_printable value && not (is_blank (slice_get value 0))
+    && not (is_blank (slice_get value (length value - 1)))
 
 -- no text, or one that names a timeout
 abbrev pub IsTimeoutText : Option (List ℕ) → Type 0
@@ -34,7 +59,8 @@ abbrev pub timeout_fields : Option (List ℕ) → List Field
 timeout_fields None = []
 timeout_fields (Some text) = field_of (codes "grpc-timeout") text ∷ []
 
--- values that are to come back in the head of the response, and bytes that are to come back in the trailers
+-- values that are to come back in the head of the response, and bytes that are to come back in the
+-- trailers
 abbrev pub echo_fields : List (List ℕ) → List (List ℕ) → List Field
 echo_fields initial trailing =
     map (field_of (codes "x-grpc-test-echo-initial")) initial
@@ -42,19 +68,24 @@ echo_fields initial trailing =
 
 abbrev pub opening_fields : List ℕ → List Field
 opening_fields path =
-    field_of (codes ":method") (codes "POST") ∷ field_of (codes ":scheme") (codes "http") ∷ field_of (codes ":path") path
+    field_of (codes ":method") (codes "POST") ∷ field_of (codes ":scheme") (codes "http")
+    ∷ field_of (codes ":path") path
     ∷ field_of (codes ":authority") (codes "localhost") ∷ field_of (codes "te") (codes "trailers")
     ∷ field_of (codes "content-type") (codes "application/grpc") ∷ []
 
 abbrev pub request_fields : List ℕ → Option (List ℕ) → List (List ℕ) → List (List ℕ) → List Field
-request_fields path timeout initial trailing = opening_fields path ++ (timeout_fields timeout ++ echo_fields initial trailing)
+request_fields path timeout initial trailing =
+    opening_fields path ++ (timeout_fields timeout ++ echo_fields initial trailing)
 
--- ---- the head that they are
+-- ---- the head that the fields are
 
--- a head asks for these: the path, the timeout that the text names, and the echoes
-pub record AsksFor (path : List ℕ) (timeout : Option (List ℕ)) (initial trailing : List (List ℕ)) (head : CallHead) : Type 0 where
+-- a head asks for this path, the timeout that the text names, and these echoes
+pub record AsksFor (path : List ℕ) (timeout : Option (List ℕ)) (initial trailing : List (List ℕ))
+    (head : CallHead) : Type 0 where
   pub path_is : head.path ≡ path
-  pub timeout_is : MatchOption timeout (head.timeout ≡ None) (λ text. (nanoseconds : ℕ) × IsTimeout text nanoseconds × (head.timeout ≡ Some nanoseconds))
+  pub timeout_is :
+      MatchOption timeout (head.timeout ≡ None)
+      (λ text. (nanoseconds : ℕ) × IsTimeout text nanoseconds × (head.timeout ≡ Some nanoseconds))
   pub uncompressed : head.encoding ≡ Identity
   pub initial_is : head.echo_initial ≡ initial
   pub trailing_is : head.echo_trailing ≡ trailing

@@ -1,4 +1,4 @@
--- Fields in which no fault of a head stands. A word of the crate's own functions.
+-- Fields without a fault of a head. Only the crate's own functions use this word.
 use Rattle.std.specs.Prelude.{◌≡◌, ℕ, false, List, Option}
 use Rattle.lists.specs.declared.field.Field.{Field}
 use Rattle.callhead.specs.MalformedHeads.{is_malformed}

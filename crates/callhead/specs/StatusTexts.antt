@@ -1,5 +1,20 @@
 -- The text of a status in a field: gRPC over HTTP/2, "Percent-Encoded".
-use Rattle.std.specs.Prelude.{ℕ, ◌+◌, ◌/◌, ◌%◌, ◌==◌, nat_lt, nat_le, Bool, not, ◌&&◌, if◌then◌else◌, List, [], ◌∷◌}
+use Rattle.std.specs.Prelude.{
+  ℕ,
+  ◌+◌,
+  ◌/◌,
+  ◌%◌,
+  ◌==◌,
+  nat_lt,
+  nat_le,
+  Bool,
+  not,
+  ◌&&◌,
+  if◌then◌else◌,
+  List,
+  [],
+  ◌∷◌,
+}
 use Rattle.std.specs.List.{flat_map}
 use Rattle.std.specs.Str.Lossy.{utf8_lossy}
 use Rattle.percent_encoding.specs.Percent.{percent_decode}
@@ -22,7 +37,8 @@ percent_byte byte =
 unfoldable pub percent_text : List ℕ → List ℕ
 percent_text bytes = flat_map percent_byte bytes
 
--- The text that a value stands for. `percent_decode` puts its byte in the place of each `%` with two hexadecimal digits of
--- either case, and leaves any other `%` as it is; `utf8_lossy` puts U+FFFD in the place of what isn't UTF-8.
+-- The text that a value stands for. `percent_decode` puts its byte in the place of each `%` with
+-- two hexadecimal digits of either case, and leaves any other `%` as it is; `utf8_lossy` puts
+-- U+FFFD in the place of what isn't UTF-8.
 unfoldable pub text_of : List ℕ → List ℕ
 text_of value = utf8_lossy (percent_decode value)

@@ -11,8 +11,8 @@ pub record IsStatusCode (text : List ℕ) (code : ℕ) : Type 0 where
   pub value : code ≡ digits_value 10 text
   pub known : code ≤ 16
 
--- The fields tell this status: its number in the first `grpc-status`, and its text in the first `grpc-message`, which is
--- empty where there is none.
+-- The fields have this status: its number in the first `grpc-status`, and its text in the first
+-- `grpc-message`, which is empty if there is none.
 pub record TellsStatus (fields : List Field) (code : ℕ) (text : List ℕ) : Type 0 where
   pub number : List ℕ
   pub found : first_of (codes "grpc-status") fields ≡ Some number

@@ -1,5 +1,20 @@
 -- The timeout of a call: gRPC over HTTP/2, "Timeout", with "TimeoutValue" and "TimeoutUnit".
-use Rattle.std.specs.Prelude.{◌≡◌, ℕ, ◌*◌, ◌≤◌, ◌==◌, if◌then◌else◌, List, [], ◌∷◌, ◌++◌, length, Option, Some, None}
+use Rattle.std.specs.Prelude.{
+  ◌≡◌,
+  ℕ,
+  ◌*◌,
+  ◌≤◌,
+  ◌==◌,
+  if◌then◌else◌,
+  List,
+  [],
+  ◌∷◌,
+  ◌++◌,
+  length,
+  Option,
+  Some,
+  None,
+}
 use Rattle.std.specs.Str.Parse.{IsNumeral, digits_value}
 
 -- how many nanoseconds the unit with this letter has: H, M, S, m, u and n

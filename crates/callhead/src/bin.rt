@@ -1,8 +1,32 @@
-//! Binary metadata, in fields whose name ends in `-bin` (gRPC over HTTP/2, "Custom-Metadata"; RFC 4648, section 4).
+//! Binary metadata, in fields whose name ends in `-bin` (gRPC over HTTP/2, "Custom-Metadata"; RFC
+//! 4648, section 4).
 //!
-//! `read_bin_values`: A field that carries no values is no fault, it is only not echoed: so the answer is an Option.
+//! `read_bin_values` answers an Option, since a field that carries no values isn't a fault: it is
+//! only not echoed.
 
-ghost use Rattle.std.specs.Prelude.{◌≡◌, ℕ, ◌+◌, ◌^◌, ◌<◌, ◌==◌, ◌↔◌, List, [], ◌∷◌, ◌++◌, take, drop, length, position, Some, IsTrue, IfOk, IfSome, IfNone, string_bytes};
+ghost use Rattle.std.specs.Prelude.{
+  ◌≡◌,
+  ℕ,
+  ◌+◌,
+  ◌^◌,
+  ◌<◌,
+  ◌==◌,
+  ◌↔◌,
+  List,
+  [],
+  ◌∷◌,
+  ◌++◌,
+  take,
+  drop,
+  length,
+  position,
+  Some,
+  IsTrue,
+  IfOk,
+  IfSome,
+  IfNone,
+  string_bytes,
+};
 ghost use Rattle.base64.specs.GeneralPurpose.{encode_of, IsStrict};
 ghost use Rattle.callhead.specs.BinValues.{unpadded, AreBytes, IsBinValues};
 ghost use Rattle.callhead.specs.Parts.{IsWithout, IsPadded, ReadsPart};
@@ -21,8 +45,9 @@ pub fn bin_value(alloc: Global, value: &[u8]) -> Result<String, AllocError>
     STANDARD_NO_PAD.encode(alloc, value)
 }
 
-/// The values that a `-bin` field carries: base64, padded or not, with commas between several. An empty part is the
-/// empty value. There is no answer where a part is no base64, is padded by half, or has bits left over that aren't 0.
+/// The values that a `-bin` field carries: base64, padded or not, with commas between several. An
+/// empty part is the empty value. There is no answer if a part isn't base64, has only some of its
+/// padding, or has bits left over that aren't 0.
 pub fn read_bin_values(alloc: Global, text: &[u8]) -> Result<Option<Values>, AllocError>
     ensures { (values : List (List ℕ))
         → IfOk result (λ found. (found ≡ Some values) ↔ IsBinValues text.now values) }
@@ -43,7 +68,7 @@ pub fn read_bin_values(alloc: Global, text: &[u8]) -> Result<Option<Values>, All
     Ok(Some(Values::from(values)))
 }
 
-/// Where the first comma stands.
+/// The place of the first comma.
 fn first_comma(text: &[u8]) -> Option<usize>
     ensures none { IfNone result (IsWithout 0x2C text.now) }
     ensures without { IfSome result (λ at. IsWithout 0x2C (take at text.now)) }
@@ -52,7 +77,7 @@ fn first_comma(text: &[u8]) -> Option<usize>
     ensures within { IfSome result (λ at. at < length text.now) }
     ensures fits { IfSome result (λ at. at + 1 < 2 ^ 64) }
 {
-    // A text's length is a `usize`: this is what `fits` rests on.
+    // A text's length is a `usize`: `fits` rests on that.
     let _len = text.len();
     position_of_comma(text)
 }
@@ -84,7 +109,7 @@ fn is_padded(part: &[u8]) -> bool
     }
 }
 
-/// What an engine decodes a part to.
+/// The bytes to which an engine decodes a part.
 fn decode(alloc: Global, engine: &GeneralPurpose, part: &[u8]) -> Result<Option<Octets>, AllocError>
     requires strict { IsStrict engine.now }
     ensures none { IfOk result

@@ -10,7 +10,7 @@ use thiserror::Error;
 /// Why fields are not read as the head of a call. They are tested in this order.
 #[derive(Clone, Copy, Debug, PartialEq, Eq, Error)]
 pub enum HeadFault {
-    /// The fields are no request (RFC 9113, sections 8.2 and 8.3).
+    /// The fields aren't a request's (RFC 9113, sections 8.2 and 8.3).
     #[error("the request is malformed")]
     Malformed,
     /// The method is not POST.
@@ -19,10 +19,10 @@ pub enum HeadFault {
     /// There is no content type, or it doesn't begin with `application/grpc`.
     #[error("the content type is not application/grpc")]
     NotGrpc,
-    /// The first `grpc-timeout` is no timeout.
+    /// The first `grpc-timeout` isn't a timeout.
     #[error("the timeout is malformed")]
     BadTimeout,
-    /// No memory was to be had.
+    /// There is no memory.
     #[error("out of memory")]
     OutOfMemory,
 }

@@ -20,7 +20,7 @@ pub fn first_value<'a>(fields: &'a [Field], name: &[u8]) -> Option<&'a [u8]>
     Some(first_octets(fields, name)?.as_slice())
 }
 
-/// The same value, as the field owns it.
+/// The value of the first field with this name, as the field owns it.
 pub fn first_octets<'a>(fields: &'a [Field], name: &[u8]) -> Option<&'a Octets>
     ensures { option_copied result ≡ first_of name.now fields.now }
 {
@@ -35,7 +35,7 @@ pub fn count_named(fields: &[Field], name: &[u8]) -> usize
     fields.iter().filter(|field| is_named(field, name)).count()
 }
 
-/// A field of a name that the program has, and of this value. It takes no memory.
+/// A field with a name of the program's and this value. It takes no memory.
 pub fn field(name: &'static [u8], value: Octets) -> Field
     ensures { result ≡ field_of name.now value }
 {
@@ -45,7 +45,7 @@ pub fn field(name: &'static [u8], value: Octets) -> Field
     }
 }
 
-/// Appends a field that the program has.
+/// Appends a field of the program's.
 pub fn push_known(
     fields: &mut Vec<Field>,
     name: &'static [u8],

@@ -1,15 +1,42 @@
 //! The head of a call (gRPC over HTTP/2, "Requests").
 //!
-//! `read`: faults are looked for before memory is taken, so that a fault is answered whether or not there is memory.
+//! `read` looks for faults before it takes memory, so it answers a fault whether or not there is
+//! memory.
 //!
-//! `initial_echoes`: the texts are made by std's lossy reading, which changes nothing of bytes 20 to 7E.
+//! `initial_echoes` makes texts by std's lossy reading, which doesn't change bytes 20 to 7E.
 
-ghost use Rattle.std.specs.Prelude.{◌≡◌, ◌⊎◌, ◌↔◌, ℕ, List, Option, Ok, Err, Some, IfOk, IfErr, IfSome, IsTrue, codes};
+ghost use Rattle.std.specs.Prelude.{
+  ◌≡◌,
+  ◌⊎◌,
+  ◌↔◌,
+  ℕ,
+  List,
+  Option,
+  Ok,
+  Err,
+  Some,
+  IfOk,
+  IfErr,
+  IfSome,
+  IsTrue,
+  codes,
+};
 ghost use Rattle.callhead.specs.declared.head.CallHead.{CallHead};
 ghost use Rattle.callhead.specs.declared.fault.HeadFault.{HeadFault};
 ghost use Rattle.callhead.specs.declared.fault.HeadFault.TheVariants.{OutOfMemory};
 ghost use Rattle.callhead.specs.Fields.{first_of};
-ghost use Rattle.callhead.specs.Heads.{IsPost, IsGrpc, HasTimeout, encoding_of, is_printable, initial_echoes, AreEchoesOf, AreTrailingEchoes, IsHead, IsFirstFault};
+ghost use Rattle.callhead.specs.Heads.{
+  IsPost,
+  IsGrpc,
+  HasTimeout,
+  encoding_of,
+  is_printable,
+  initial_echoes,
+  AreEchoesOf,
+  AreTrailingEchoes,
+  IsHead,
+  IsFirstFault,
+};
 ghost use Rattle.callhead.specs.Requests.{IsRequest};
 
 use crate::bin::read_bin_values;
@@ -23,7 +50,7 @@ use crate::values::Values;
 use lists::{Field, Octets};
 use std::alloc::{AllocError, Global};
 
-/// How the messages of a call are said to be compressed.
+/// How the messages of a call may be compressed, as its head says.
 #[derive(Clone, Copy, Debug, PartialEq, Eq)]
 pub enum Encoding {
     /// Not at all.
@@ -37,7 +64,7 @@ pub enum Encoding {
 pub struct CallHead {
     /// The path of the method, as bytes.
     pub path: Octets,
-    /// In nanoseconds.
+    /// The timeout, in nanoseconds.
     pub timeout: Option<u128>,
     pub encoding: Encoding,
     /// What goes back in the head of the response.
@@ -47,7 +74,8 @@ pub struct CallHead {
 }
 
 impl CallHead {
-    /// The head of a call, or the first fault that stands. Only a head takes memory.
+    /// The head of a call exactly where the fields are one, memory aside; else the fault with the
+    /// least number of those that stand. Only a head takes memory.
     pub fn read(alloc: Global, fields: &[Field]) -> Result<CallHead, HeadFault>
         ensures ok { IfOk result (λ head. IsHead fields.now head) }
         ensures only { (head : CallHead) → IsHead fields.now head → (result ≡ Ok head)
@@ -70,7 +98,7 @@ impl CallHead {
     }
 }
 
-/// The timeout, where no fault stands.
+/// The timeout, if the fields have no fault.
 fn lawful_timeout(fields: &[Field]) -> Result<Option<u128>, HeadFault>
     ensures ok { IfOk result (λ timeout. IsRequest fields.now timeout) }
     ensures err { IfErr result (λ fault. IsFirstFault fields.now fault) }
@@ -109,7 +137,7 @@ fn is_grpc(fields: &[Field]) -> bool
     }
 }
 
-/// The timeout, or that there is none; no answer where it is malformed.
+/// The timeout, or that there is none. No answer if it is malformed.
 fn timeout_of(fields: &[Field]) -> Option<Option<u128>>
     ensures found { IfSome result (λ timeout. HasTimeout fields.now timeout) }
     ensures only { (timeout : Option ℕ) → HasTimeout fields.now timeout → result ≡ Some timeout }
@@ -164,7 +192,7 @@ fn trailing_echoes(alloc: Global, fields: &[Field]) -> Result<Values, AllocError
     Ok(Values::from(echoes))
 }
 
-/// The values that go back for one field: those that it carries, and none where it carries none.
+/// The values that go back for one field: those that it carries, if any.
 fn echoes_of(alloc: Global, text: &[u8]) -> Result<Vec<Octets>, AllocError>
     ensures { (values : List (List ℕ))
         → IfOk result (λ echoes. (echoes.items ≡ values) ↔ AreEchoesOf text.now values) }

@@ -1,4 +1,5 @@
-//! Laws of the definitions, for whoever builds on them: functions that do nothing, and whose contracts are the laws.
+//! Laws of the definitions, for code that builds on them. The functions do nothing: their contracts
+//! are the laws.
 
 ghost use Rattle.std.specs.Prelude.{◌≡◌, ◌⊎◌, List};
 ghost use Rattle.lists.specs.declared.field.Field.{Field};

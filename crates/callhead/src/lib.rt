@@ -1,23 +1,26 @@
-//! Heads of calls, the fields that answer them, and the texts in both, as gRPC writes them in the fields of HTTP/2
-//! (gRPC over HTTP/2, PROTOCOL-HTTP2.md; RFC 9113, sections 8.2 and 8.3; RFC 4648, section 4).
+//! The heads, trailers, timeouts, status texts and binary metadata of calls. They are written as
+//! gRPC has them in the fields of HTTP/2 (gRPC over HTTP/2, PROTOCOL-HTTP2.md; RFC 9113, sections
+//! 8.2 and 8.3; RFC 4648, section 4).
 //!
-//! `CallHead::read` answers the head of a call where the fields are one (`specs/Heads.antt`), else the first of the
-//! faults that stand in them; which fields are malformed says `specs/MalformedHeads.antt`; `laws` that there is one
-//! such answer. `are_malformed_trailers` says the same of the trailers of a request. Each cause has its own test
-//! (`has_bad_name` and others), for who judges a response or tells the cause. `response_fields`, `status_fields`,
-//! `trailers_only`, `unknown_method` and `HeadFault::refusal` make the fields that answer a call
-//! (`specs/StatusFields.antt`).
+//! `CallHead::read` answers the head of a call if the fields are one (`specs/Heads.antt`), else the
+//! first of their faults. `specs/MalformedHeads.antt` says which fields are malformed, and `laws`
+//! that there is one such answer. `are_malformed_trailers` judges the trailers of a request. Each
+//! cause has its own test (`has_bad_name` and others), for callers that judge a response or report
+//! the cause. `response_fields`, `status_fields`, `trailers_only`, `unknown_method` and
+//! `HeadFault::refusal` make the fields that answer a call (`specs/StatusFields.antt`).
 //!
-//! For a client `request_fields` makes the fields that open a call, which are the head that asks for what it was given
-//! (`specs/RequestFields.antt`), and `read_status` reads the status in trailers (`specs/Statuses.antt`).
+//! For a client `request_fields` makes the fields that open a call, which are the head that asks
+//! for what it was given (`specs/RequestFields.antt`), and `read_status` reads the status in
+//! trailers (`specs/Statuses.antt`).
 //!
-//! A call carries its timeout in `grpc-timeout`, the text of its status in `grpc-message`, and bytes in fields whose
-//! name ends in `-bin`. `read_timeout` answers a timeout exactly where the text is one (`specs/Timeouts.antt`); what
-//! `percent_text` and `bin_value` write is read again as it was (`specs/StatusTexts.antt`, `specs/BinValues.antt`);
-//! `read_bin_values` answers the one list of values that there is.
+//! A call carries its timeout in `grpc-timeout`, the text of its status in `grpc-message`, and
+//! bytes in fields whose name ends in `-bin`. `read_timeout` answers a timeout exactly where the
+//! text is one (`specs/Timeouts.antt`); what `percent_text` and `bin_value` write is read back
+//! unchanged (`specs/StatusTexts.antt`, `specs/BinValues.antt`); `read_bin_values` answers the one
+//! list of values that there is.
 //!
-//! Read `fault`, `timeout`, `percent`, `values`, `texts` and `bin`; then `fields`, `malformed` and `head`; then
-//! `response`, `request` and `status`.
+//! Read `fault`, `timeout`, `percent`, `values`, `texts` and `bin`; then `fields`, `malformed` and
+//! `head`; then `response`, `request` and `status`.
 #![tactic(auto)]
 
 pub mod bin;

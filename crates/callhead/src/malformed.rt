@@ -1,10 +1,31 @@
-//! Which fields are no request, and which no trailers of one (RFC 9113, sections 8.1, 8.2 and 8.3).
+//! Which fields aren't a request's, and which aren't its trailers (RFC 9113, sections 8.1, 8.2 and
+//! 8.3).
 //!
-//! Each cause is a test of the whole list of fields, a word of its own. That a pseudo-header is late is said of what
-//! stands behind the longest run of pseudo-headers at the beginning.
+//! Each cause is a test of the whole list of fields. A pseudo-header is late if it comes after the
+//! longest run of pseudo-headers at the beginning.
 
 ghost use Rattle.std.specs.Prelude.{◌≡◌, ◌==◌, drop, option_copied};
-ghost use Rattle.callhead.specs.MalformedHeads.{is_forbidden_in_names, has_bad_name, is_blank, is_forbidden_in_values, has_bad_value, is_connection_specific, is_other_te, is_pseudo_header, is_unknown, is_empty_path, has_late_pseudo_header, is_repeated, is_missing, is_malformed_field, is_malformed, is_malformed_trailer, are_malformed_trailers, pseudo_headers, required_headers};
+ghost use Rattle.callhead.specs.MalformedHeads.{
+  is_forbidden_in_names,
+  has_bad_name,
+  is_blank,
+  is_forbidden_in_values,
+  has_bad_value,
+  is_connection_specific,
+  is_other_te,
+  is_pseudo_header,
+  is_unknown,
+  is_empty_path,
+  has_late_pseudo_header,
+  is_repeated,
+  is_missing,
+  is_malformed_field,
+  is_malformed,
+  is_malformed_trailer,
+  are_malformed_trailers,
+  pseudo_headers,
+  required_headers,
+};
 ghost use Rattle.std.specs.List.{list_any};
 
 use crate::fields::{count_named, first_value, is_named};
@@ -21,7 +42,7 @@ const AUTHORITY: &[u8] = b":authority";
 /// The one value that `te` may have.
 const TRAILERS: &[u8] = b"trailers";
 
-/// Whether the fields are no request.
+/// Whether the fields aren't a request's.
 #[tactic(auto, unfolding(crate::specs::MalformedHeads::is_malformed))]
 pub fn is_malformed(fields: &[Field]) -> bool
     ensures { result ≡ is_malformed fields.now }
@@ -50,7 +71,8 @@ fn is_malformed_field(field: &Field) -> bool
         || is_empty_path(field)
 }
 
-/// Whether the name is empty, has a forbidden byte, or a colon that isn't its first byte (RFC 9113, section 8.2.1).
+/// Whether the name is empty, has a forbidden byte, or a colon that isn't its first byte (RFC 9113,
+/// section 8.2.1).
 pub fn has_bad_name(field: &Field) -> bool
     ensures { result ≡ has_bad_name field.now }
 {
@@ -64,7 +86,7 @@ fn has_forbidden_byte(name: &[u8]) -> bool
     name.iter().any(|byte| is_forbidden_in_names(*byte))
 }
 
-/// Whether a colon stands behind the name's first byte.
+/// Whether a colon comes after the name's first byte.
 pub fn has_inner_colon(name: &[u8]) -> bool
     ensures { result ≡ list_any (λ byte. byte == 0x3A) (drop 1 name.now) }
 {
@@ -110,7 +132,8 @@ pub fn is_blank(byte: Option<&u8>) -> bool
     }
 }
 
-/// Whether the field speaks of one connection alone (RFC 9113, section 8.2.2), but for `te`, which a request may have.
+/// Whether the field is connection-specific (RFC 9113, section 8.2.2), but for `te`, which a
+/// request may have.
 pub fn is_connection_specific(field: &Field) -> bool
     ensures { result ≡ is_connection_specific field.now }
 {
@@ -121,7 +144,7 @@ pub fn is_connection_specific(field: &Field) -> bool
         || is_named(field, b"upgrade")
 }
 
-/// Whether it is a `te` that is no `trailers` (RFC 9113, section 8.2.2).
+/// Whether it is a `te` other than `trailers` (RFC 9113, section 8.2.2).
 pub fn is_other_te(field: &Field) -> bool
     ensures { result ≡ is_other_te field.now }
 {
@@ -153,7 +176,7 @@ pub fn is_empty_path(field: &Field) -> bool
     is_named(field, PATH) && field.value.is_empty()
 }
 
-/// Whether a pseudo-header stands behind another field (RFC 9113, section 8.3).
+/// Whether a pseudo-header comes after another field (RFC 9113, section 8.3).
 pub fn has_late_pseudo_header(fields: &[Field]) -> bool
     ensures { result ≡ has_late_pseudo_header fields.now }
 {
@@ -163,7 +186,7 @@ pub fn has_late_pseudo_header(fields: &[Field]) -> bool
         .any(|field| is_pseudo_header(field))
 }
 
-/// Whether a pseudo-header stands twice.
+/// Whether a pseudo-header comes twice.
 fn repeats_pseudo_header(fields: &[Field]) -> bool
     ensures { result ≡ list_any (is_repeated fields.now) pseudo_headers }
 {
@@ -179,7 +202,7 @@ fn is_repeated(fields: &[Field], name: &[u8]) -> bool
     1 < count_named(fields, name)
 }
 
-/// Whether there is a pseudo-header too few.
+/// Whether a pseudo-header is missing.
 fn lacks_pseudo_header(fields: &[Field]) -> bool
     ensures { result ≡ list_any (is_missing fields.now) required_headers }
 {
@@ -192,7 +215,7 @@ fn is_missing(fields: &[Field], name: &[u8]) -> bool
     first_value(fields, name).is_none()
 }
 
-/// Whether the fields are no trailers of a request (RFC 9113, section 8.1).
+/// Whether the fields aren't trailers of a request (RFC 9113, section 8.1).
 #[tactic(auto, unfolding(crate::specs::MalformedHeads::are_malformed_trailers))]
 pub fn are_malformed_trailers(fields: &[Field]) -> bool
     ensures { result ≡ are_malformed_trailers fields.now }

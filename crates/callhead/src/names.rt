@@ -1,6 +1,6 @@
 //! The names and values of fields that are both read and written.
 
-/// What the content type of a call begins with, and of a response is.
+/// The content type of a response, with which that of a call begins.
 pub const GRPC_TYPE: &[u8] = b"application/grpc";
 
 pub const CONTENT_TYPE: &[u8] = b"content-type";

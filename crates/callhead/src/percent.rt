@@ -1,6 +1,7 @@
 //! The text of a status, in `grpc-message` (gRPC over HTTP/2, "Percent-Encoded").
 //!
-//! What is written is a `String`, whose bytes go into a field without memory (`String::into_bytes`, `Octets::from`).
+//! A text is written as a `String`, whose bytes go into a field without memory
+//! (`String::into_bytes`, `Octets::from`).
 
 ghost use Rattle.std.specs.Prelude.{◌≡◌, IfOk, string_bytes};
 ghost use Rattle.callhead.specs.StatusTexts.{percent_text, text_of};
@@ -8,11 +9,11 @@ ghost use Rattle.callhead.specs.StatusTexts.{percent_text, text_of};
 use percent_encoding::{AsciiSet, CONTROLS, ascii_set, percent_decode, utf8_percent_encode};
 use std::alloc::{AllocError, Global};
 
-/// What is escaped beside bytes outside ASCII.
+/// The ASCII bytes that are escaped.
 const ESCAPED: AsciiSet = ascii_set!(CONTROLS.add(b'%'));
 
-/// The value of `grpc-message` for a text: bytes 20 to 24 and 26 to 7E (hexadecimal) stand for themselves, each other
-/// byte of its UTF-8 is `%` and two upper-case digits.
+/// The value of `grpc-message` for a text: bytes 20 to 24 and 26 to 7E (hexadecimal) stand for
+/// themselves, each other byte of its UTF-8 is `%` and two upper-case digits.
 pub fn percent_text(alloc: Global, text: &str) -> Result<String, AllocError>
     ensures text { IfOk result (λ written. string_bytes written ≡ percent_text text.now) }
     ensures again { IfOk result (λ written. text_of (string_bytes written) ≡ text.now) }
@@ -22,8 +23,8 @@ pub fn percent_text(alloc: Global, text: &str) -> Result<String, AllocError>
     Ok(written)
 }
 
-/// The text that a value of `grpc-message` stands for. A `%` without two hexadecimal digits stands for itself, and
-/// bytes that are not UTF-8 are replaced by U+FFFD.
+/// The text that a value of `grpc-message` stands for. A `%` without two hexadecimal digits stands
+/// for itself, and bytes that are not UTF-8 are replaced by U+FFFD.
 pub fn read_percent_text(alloc: Global, value: &[u8]) -> Result<String, AllocError>
     ensures { IfOk result (λ text. string_bytes text ≡ text_of value.now) }
 {

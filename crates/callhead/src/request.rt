@@ -1,11 +1,31 @@
-//! The fields that open a call, for whoever makes one (gRPC over HTTP/2, "Requests").
+//! The fields that open a call, for a client (gRPC over HTTP/2, "Requests").
 
-ghost use Rattle.std.specs.Prelude.{◌≡◌, codes, ◌++◌, ◌∷◌, [], map, option_copied, All, IfOk, IsTrue, OnOk};
+ghost use Rattle.std.specs.Prelude.{
+  ◌≡◌,
+  codes,
+  ◌++◌,
+  ◌∷◌,
+  [],
+  map,
+  option_copied,
+  All,
+  IfOk,
+  IsTrue,
+  OnOk,
+};
 ghost use Rattle.callhead.specs.declared.head.CallHead.{CallHead};
 ghost use Rattle.callhead.specs.Fields.{field_of};
 ghost use Rattle.callhead.specs.BinValues.{unpadded, AreBytes};
 ghost use Rattle.callhead.specs.Heads.{IsHead};
-ghost use Rattle.callhead.specs.RequestFields.{IsPathText, is_text_value, IsTimeoutText, timeout_fields, opening_fields, request_fields, AsksFor};
+ghost use Rattle.callhead.specs.RequestFields.{
+  IsPathText,
+  is_text_value,
+  IsTimeoutText,
+  timeout_fields,
+  opening_fields,
+  request_fields,
+  AsksFor,
+};
 
 use crate::bin::bin_value;
 use crate::fields::{field, push_copied, push_known};
@@ -13,9 +33,9 @@ use crate::names::{CONTENT_TYPE, ECHO_INITIAL, ECHO_TRAILING, GRPC_TYPE};
 use lists::{Field, Octets};
 use std::alloc::{AllocError, Global};
 
-/// The fields of a request: `:method`, `:scheme`, `:path`, `:authority`, `te` and `content-type`; then the timeout, a
-/// field for each value that is to come back in the head of the response, and one for each that is to come back in the
-/// trailers.
+/// The fields of a request: `:method`, `:scheme`, `:path`, `:authority`, `te` and `content-type`;
+/// then the timeout, a field for each value that is to come back in the head of the response, and
+/// one for each that is to come back in the trailers.
 pub fn request_fields(
     alloc: Global,
     path: &str,

@@ -1,7 +1,27 @@
 //! The fields that answer a call (gRPC over HTTP/2, "Responses").
 
-ghost use Rattle.std.specs.Prelude.{◌≡◌, ◌++◌, [], ◌∷◌, Some, None, MatchOption, IfOk, OnOk, codes, decimal};
-ghost use Rattle.callhead.specs.StatusFields.{response_fields, status_fields, message_fields, trailers_only, unknown_method, refusal_of, status_alone};
+ghost use Rattle.std.specs.Prelude.{
+  ◌≡◌,
+  ◌++◌,
+  [],
+  ◌∷◌,
+  Some,
+  None,
+  MatchOption,
+  IfOk,
+  OnOk,
+  codes,
+  decimal,
+};
+ghost use Rattle.callhead.specs.StatusFields.{
+  response_fields,
+  status_fields,
+  message_fields,
+  trailers_only,
+  unknown_method,
+  refusal_of,
+  status_alone,
+};
 
 use crate::bin::bin_value;
 use crate::fault::HeadFault;
@@ -25,8 +45,8 @@ pub fn response_fields(alloc: Global, echo_initial: &Texts) -> Result<Vec<Field>
     Ok(fields)
 }
 
-/// The fields that end the response to a call: the status's number, its text unless that is empty, and one for each
-/// echo.
+/// The fields that end the response to a call: the status's number, its text unless that is empty,
+/// and one for each echo.
 pub fn status_fields(
     alloc: Global,
     code: u32,
@@ -44,8 +64,8 @@ pub fn status_fields(
     Ok(fields)
 }
 
-/// The fields of a Trailers-Only response, which begins and ends in one block: those that each response begins with,
-/// the status's number, and its text unless that is empty.
+/// The fields of a Trailers-Only response, which begins and ends in one block: those with which
+/// each response begins, the status's number, and its text unless that is empty.
 pub fn trailers_only(alloc: Global, code: u32, text: &str) -> Result<Vec<Field>, AllocError>
     ensures { IfOk result (λ fields. fields.items ≡ trailers_only code text.now) }
 {
@@ -54,7 +74,8 @@ pub fn trailers_only(alloc: Global, code: u32, text: &str) -> Result<Vec<Field>,
     Ok(block)
 }
 
-/// The fields of the block that answers a call whose path names no method: UNIMPLEMENTED (12), `unknown method`.
+/// The fields of the block that answers a call whose path names no method: UNIMPLEMENTED (12),
+/// `unknown method`.
 pub fn unknown_method(alloc: Global) -> Result<Vec<Field>, AllocError>
     ensures { IfOk result (λ fields. fields.items ≡ unknown_method) }
 {
@@ -62,8 +83,9 @@ pub fn unknown_method(alloc: Global) -> Result<Vec<Field>, AllocError>
 }
 
 impl HeadFault {
-    /// The fields of the block that answers what is no head of a call. A malformed request is answered by none (its
-    /// stream is reset), and that memory ran out isn't the client's fault.
+    /// The fields of the block that answers fields which aren't the head of a call. A malformed
+    /// request has no such block (its stream is reset), and want of memory isn't the client's
+    /// fault.
     pub fn refusal(self, alloc: Global) -> Result<Option<Vec<Field>>, AllocError>
         ensures { IfOk result
             (λ found. MatchOption found (refusal_of self ≡ None)
@@ -90,7 +112,7 @@ fn status_alone(alloc: Global, status: &'static [u8]) -> Result<Vec<Field>, Allo
     Ok(fields)
 }
 
-/// The fields that each response of gRPC begins with.
+/// The fields with which each response of gRPC begins.
 fn opening_fields(alloc: Global) -> Result<Vec<Field>, AllocError>
     ensures { IfOk result (λ fields. fields.items ≡ response_fields []) }
 {
@@ -114,7 +136,7 @@ fn push_status(
     Ok(())
 }
 
-/// The text of a status's number, which takes no memory for that of OK.
+/// The text of a status's number. For OK it takes no memory.
 fn number_text(alloc: Global, code: u32) -> Result<Octets, AllocError>
     ensures { IfOk result (λ text. text ≡ decimal code) }
 {

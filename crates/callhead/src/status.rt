@@ -1,4 +1,4 @@
-//! The status that ends a call, as its trailers tell it (gRPC over HTTP/2, "Responses").
+//! The status that ends a call, by its trailers (gRPC over HTTP/2, "Responses").
 
 ghost use Rattle.std.specs.Prelude.{◌≡◌, ◌↔◌, ℕ, List, Some, IfOk, IfNone, IfSome, string_bytes};
 ghost use Rattle.callhead.specs.Statuses.{IsStatusCode, TellsStatus};
@@ -11,8 +11,8 @@ use std::alloc::{AllocError, Global};
 /// The greatest number of a status: UNAUTHENTICATED.
 const MAX_CODE: u32 = 16;
 
-/// The status that fields tell: its number and its text. There is none where the first `grpc-status` is missing or is
-/// no decimal number of 0 to 16. A missing text is the empty one.
+/// The status in fields: its number and its text. There is none if the first `grpc-status` is
+/// missing or isn't a decimal number of 0 to 16. A missing text counts as empty.
 pub fn read_status(alloc: Global, fields: &[Field]) -> Result<Option<(u32, String)>, AllocError>
     ensures some { IfOk result
         (λ found. IfSome found

@@ -8,8 +8,8 @@ ghost use Rattle.callhead.specs.Timeouts.{IsAmount, IsTimeout, nanoseconds_in};
 /// The most digits that a timeout may have.
 const MAX_DIGITS: usize = 8;
 
-/// How many nanoseconds the value of `grpc-timeout` names: one to eight digits, and a unit of `H`, `M`, `S`, `m`,
-/// `u` or `n` (hours, minutes, seconds, milli-, micro- and nanoseconds).
+/// How many nanoseconds the value of `grpc-timeout` names: one to eight digits, and a unit of `H`,
+/// `M`, `S`, `m`, `u` or `n` (hours, minutes, seconds, milli-, micro- and nanoseconds).
 pub fn read_timeout(text: &[u8]) -> Option<u128>
     ensures found { IfSome result (λ nanoseconds. IsTimeout text.now nanoseconds) }
     ensures only { (nanoseconds : ℕ) → IsTimeout text.now nanoseconds → result ≡ Some nanoseconds }

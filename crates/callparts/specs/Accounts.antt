@@ -1,4 +1,4 @@
--- On what the account of a call stands.
+-- What the account of a call rests on.
 use Rattle.std.specs.Prelude.{◌≡◌, ℕ, Bool, false, List, [], Option, None}
 use Rattle.std.specs.List.{concat}
 use Rattle.account.specs.declared.call.Account.{Account}
@@ -10,16 +10,19 @@ use Rattle.handlers.specs.declared.step.Step.{Step}
 use Rattle.callparts.specs.declared.call_account.CallAccount.{CallAccount}
 use Rattle.callparts.specs.Workers.{IsAnswered}
 
--- The account of a call with this head is that of a lawful one, counted: both sides are as it has them, and what was given is an answer of its method.
-pub record StandsOn (answers : ℕ → List (List ℕ) → Bool → Step → Type 0) (head : CallHead) (account : Account) (call : CallAccount) : Type 0 where
+-- The account of a call with this head has the counts of a lawful account: both sides are as that
+-- has them, and what was given is an answer of the call's method.
+pub record StandsOn (answers : ℕ → List (List ℕ) → Bool → Step → Type 0) (head : CallHead)
+    (account : Account) (call : CallAccount) : Type 0 where
   pub lawful : IsLawful account
   pub pieces : List (List ℕ)
   pub fed : account.fed ≡ concat pieces
   pub in_side : CountsIn pieces account.shut account.taken account.told call.input
   pub out_side : CountsOut account.given account.sent call.output
-  pub answered : IsAnswered (answers call.method) head account.taken account.told account.given call.status
+  pub answered :
+      IsAnswered (answers call.method) head account.taken account.told account.given call.status
 
--- the account of a call to which nothing was fed and nothing given
+-- the account of a call that was fed nothing and given nothing
 abbrev pub unserved : ℕ → ℕ → CallAccount
 unserved id method =
     record {

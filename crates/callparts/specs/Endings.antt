@@ -1,7 +1,15 @@
 -- The numbers of endings, by which programs print them.
 use Rattle.std.specs.Prelude.{ℕ}
 use Rattle.callparts.specs.declared.report.Ending.{Ending}
-use Rattle.callparts.specs.declared.report.Ending.TheVariants.{InputEnded, PeerGoaway, ProtocolError, ReadFailed, WriteFailed, OutOfMemory, Drained}
+use Rattle.callparts.specs.declared.report.Ending.TheVariants.{
+  InputEnded,
+  PeerGoaway,
+  ProtocolError,
+  ReadFailed,
+  WriteFailed,
+  OutOfMemory,
+  Drained,
+}
 
 abbrev pub ending_number : Ending → ℕ
 ending_number InputEnded = 1

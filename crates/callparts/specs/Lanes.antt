@@ -10,12 +10,17 @@ use Rattle.callbox.specs.declared.giver.Giver.{Giver}
 use Rattle.callbox.specs.declared.giver.GivenShut.{GivenShut}
 use Rattle.callbox.specs.declared.sender.Sender.{Sender}
 
--- those of the lane of what a call is answered with
+-- the ends of the lane of a call's response
 abbrev pub OutGiver : Type 0
-OutGiver = Giver (RingLane OutItem) (RingLaneIn OutItem) (RingLaneOut OutItem) (RingLaneShut OutItem) (ghosts out_item.the_row no_dict)
+OutGiver =
+    Giver (RingLane OutItem) (RingLaneIn OutItem) (RingLaneOut OutItem) (RingLaneShut OutItem)
+    (ghosts out_item.the_row no_dict)
 
 abbrev pub OutGiven : Type 0
-OutGiven = GivenShut (RingLane OutItem) (RingLaneIn OutItem) (RingLaneOut OutItem) (RingLaneShut OutItem) (ghosts out_item.the_row no_dict)
+OutGiven =
+    GivenShut (RingLane OutItem) (RingLaneIn OutItem) (RingLaneOut OutItem) (RingLaneShut OutItem)
+    (ghosts out_item.the_row no_dict)
 
 abbrev pub OutSender : Type 0
-OutSender = Sender (RingLane OutItem) (RingLaneIn OutItem) (RingLaneOut OutItem) (RingLaneShut OutItem)
+OutSender =
+    Sender (RingLane OutItem) (RingLaneIn OutItem) (RingLaneOut OutItem) (RingLaneShut OutItem)

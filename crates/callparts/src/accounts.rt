@@ -1,9 +1,23 @@
 //! The accounts of a connection's calls.
 //!
-//! They lie in blocks of one size, so that none is copied as they become more, and no large block is given back: glibc keeps at the top of
-//! a heap up to twice as much as the largest block that was (mallopt(3), M_TRIM_THRESHOLD).
+//! They are in blocks of one size. So no account is copied as the list grows, and no large block is
+//! freed: glibc keeps up to twice the largest freed block at the top of a heap (mallopt(3),
+//! M_TRIM_THRESHOLD).
 
-ghost use Rattle.std.specs.Prelude.{◌≡◌, ◌<◌, ◌≤◌, true, [], ◌∷◌, ◌++◌, length, set, slice_get, OnOk, option_copied};
+ghost use Rattle.std.specs.Prelude.{
+  ◌≡◌,
+  ◌<◌,
+  ◌≤◌,
+  true,
+  [],
+  ◌∷◌,
+  ◌++◌,
+  length,
+  set,
+  slice_get,
+  OnOk,
+  option_copied,
+};
 ghost use Rattle.callparts.specs.Blocks.{are_full, has_room, items_of};
 
 use crate::call_account::CallAccount;

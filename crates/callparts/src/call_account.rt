@@ -6,14 +6,15 @@ ghost use Rattle.callparts.specs.Accounts.{unserved};
 use callbox::{InAccount, OutAccount};
 use h2frame::StreamId;
 
-/// Bytes and messages of a call, which are counted only. A number over the greatest `u64` counts as that.
+/// Counts of a call's bytes and messages. No contract speaks of those of a call that a worker
+/// served. A number over the greatest `u64` counts as that.
 #[derive(Clone, Copy, Debug, PartialEq, Eq)]
 pub struct Traffic {
     /// How many bytes of its DATA came for its messages.
     pub bytes: u64,
-    /// How many messages it was answered with.
+    /// How many replies it was given.
     pub replies: u64,
-    /// How many bytes these had, without their prefixes.
+    /// How many bytes the replies had, without their prefixes.
     pub reply_bytes: u64,
 }
 
@@ -35,17 +36,17 @@ impl Traffic {
 pub struct CallAccount {
     /// Its stream.
     pub id: StreamId,
-    /// Which of the methods it called.
+    /// The index of its method.
     pub method: usize,
     pub input: InAccount,
     pub output: OutAccount,
-    /// The status of its trailers. None where it was left without.
+    /// The status of its trailers. None where it was left without them.
     pub status: Option<u32>,
     pub traffic: Traffic,
 }
 
 impl CallAccount {
-    /// The account of a call to which nothing was fed and nothing given.
+    /// The account of a call that was fed nothing and given nothing.
     pub fn unserved(id: StreamId, method: usize) -> CallAccount
         ensures { result ≡ unserved id method }
     {

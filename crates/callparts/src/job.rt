@@ -9,7 +9,7 @@ use crate::register::{CallNumber, Naming};
 use crate::work::{InLane, OutLane, Work};
 use callbox::{GivenShut, Taker};
 
-/// A call that a worker is to answer, with its number.
+/// A call that a worker is to answer, and the call's number.
 #[derive(Drop)]
 pub struct Job<J: Naming> {
     pub work: Work,
@@ -20,15 +20,19 @@ pub struct Job<J: Naming> {
 /// What a worker is to do next: to answer a call, or to end, since no more come.
 pub type Task<J> = Option<Job<J>>;
 
-/// What a worker hands back of a call that is over: its ends, which are those of the call of this number.
+/// What a worker hands back of a call that is over: the ends of the call of this number.
 #[derive(Drop)]
 pub struct Finished<J: Naming> {
     pub number: CallNumber<J>,
     pub taker: Taker<InLane>,
     pub given: GivenShut<OutLane>,
-    /// The status of its trailers. None where it was left without.
+    /// The status of its trailers. None where it was left without them.
     pub status: Option<u32>,
     pub traffic: Traffic,
-    pub ghost in_lane: { in_lane_at number.seen.log number.value ≡ Some (out_name taker.rx) } by { OptionalName_set (in_lane_at number.seen.log number.value) (Some (out_name taker.rx)) },
-    pub ghost out_lane: { out_lane_at number.seen.log number.value ≡ Some (shut_name given.shut) } by { OptionalName_set (out_lane_at number.seen.log number.value) (Some (shut_name given.shut)) },
+    pub ghost in_lane: { in_lane_at number.seen.log number.value
+        ≡ Some (out_name taker.rx) } by { OptionalName_set (in_lane_at number.seen.log number.value)
+            (Some (out_name taker.rx)) },
+    pub ghost out_lane: { out_lane_at number.seen.log number.value
+        ≡ Some (shut_name given.shut) } by { OptionalName_set
+            (out_lane_at number.seen.log number.value) (Some (shut_name given.shut)) },
 }

@@ -1,12 +1,14 @@
-//! What the parts of a connection share of its calls.
+//! What a connection's threads hand each other of a call, its number, and the accounts.
 //!
-//! A call has lanes of its own, with four ends. They begin in one place, the reader's, and come back there once the call is
-//! over: the `Taker` and the giving end with a `Finished`, from a worker; the `Sender` with a `Sending`, from the writer. Where
-//! all are back the call is settled, and its `CallAccount` is final.
+//! A call has lanes of its own, with four ends. The reader makes them, and they come back to it
+//! once the call is over: the `Taker` and the giving end with a `Finished`, from a worker; the
+//! `Sender` with a `Sending`, from the writer. Then the call is settled, and its `CallAccount` is
+//! final.
 //!
-//! - `register`: the numbers of calls, by which the ends that come back are told apart.
-//! - `work`: a call that is to be answered; `job`: what a worker is handed, and hands back; `ways`: by which rings; `line`: its bell.
-//! - `order`: what the reading side has the writing side do; what the writing side hands back.
+//! - `register`: the numbers of calls, which say of which call an end is that comes back.
+//! - `work`: a call that is to be answered; `job`: what a worker is handed, and hands back; `ways`:
+//!   the rings for that; `line`: the worker's bell.
+//! - `order`: the reading side's orders to the writing side, and what that hands back.
 //! - `account`: what became of a call; `accounts`: of all calls; `report`: of a connection.
 //! - `answering`: what methods answer, as a word for clauses.
 #![tactic(auto)]

@@ -3,10 +3,12 @@
 use lane::Bell;
 use std::sync::atomic::{AtomicBool, Ordering};
 
-/// The bell of a worker. Nothing that is proved rests on it: a worker that was woken looks by itself what there is.
+/// The bell of a worker. No proof rests on it: a worker that was woken looks by itself what there
+/// is.
 #[derive(Drop)]
 pub struct Line {
-    /// Rung where a call comes, where something comes for the worker's call, or where there is room for what that gives.
+    /// Rung when a call comes, when something comes for the worker's call, or when there is room
+    /// for what the call gives.
     pub bell: Bell,
     /// Whether the worker waits for room for what its call gives.
     wants_room: AtomicBool,
@@ -20,8 +22,9 @@ impl Line {
         }
     }
 
-    /// The worker found no room for what it gives. It is to look once more before it sleeps: room that the writer made before
-    /// it saw this is there then, since both exchange the flag; room that it makes later it rings for.
+    /// The worker found no room for what it gives. It is to look once more before it sleeps. Room
+    /// that the writer made before it saw this flag is there then, since both exchange the flag.
+    /// For room that it makes later the writer rings.
     pub fn want_room(&self) {
         self.wants_room.swap(true, Ordering::SeqCst);
     }

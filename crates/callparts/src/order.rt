@@ -1,4 +1,4 @@
-//! What the reading side of a connection has its writing side do, and what comes back.
+//! The orders of a connection's reading side to its writing side, and what comes back.
 
 ghost use Rattle.std.specs.Prelude.{◌≡◌, [], Some, IsSome, option_map};
 ghost use Rattle.lane.specs.RingLane.{got, out_name};
@@ -11,8 +11,8 @@ use callbox::Sender;
 use outwriter::Control;
 use std::sync::Arc;
 
-/// How many senders may wait to be taken back by the reading side: as many as calls may be live. Where there is no place one stays with
-/// the writing side until there is.
+/// How many senders may wait for the reading side to take them back: 64, the most calls that may be
+/// live. Without a place a sender stays with the writing side until there is one.
 pub const HOME: usize = 64;
 
 /// The sending end of a call, which goes to the writing side and back in one box.
@@ -22,14 +22,16 @@ pub struct Sending<J: Naming> {
     pub number: CallNumber<J>,
     /// None while the writer's core has it.
     pub sender: Option<Sender<OutLane>>,
-    pub ghost out_lane: { IsOfLane (out_lane_at number.seen.log number.value) (option_map (λ s. out_name s.rx) sender) } by { IsOfLane-prop (out_lane_at number.seen.log number.value) (option_map (λ s. out_name s.rx) sender) },
+    pub ghost out_lane: { IsOfLane (out_lane_at number.seen.log number.value)
+        (option_map (λ s. out_name s.rx) sender) } by { IsOfLane-prop
+            (out_lane_at number.seen.log number.value) (option_map (λ s. out_name s.rx) sender) },
 }
 
-/// A call that begins. Of its sender nothing was got.
+/// A call that begins. Its sender has got nothing.
 #[derive(Drop)]
 pub struct Opening<J: Naming> {
     pub sending: Box<Sending<J>>,
-    /// By which its worker is woken.
+    /// The line that wakes its worker.
     pub line: Arc<Line>,
     pub ghost fresh: { option_map (λ s. got s.rx) sending.value.sender ≡ Some [] },
 }

@@ -1,11 +1,25 @@
-//! The register of a connection's calls, by which the ends that come back are told apart.
+//! The register of a connection's calls, which says of which call an end is that comes back.
 //!
-//! Each call whose lanes are opened is entered, and its number is how many were entered before. The register exists in the proofs alone:
-//! what there is of it when the program runs is one word, its length. A number travels with each end of the call, and with it a
-//! beginning of the register, in which the call stands; so two numbers that are equal when the program runs are of one call, whichever
-//! threads they come from.
+//! Each call whose lanes are opened is entered, and its number is how many were entered before. The
+//! register exists in the proofs alone: a running program has one word of it, its length. Each end
+//! of the call carries the number, and a beginning of the register that has the call. So two
+//! numbers that are equal in a running program are of one call, whichever threads they come from.
 
-ghost use Rattle.std.specs.Prelude.{◌≡◌, ◌+◌, ◌<◌, ◌≤◌, ◌^◌, ◌++◌, ◌∷◌, [], length, true, Some, IfSome, slice_get};
+ghost use Rattle.std.specs.Prelude.{
+  ◌≡◌,
+  ◌+◌,
+  ◌<◌,
+  ◌≤◌,
+  ◌^◌,
+  ◌++◌,
+  ◌∷◌,
+  [],
+  length,
+  true,
+  Some,
+  IfSome,
+  slice_get,
+};
 ghost use Rattle.callparts.specs.Registers.{head_of};
 
 use crate::work::Work;
@@ -33,7 +47,7 @@ impl Rule<Work, u64> for Law {
     ghost moves = { λ ask before after answer. Unit {0} };
 }
 
-/// Who enters a call trades nothing.
+/// What the thread that enters a call trades: nothing.
 pub struct Nothing;
 
 impl Gain<Work, u64> for Nothing {
@@ -59,7 +73,7 @@ impl Plain<Work, Work, u64> for Enter {
     ghost state = { λ work. None };
 }
 
-/// Which register it is. Each connection picks it.
+/// Names a register. Each connection picks its own.
 pub trait Naming {
     ghost use Rattle.logbook.specs.Pages.{Book};
 
@@ -115,7 +129,7 @@ pub struct Register<J: Naming> {
     ghost head_is: { head ≡ head_of J.book },
 }
 
-/// A beginning of a register, of whoever enters calls.
+/// A beginning of a register, which the thread that enters calls has.
 #[derive(Drop)]
 pub struct Front<J: Naming> {
     /// How many calls it has.
@@ -126,7 +140,7 @@ pub struct Front<J: Naming> {
     ghost one_book: { seen.book ≡ J.book },
 }
 
-/// The number of a call, with a beginning of the register in which the call stands.
+/// The number of a call, with a beginning of the register that has the call.
 #[derive(Drop)]
 pub struct CallNumber<J: Naming> {
     value: u64,
@@ -137,7 +151,7 @@ pub struct CallNumber<J: Naming> {
 }
 
 impl<J: Naming> CallNumber<J> {
-    /// Another of the same call.
+    /// A copy, for the same call.
     pub fn again(&self) -> CallNumber<J>
         ensures value { result.value ≡ self.now.value }
         ensures seen { result.seen.log ≡ self.now.seen.log }
@@ -149,7 +163,7 @@ impl<J: Naming> CallNumber<J> {
         }
     }
 
-    /// Whether both are of one call: then the same work stands there.
+    /// Whether both numbers are of one call. If so, the register has one work for them.
     #[tactic(auto, using(crate::proofs::Fronts::same_entry))]
     pub fn is(&self, other: &CallNumber<J>) -> bool
         ensures same { result ≡ true → slice_get self.now.seen.log self.now.value
@@ -164,7 +178,8 @@ impl<J: Naming> CallNumber<J> {
 }
 
 impl<J: Naming> Front<J> {
-    /// Enters a call, and answers its number. None where another thread enters calls too and was first, or where there are 2^60.
+    /// Enters a call, and answers its number. None where another thread entered one first, or where
+    /// the register has 2^60.
     #[tactic(auto, using(crate::proofs::Fronts::last_entry))]
     pub fn draw(&mut self, register: &Register<J>, work: &Work) -> Option<CallNumber<J>>
         ensures stands { IfSome result (λ n. slice_get n.seen.log n.value ≡ Some work.now) }
@@ -186,7 +201,8 @@ impl<J: Naming> Front<J> {
         })
     }
 
-    /// Enters a call behind all that were seen, and says whether it did. It did not where there were more.
+    /// Enters a call after all that were seen, and answers whether it did. It doesn't where the
+    /// register has more.
     #[tactic(auto, using(crate::proofs::Fronts::prefix_length))]
     fn enter(&mut self, register: &Register<J>, work: &Work) -> bool
         requires room { length self.old.seen.log < 2 ^ 62 }

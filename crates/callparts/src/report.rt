@@ -14,20 +14,20 @@ pub struct ConnReport {
     pub ending: Ending,
 }
 
-/// How a connection ended. Where several are true, the first of `OutOfMemory`, `WriteFailed`, `ProtocolError`, `ReadFailed`
-/// and `Drained` is told, and else what the input ended with.
+/// How a connection ended. Where several are true, it is the first of `OutOfMemory`, `WriteFailed`,
+/// `ProtocolError`, `ReadFailed` and `Drained`, and else how the input ended.
 #[derive(Clone, Copy, Debug, PartialEq, Eq)]
 pub enum Ending {
     /// The peer sends nothing more.
     InputEnded,
-    /// The same, behind a GOAWAY of the peer.
+    /// The peer sends nothing more, after a GOAWAY of its own.
     PeerGoaway,
     /// The connection was ended with this error (RFC 9113, section 5.4.1).
     ProtocolError(ErrorCode),
     ReadFailed,
     WriteFailed,
     OutOfMemory,
-    /// The server had it end while its calls went on (RFC 9113, section 6.8).
+    /// The server ended it while its calls went on, and the calls are over (RFC 9113, section 6.8).
     Drained,
 }
 

@@ -1,4 +1,5 @@
-//! How a worker is handed its calls, and hands them back: by a ring each, and what is known of each item that goes through it.
+//! The two rings by which a worker gets its calls and hands them back, and what is known of each
+//! item that goes through them.
 
 use crate::answering::Answering;
 use crate::job::{Finished, Task};
@@ -7,7 +8,7 @@ use rtrb::{Consumer, Producer, Protocol, RingBuffer};
 use std::alloc::{AllocError, Global};
 use std::marker::PhantomData;
 
-/// Each call that is to be answered is fresh: of its ends nothing was made use of.
+/// Each call that is to be answered is fresh: its ends are unused.
 pub struct EachFresh;
 
 impl<J: Naming> Protocol<Task<J>> for EachFresh {
@@ -17,7 +18,7 @@ impl<J: Naming> Protocol<Task<J>> for EachFresh {
     ghost allows = { λ _ next. IfSome next (λ job. IsFreshWork job.work) };
 }
 
-/// Each call that comes back was answered as its request asks for.
+/// Each call that comes back was answered as its request asks.
 pub struct EachAnswered<M: Answering> {
     known: PhantomData<M>,
 }
@@ -30,18 +31,18 @@ impl<J: Naming, M: Answering> Protocol<Finished<J>> for EachAnswered<M> {
         (got next.taker.rx) next.taker.progress (put_shut next.given.shut) next.status };
 }
 
-/// The end of a ring of tasks that puts.
+/// The putting end of a ring of tasks.
 pub type TasksIn<J> = Producer<Task<J>, Global, EachFresh>;
 
-/// The end of a ring of tasks that takes.
+/// The taking end of a ring of tasks.
 pub type TasksOut<J> = Consumer<Task<J>, Global, EachFresh>;
 
-/// The end of a ring of finished calls that puts.
+/// The putting end of a ring of finished calls.
 pub type DoneIn<J, M> = Producer<Finished<J>, Global, EachAnswered<M>>;
 
-/// The end of a ring of finished calls that takes.
+/// The taking end of a ring of finished calls.
 pub type DoneOut<J, M> = Consumer<Finished<J>, Global, EachAnswered<M>>;
 
-/// How many places the rings of a worker have. It is handed a call only once the one before was taken back, and then the word that no
-/// more come.
+/// How many places the rings of a worker have. It gets a call only once the call before was taken
+/// back, and at last the word that no more come.
 pub const PLACES: usize = 2;

@@ -9,14 +9,14 @@ use lane::RingLane;
 /// The lane of what a client sends on a call.
 pub type InLane = RingLane<InPiece>;
 
-/// The lane of what a call is answered with.
+/// The lane of a call's response.
 pub type OutLane = RingLane<OutItem>;
 
 /// A call of a method, as its client asked for it.
 #[derive(Drop)]
 pub struct Request {
     pub id: StreamId,
-    /// Which of the methods it calls.
+    /// The index of its method.
     pub index: usize,
     pub head: CallHead,
     /// When it was opened, in nanoseconds of the connection.

@@ -1,4 +1,4 @@
--- With what a call ends.
+-- How a call ends.
 use Rattle.handlers.specs.declared.status.Status.{Status}
 use Rattle.callrun.specs.declared.ending.Ending.{Ending}
 use Rattle.callrun.specs.declared.ending.Ending.TheVariants.{Method, Cause}

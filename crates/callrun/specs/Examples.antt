@@ -1,5 +1,19 @@
 -- Worked examples of responses, causes and deadlines.
-use Rattle.std.specs.Prelude.{◌≡◌, refl, ℕ, Bool, false, true, List, [], ◌∷◌, Option, None, Some, codes}
+use Rattle.std.specs.Prelude.{
+  ◌≡◌,
+  refl,
+  ℕ,
+  Bool,
+  false,
+  true,
+  List,
+  [],
+  ◌∷◌,
+  Option,
+  None,
+  Some,
+  codes,
+}
 use Rattle.std.proofs.Common.{inl}
 use Rattle.account.specs.declared.call.OutItem.TheVariants.{Head, Trailers}
 use Rattle.account.specs.declared.call.Told.{Told}
@@ -22,28 +36,39 @@ use Rattle.callrun.specs.Statuses.{status_of}
 
 -- a head that wants nothing echoed, and has no timeout
 abbrev plain : CallHead
-plain = record { path = []; timeout = None; encoding = Identity; echo_initial = []; echo_trailing = [] }
+plain =
+    record { path = []; timeout = None; encoding = Identity; echo_initial = []; echo_trailing = [] }
 
 -- a head that wants `a` echoed before the replies
 abbrev echoing : CallHead
-echoing = record { path = []; timeout = None; encoding = Identity; echo_initial = codes "a" ∷ []; echo_trailing = [] }
+echoing = record {
+  path = [];
+  timeout = None;
+  encoding = Identity;
+  echo_initial = codes "a" ∷ [];
+  echo_trailing = [];
+}
 
 -- a call that is cancelled before its first reply is answered by one block
-cancelled_alone : response plain [] (status_of Cancelled) ≡ Trailers (trailers_only 1 (codes "cancelled")) ∷ []
+cancelled_alone : response plain [] (status_of Cancelled)
+    ≡ Trailers (trailers_only 1 (codes "cancelled")) ∷ []
 cancelled_alone = refl
 
--- behind a reply the trailers stand by themselves
+-- after a reply the trailers come by themselves
 cancelled_behind : response plain (Zeros 1 ∷ []) (status_of Cancelled)
-    ≡ Head (response_fields []) ∷ reply_item (Zeros 1) ∷ Trailers (status_fields 1 (codes "cancelled") []) ∷ []
+    ≡ Head (response_fields []) ∷ reply_item (Zeros 1)
+    ∷ Trailers (status_fields 1 (codes "cancelled") []) ∷ []
 cancelled_behind = refl
 
 -- a call that went well has a head, also without a reply
-well_alone : response plain [] ok_status ≡ Head (response_fields []) ∷ Trailers (status_fields 0 [] []) ∷ []
+well_alone : response plain [] ok_status
+    ≡ Head (response_fields []) ∷ Trailers (status_fields 0 [] []) ∷ []
 well_alone = refl
 
--- and so has one whose head wants something echoed there
+-- a call whose head wants something echoed has a head too
 echoed_alone : response echoing [] (status_of Cancelled)
-    ≡ Head (response_fields (codes "a" ∷ [])) ∷ Trailers (status_fields 1 (codes "cancelled") []) ∷ []
+    ≡ Head (response_fields (codes "a" ∷ []))
+    ∷ Trailers (status_fields 1 (codes "cancelled") []) ∷ []
 echoed_alone = refl
 
 -- a timeout of 5 ms in a call that was opened at 1,000 ns
@@ -55,7 +80,8 @@ not_before : (said : Option Told) → Stood DeadlineExceeded plain false said �
 not_before said stood = stood
 
 -- a call that was left before its first turn was given nothing
-left_at_once : (answers : List (List ℕ) → Bool → Step → Type 0) (progress : Progress) → Took [] progress [] → WasRun answers plain 0 0 [] progress [] None
+left_at_once : (answers : List (List ℕ) → Bool → Step → Type 0) (progress : Progress)
+    → Took [] progress [] → WasRun answers plain 0 0 [] progress [] None
 left_at_once answers progress took = record {
   messages = [];
   overdue = false;
@@ -65,6 +91,7 @@ left_at_once answers progress took = record {
 }
 
 -- the deadline of a call without a timeout never comes
-never_late : (answers : List (List ℕ) → Bool → Step → Type 0) (opened latest : ℕ) (got : List InPiece) (progress : Progress) (given : List OutItem) (code : Option ℕ)
+never_late : (answers : List (List ℕ) → Bool → Step → Type 0) (opened latest : ℕ)
+    (got : List InPiece) (progress : Progress) (given : List OutItem) (code : Option ℕ)
     → (run : WasRun answers plain opened latest got progress given code) → run.overdue ≡ true → ⊥
 never_late answers opened latest got progress given code run = run.late

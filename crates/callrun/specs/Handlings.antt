@@ -1,5 +1,22 @@
--- What a method has made of what was taken of a call.
-use Rattle.std.specs.Prelude.{◌≡◌, ◌≢◌, ◌⊎◌, ℕ, Bool, true, false, List, [], ◌++◌, Option, None, Some, Result, Ok, Err}
+-- What a method has answered to what was taken of a call.
+use Rattle.std.specs.Prelude.{
+  ◌≡◌,
+  ◌≢◌,
+  ◌⊎◌,
+  ℕ,
+  Bool,
+  true,
+  false,
+  List,
+  [],
+  ◌++◌,
+  Option,
+  None,
+  Some,
+  Result,
+  Ok,
+  Err,
+}
 use Rattle.account.specs.Accounts.{Begins}
 use Rattle.account.specs.declared.call.Told.{Told}
 use Rattle.callhead.specs.declared.head.CallHead.{CallHead}
@@ -9,7 +26,16 @@ use Rattle.handlers.specs.declared.state.MethodState.{MethodState}
 use Rattle.handlers.specs.declared.status.Status.{Status}
 use Rattle.handlers.specs.declared.step.Step.{Step}
 use Rattle.callrun.specs.declared.cause.Cause.{Cause}
-use Rattle.callrun.specs.declared.cause.Cause.TheVariants.{Cancelled, DeadlineExceeded, MessageTooLong, OutOfMemory, UnsupportedEncoding, CompressedWithoutEncoding, BadFlag, CutAtEnd}
+use Rattle.callrun.specs.declared.cause.Cause.TheVariants.{
+  Cancelled,
+  DeadlineExceeded,
+  MessageTooLong,
+  OutOfMemory,
+  UnsupportedEncoding,
+  CompressedWithoutEncoding,
+  BadFlag,
+  CutAtEnd,
+}
 use Rattle.callrun.specs.declared.ending.Ending.{Ending}
 use Rattle.callrun.specs.declared.ending.Ending.TheVariants as ending
 use Rattle.callrun.specs.declared.handling.Handling.{Handling}
@@ -28,11 +54,15 @@ is_memory CutAtEnd = false
 
 -- ---- what is left of an answer
 
--- Of the method's answer these replies were given and these wait, by how the call ends.
-abbrev pub EndsSo : Step → CallHead → Bool → Option Told → List Reply → List Reply → Option Ending → Type 0
-EndsSo answer head overdue said done waiting None = (answer.replies ≡ done ++ waiting) × (answer.ends ≡ None)
-EndsSo answer head overdue said done waiting (Some (ending.Method status)) = (answer.replies ≡ done ++ waiting) × (answer.ends ≡ Some status)
-EndsSo answer head overdue said done waiting (Some (ending.Cause cause)) = Stood cause head overdue said × (waiting ≡ []) × Begins done answer.replies
+-- These replies of the method's answer were given, and these wait, as the call's end has it.
+abbrev pub EndsSo : Step → CallHead → Bool → Option Told → List Reply → List Reply
+    → Option Ending → Type 0
+EndsSo answer head overdue said done waiting None =
+    (answer.replies ≡ done ++ waiting) × (answer.ends ≡ None)
+EndsSo answer head overdue said done waiting (Some (ending.Method status)) =
+    (answer.replies ≡ done ++ waiting) × (answer.ends ≡ Some status)
+EndsSo answer head overdue said done waiting (Some (ending.Cause cause)) =
+    Stood cause head overdue said × (waiting ≡ []) × Begins done answer.replies
 
 -- A head that was given has a reason: a reply waits, or the call doesn't end by one block.
 abbrev pub LastsLong : CallHead → Option Ending → Type 0
@@ -52,7 +82,8 @@ lacks_memory (Some (ending.Cause cause)) = is_memory cause
 -- ---- what the method's state stands for
 
 -- The call goes on: the state stands for the messages that were taken, and nothing was told.
-pub record IsStanding (answers : List (List ℕ) → Bool → Step → Type 0) (stands : MethodState → List (List ℕ) → Step → Type 0)
+pub record IsStanding (answers : List (List ℕ) → Bool → Step → Type 0)
+    (stands : MethodState → List (List ℕ) → Step → Type 0)
     (said : Option Told) (messages : List (List ℕ)) (state : MethodState) : Type 0 where
   pub answered : Step
   pub standing : stands state messages answered
@@ -70,18 +101,24 @@ abbrev pub method_ending : Option Status → Option Ending
 method_ending None = None
 method_ending (Some status) = Some (ending.Method status)
 
--- the call ends so, and what waited is dropped
+-- the call ends by this cause, and what waited is dropped
 abbrev pub EndsBy : Cause → Handling → Handling → Type 0
-EndsBy cause old new = (new.state ≡ old.state) × (new.waiting ≡ []) × (new.ending ≡ Some (ending.Cause cause))
+EndsBy cause old new =
+    (new.state ≡ old.state) × (new.waiting ≡ []) × (new.ending ≡ Some (ending.Cause cause))
 
 -- what a step gave waits, and the call ends as it says
 abbrev pub Accepts : Result Step MethodFault → Handling → Handling → Type 0
-Accepts (Ok step) old new = (new.state ≡ old.state) × (new.waiting ≡ step.replies) × (new.ending ≡ method_ending step.ends)
+Accepts (Ok step) old new =
+    (new.state ≡ old.state) × (new.waiting ≡ step.replies) × (new.ending ≡ method_ending step.ends)
 Accepts (Err fault) old new = EndsBy OutOfMemory old new
 
--- What a method makes of a message, or of the end: what it answered before was given, and what it answers now begins with that.
-pub record Answers (answers : List (List ℕ) → Bool → Step → Type 0) (stands : MethodState → List (List ℕ) → Step → Type 0)
+-- A method answers a message, or the end: what it answered before was given, and the whole answer
+-- now begins with that.
+pub record Answers (answers : List (List ℕ) → Bool → Step → Type 0)
+    (stands : MethodState → List (List ℕ) → Step → Type 0)
     (next : Option Told) (messages all : List (List ℕ)) (new : Handling) : Type 0 where
-  pub each : (answered answer : Step) → answers messages false answered → answers all (is_end next) answer
-      → (head : CallHead) (overdue : Bool) → EndsSo answer head overdue next answered.replies new.waiting new.ending
+  pub each : (answered answer : Step) → answers messages false answered
+      → answers all (is_end next) answer
+      → (head : CallHead) (overdue : Bool)
+      → EndsSo answer head overdue next answered.replies new.waiting new.ending
   pub standing : new.ending ≡ None → IsStanding answers stands next all new.state

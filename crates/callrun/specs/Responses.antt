@@ -1,5 +1,18 @@
 -- The items of a whole response: gRPC over HTTP/2, "Responses".
-use Rattle.std.specs.Prelude.{◌==◌, ◌&&◌, not, Bool, true, false, if◌then◌else◌, List, [], ◌∷◌, ◌++◌, map}
+use Rattle.std.specs.Prelude.{
+  ◌==◌,
+  ◌&&◌,
+  not,
+  Bool,
+  true,
+  false,
+  if◌then◌else◌,
+  List,
+  [],
+  ◌∷◌,
+  ◌++◌,
+  map,
+}
 use Rattle.lists.specs.declared.field.Field.{Field}
 use Rattle.lpm.specs.Messages.{frame}
 use Rattle.account.specs.declared.call.OutItem.{OutItem}
@@ -20,11 +33,13 @@ abbrev pub reply_item : Reply → OutItem
 reply_item reply = Message (frame (reply_bytes reply))
 
 abbrev pub trailing_fields : CallHead → Status → List Field
-trailing_fields head status = status_fields (status_number status.code) status.text head.echo_trailing
+trailing_fields head status =
+    status_fields (status_number status.code) status.text head.echo_trailing
 
 -- Response-Headers, the replies, and Trailers
 abbrev pub full_response : CallHead → List Reply → Status → List OutItem
-full_response head replies status = head_item head ∷ (map reply_item replies ++ Trailers (trailing_fields head status) ∷ [])
+full_response head replies status =
+    head_item head ∷ (map reply_item replies ++ Trailers (trailing_fields head status) ∷ [])
 
 -- Trailers-Only: one block
 abbrev pub short_response : CallHead → Status → List OutItem
@@ -34,9 +49,13 @@ abbrev pub is_none : {A : Type 0} → List A → Bool
 is_none [] = true
 is_none (x ∷ xs) = false
 
--- A call that didn't go well and has no reply is answered by one block, unless its head wants something echoed first.
+-- One block answers a call that didn't go well and has no reply, unless the call's head wants
+-- something echoed first.
 abbrev pub is_short : CallHead → List Reply → Status → Bool
-is_short head replies status = is_none replies && (is_none head.echo_initial && not (status_number status.code == 0))
+is_short head replies status =
+    is_none replies && (is_none head.echo_initial && not (status_number status.code == 0))
 
 abbrev pub response : CallHead → List Reply → Status → List OutItem
-response head replies status = if is_short head replies status then short_response head status else full_response head replies status
+response head replies status =
+    if is_short head replies status then short_response head status
+    else full_response head replies status

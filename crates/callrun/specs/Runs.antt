@@ -1,5 +1,24 @@
--- What stands of a call, over any list of its turns.
-use Rattle.std.specs.Prelude.{◌≡◌, ◌≢◌, ◌⊎◌, ℕ, Bool, true, false, List, [], ◌∷◌, ◌++◌, Option, None, Some, IsSome, option_map, min, ◌+◌}
+-- What holds of a call, over any list of its turns.
+use Rattle.std.specs.Prelude.{
+  ◌≡◌,
+  ◌≢◌,
+  ◌⊎◌,
+  ℕ,
+  Bool,
+  true,
+  false,
+  List,
+  [],
+  ◌∷◌,
+  ◌++◌,
+  Option,
+  None,
+  Some,
+  IsSome,
+  option_map,
+  min,
+  ◌+◌,
+}
 use Rattle.account.specs.declared.call.OutItem.{OutItem}
 use Rattle.account.specs.declared.call.Told.{Told}
 use Rattle.grpc_status.specs.StatusCode.{status_number}
@@ -23,8 +42,9 @@ use Rattle.callrun.specs.Handlings.{EndsSo, HeadIsDue, IsReady, IsStanding, lack
 use Rattle.callrun.specs.Outcomes.{IsBegun, IsOutcome, is_end}
 use Rattle.callrun.specs.Sides.{Shown}
 
--- More may be given: of the method's answer these replies were given, behind a head.
-pub record IsGoing (answer : Step) (head : CallHead) (overdue : Bool) (said : Option Told) (handling : Handling) (given : List OutItem) : Type 0 where
+-- More may be given: these replies of the method's answer were given, after a head.
+pub record IsGoing (answer : Step) (head : CallHead) (overdue : Bool) (said : Option Told)
+    (handling : Handling) (given : List OutItem) : Type 0 where
   pub done : List Reply
   pub at : EndsSo answer head overdue said done handling.waiting handling.ending
   pub begun : IsBegun head done given
@@ -32,39 +52,52 @@ pub record IsGoing (answer : Step) (head : CallHead) (overdue : Bool) (said : Op
 
 -- What was given is an outcome of the method's answer.
 pub record GivesOf (said : Option Told) (answer : Step) (call : Call) (shown : Shown) : Type 0 where
-  pub going : shown.is_live ≡ true → IsGoing answer call.head call.overdue said call.handling shown.given
+  pub going : shown.is_live ≡ true
+      → IsGoing answer call.head call.overdue said call.handling shown.given
   pub outcome : IsOutcome call.head call.overdue said answer shown.given shown.code
 
--- Of the messages that were taken these items were given: an outcome of what the method answers, whatever that is. As long as no end is due,
--- the method's state stands for the messages.
-pub record HasRun (answers : List (List ℕ) → Bool → Step → Type 0) (stands : MethodState → List (List ℕ) → Step → Type 0)
+-- To the messages that were taken these items were given: an outcome of what the method answers,
+-- whatever that is. As long as no end is due, the method's state stands for the messages.
+pub record HasRun (answers : List (List ℕ) → Bool → Step → Type 0)
+    (stands : MethodState → List (List ℕ) → Step → Type 0)
     (said : Option Told) (messages : List (List ℕ)) (call : Call) (shown : Shown) : Type 0 where
   pub lawful : IsLawful answers
-  pub each : (answer : Step) → answers messages (is_end said) answer → GivesOf said answer call shown
-  pub standing : call.handling.ending ≡ None → IsStanding answers stands said messages call.handling.state
+  pub each : (answer : Step) → answers messages (is_end said) answer
+      → GivesOf said answer call shown
+  pub standing : call.handling.ending ≡ None
+      → IsStanding answers stands said messages call.handling.state
 
--- what was given answers the messages before what is in hand
-abbrev pub ComesTo : (List (List ℕ) → Bool → Step → Type 0) → (MethodState → List (List ℕ) → Step → Type 0)
+-- what was given answers the messages without the one in hand
+abbrev pub ComesTo : (List (List ℕ) → Bool → Step → Type 0)
+    → (MethodState → List (List ℕ) → Step → Type 0)
     → Option Told → List (List ℕ) → Call → Shown → Option Taken → Type 0
-ComesTo answers stands said messages call shown None = HasRun answers stands said messages call shown
+ComesTo answers stands said messages call shown None =
+    HasRun answers stands said messages call shown
 ComesTo answers stands said messages call shown (Some taken) =
-    (before : Option Told) × (handled : List (List ℕ)) × Tells taken before said × (messages ≡ grown handled taken)
-    × IsReady call.handling × (shown.is_live ≡ true) × HasRun answers stands before handled call shown
+    (before : Option Told) × (handled : List (List ℕ)) × Tells taken before said
+    × (messages ≡ grown handled taken)
+    × IsReady call.handling × (shown.is_live ≡ true)
+    × HasRun answers stands before handled call shown
 
--- These messages lead to the call, of which the last thing that was taken may be in hand: the method has not been asked about it yet.
-pub record HasCome (answers : List (List ℕ) → Bool → Step → Type 0) (stands : MethodState → List (List ℕ) → Step → Type 0)
-    (said : Option Told) (messages : List (List ℕ)) (call : Call) (hand : Option Taken) (shown : Shown) : Type 0 where
+-- These messages lead to the call. The last thing that was taken may be in hand: the method hasn't
+-- got it yet.
+pub record HasCome (answers : List (List ℕ) → Bool → Step → Type 0)
+    (stands : MethodState → List (List ℕ) → Step → Type 0)
+    (said : Option Told) (messages : List (List ℕ)) (call : Call) (hand : Option Taken)
+    (shown : Shown) : Type 0 where
   pub come : ComesTo answers stands said messages call shown hand
 
 -- Nothing is in hand, and what comes next may be taken.
 abbrev pub MayTake : Option Taken → Call → Shown → Type 0
 MayTake hand call shown = (hand ≡ None) × IsReady call.handling × (shown.is_live ≡ true)
 
--- What a look at a call comes to: nothing was taken, or one thing, which is in hand then.
-abbrev pub TakesAhead : (List (List ℕ) → Type 0) → List (List ℕ) → Option Taken → Option Told → Option Taken → Option Told → Type 0
+-- A look at a call takes nothing, or one thing, which is in hand then.
+abbrev pub TakesAhead : (List (List ℕ) → Type 0) → List (List ℕ) → Option Taken → Option Told
+    → Option Taken → Option Told → Type 0
 TakesAhead Holds messages old_hand old_said new_hand new_said =
     ((new_hand ≡ old_hand) × (new_said ≡ old_said) × Holds messages)
-    ⊎ ((taken : Taken) × (new_hand ≡ Some taken) × Tells taken old_said new_said × Holds (grown messages taken))
+    ⊎ ((taken : Taken) × (new_hand ≡ Some taken) × Tells taken old_said new_said
+    × Holds (grown messages taken))
 
 -- what a turn that did something did
 -- one item was given
@@ -72,37 +105,43 @@ abbrev pub GivesOne : Shown → Shown → Type 0
 GivesOne before after = (item : OutItem) × (after.given ≡ before.given ++ item ∷ [])
 
 -- one thing was taken
-abbrev pub TakesOne : (List (List ℕ) → Type 0) → (List (List ℕ) → Type 0) → Option Told → Option Told → Type 0
+abbrev pub TakesOne : (List (List ℕ) → Type 0) → (List (List ℕ) → Type 0) → Option Told
+    → Option Told → Type 0
 TakesOne Held Holds old_said new_said =
-    (taken : Taken) × (taken ≢ taken_as.Nothing) × Tells taken old_said new_said × ((messages : List (List ℕ)) → Held messages → Holds (grown messages taken))
+    (taken : Taken) × (taken ≢ taken_as.Nothing) × Tells taken old_said new_said
+    × ((messages : List (List ℕ)) → Held messages → Holds (grown messages taken))
 
--- Memory was wanting, and the call ends by it. It didn't before, unless its deadline has come since.
+-- The call ends for want of memory. It didn't end before, unless its deadline has come since.
 abbrev pub RunsOut : Call → Call → Type 0
 RunsOut old new = (lacks_memory new.handling.ending ≡ true)
     × ((lacks_memory old.handling.ending ≡ false) ⊎ ((old.overdue ≡ false) × (new.overdue ≡ true)))
 
--- a step in which nothing is taken: of the same answer
+-- a step that takes nothing, so the method's answer stays
 pub record RunsOn (old : Call) (before : Shown) (new : Call) (after : Shown) : Type 0 where
-  pub gives : (said : Option Told) (answer : Step) → GivesOf said answer old before → GivesOf said answer new after
+  pub gives : (said : Option Told) (answer : Step) → GivesOf said answer old before
+      → GivesOf said answer new after
   pub state : new.handling.state ≡ old.handling.state
   pub ends : new.handling.ending ≡ None → old.handling.ending ≡ None
 
 -- the trailers were given, or their place was taken
 abbrev pub EndsWith : Shown → OutItem → ℕ → Shown → Type 0
 EndsWith before item code after = (after.is_live ≡ false)
-    × (((after.given ≡ before.given ++ item ∷ []) × (after.code ≡ Some code)) ⊎ ((after.given ≡ before.given) × (after.code ≡ None)))
+    × (((after.given ≡ before.given ++ item ∷ []) × (after.code ≡ Some code))
+    ⊎ ((after.given ≡ before.given) × (after.code ≡ None)))
 
 -- nothing more is given
 abbrev pub Leaves : Shown → Shown → Type 0
-Leaves before after = (after.is_live ≡ false) × (after.given ≡ before.given) × (after.code ≡ before.code)
+Leaves before after =
+    (after.is_live ≡ false) × (after.given ≡ before.given) × (after.code ≡ before.code)
 
 -- ---- steps
 
--- the head, the deadline and whether it has come stay
+-- the head, the deadline and whether it has come don't change
 abbrev pub SameCall : Call → Call → Type 0
-SameCall old new = (new.head ≡ old.head) × (new.deadline ≡ old.deadline) × (new.overdue ≡ old.overdue)
+SameCall old new =
+    (new.head ≡ old.head) × (new.deadline ≡ old.deadline) × (new.overdue ≡ old.overdue)
 
--- it is the next reply
+-- the reply is the next
 abbrev pub IsDueReply : Reply → Call → Type 0
 IsDueReply reply call = (rest : List Reply) × (call.handling.waiting ≡ reply ∷ rest)
 
@@ -115,15 +154,20 @@ abbrev pub ends_short : CallHead → Option Ending → Bool
 ends_short head None = false
 ends_short head (Some way) = is_short head [] (ends_with way)
 
--- the trailers of a call that ends so: behind a head or alone
+-- the trailers of a call with this status: after a head or alone
 abbrev pub trailers_of : Bool → CallHead → Status → List Field
 trailers_of true head status = trailing_fields head status
 trailers_of false head status = response_fields [] ++ trailing_fields head status
 
 abbrev pub HasTrailers : Bool → CallHead → Option Ending → List Field → ℕ → Type 0
 HasTrailers has_head head None fields code = ⊥
-HasTrailers has_head head (Some way) fields code = (fields ≡ trailers_of has_head head (ends_with way)) × (code ≡ status_number (ends_with way).code)
+HasTrailers has_head head (Some way) fields code =
+    (fields ≡ trailers_of has_head head (ends_with way))
+    × (code ≡ status_number (ends_with way).code)
 
--- when a call ends by itself that was opened at this moment; a number over the greatest `u128` counts as that
+-- the deadline of a call that was opened at this moment; a number over the greatest `u128` counts
+-- as that
 abbrev pub deadline_of : Option ℕ → ℕ → Option ℕ
-deadline_of timeout opened = option_map (λ nanoseconds. min (nanoseconds + opened) 340282366920938463463374607431768211455) timeout
+deadline_of timeout opened =
+    option_map (λ nanoseconds.
+    min (nanoseconds + opened) 340282366920938463463374607431768211455) timeout

@@ -54,19 +54,22 @@ module _ {G S : Type 0} where
   left Gone = Gone
 
   abbrev pub shown : (G → List OutItem) → (S → List OutItem) → (S → Bool) → Response G S → Shown
-  shown of_open of_shut was_placed (Open giver) = record { is_live = true; given = of_open giver; code = None }
-  shown of_open of_shut was_placed (Left giver) = record { is_live = false; given = of_open giver; code = None }
-  shown of_open of_shut was_placed (Shut end code) = record { is_live = false; given = of_shut end; code = if_placed (was_placed end) code }
+  shown of_open of_shut was_placed (Open giver) =
+      record { is_live = true; given = of_open giver; code = None }
+  shown of_open of_shut was_placed (Left giver) =
+      record { is_live = false; given = of_open giver; code = None }
+  shown of_open of_shut was_placed (Shut end code) =
+      record { is_live = false; given = of_shut end; code = if_placed (was_placed end) code }
   shown of_open of_shut was_placed Gone = record { is_live = false; given = []; code = None }
 
-  -- what its end shows, as which lane it is an end of
+  -- what a giving end shows, such as its lane
   abbrev pub name_by : {X : Type 0} → (G → X) → (S → X) → Response G S → Option X
   name_by of_open of_shut (Open giver) = Some (of_open giver)
   name_by of_open of_shut (Left giver) = Some (of_open giver)
   name_by of_open of_shut (Shut end code) = Some (of_shut end)
   name_by of_open of_shut Gone = None
 
-  -- more may be given, by an end of which this holds
+  -- more may be given, by an end with this property
   abbrev pub IsOpenTo : (G → Type 0) → Response G S → Type 0
   IsOpenTo P (Open giver) = P giver
   IsOpenTo P (Left giver) = ⊥
@@ -76,12 +79,18 @@ module _ {G S : Type 0} where
 module _ {L In Out Shut : Type 0} {lane : Ghosts L OutItem In Out Shut} where
   -- what was given over the lane, and the status of the trailers, if they had their place
   abbrev pub given_over : Response (Giver L In Out Shut lane) (GivenShut L In Out Shut lane) → Shown
-  given_over response = shown (λ g. lane.put_in g.tx) (λ s. lane.put_shut s.shut) (λ s. lane.was_placed s.shut) response
+  given_over response =
+      shown (λ g. lane.put_in g.tx) (λ s. lane.put_shut s.shut)
+      (λ s. lane.was_placed s.shut) response
 
-  -- which lane it is
-  abbrev pub lane_of : Response (Giver L In Out Shut lane) (GivenShut L In Out Shut lane) → Option lane.Name
+  -- the lane of a giving end
+  abbrev pub lane_of : Response (Giver L In Out Shut lane) (GivenShut L In Out Shut lane)
+      → Option lane.Name
   lane_of response = name_by (λ g. lane.in_name g.tx) (λ s. lane.shut_name s.shut) response
 
   -- more may be given, but the lane has no room
   abbrev pub HasNoRoom : Response (Giver L In Out Shut lane) (GivenShut L In Out Shut lane) → Type 0
-  HasNoRoom response = IsOpenTo (λ g. IsFull (lane.room_of (lane.in_name g.tx)) (length (lane.put_in g.tx)) (lane.seen_taken g.tx)) response
+  HasNoRoom response =
+      IsOpenTo (λ g.
+      IsFull (lane.room_of (lane.in_name g.tx)) (length (lane.put_in g.tx))
+      (lane.seen_taken g.tx)) response

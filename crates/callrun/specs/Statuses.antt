@@ -1,4 +1,5 @@
--- The statuses with which the server itself ends a call (gRPC's status codes; the texts are our own).
+-- The statuses with which the server itself ends a call (gRPC's status codes; the texts are our
+-- own).
 use Rattle.std.specs.Prelude.{codes}
 use Rattle.lpm.specs.declared.fault.LpmFault.{LpmFault}
 use Rattle.lpm.specs.declared.fault.LpmFault.TheVariants as fault
@@ -8,7 +9,16 @@ use Rattle.grpc_status.specs.declared.StatusCode.TheVariants as code
 use Rattle.handlers.specs.declared.status.Status.{Status}
 use Rattle.handlers.specs.Statuses.{status}
 use Rattle.callrun.specs.declared.cause.Cause.{Cause}
-use Rattle.callrun.specs.declared.cause.Cause.TheVariants.{Cancelled, DeadlineExceeded, MessageTooLong, OutOfMemory, UnsupportedEncoding, CompressedWithoutEncoding, BadFlag, CutAtEnd}
+use Rattle.callrun.specs.declared.cause.Cause.TheVariants.{
+  Cancelled,
+  DeadlineExceeded,
+  MessageTooLong,
+  OutOfMemory,
+  UnsupportedEncoding,
+  CompressedWithoutEncoding,
+  BadFlag,
+  CutAtEnd,
+}
 
 abbrev pub status_of : Cause → Status
 status_of Cancelled = status code.Cancelled (codes "cancelled")
@@ -20,7 +30,8 @@ status_of CompressedWithoutEncoding = status code.Internal (codes "compressed wi
 status_of BadFlag = status code.Internal (codes "bad flag")
 status_of CutAtEnd = status code.Internal (codes "message cut at end")
 
--- a compressed message where no encoding was named is the client's fault; where one was, the server doesn't have it
+-- a compressed message without a named encoding is the client's fault; an encoding that was named
+-- the server doesn't have
 abbrev pub compressed_by : Encoding → Cause
 compressed_by Other = UnsupportedEncoding
 compressed_by Identity = CompressedWithoutEncoding

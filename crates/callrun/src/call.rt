@@ -1,6 +1,23 @@
-//! What is kept of a call beside its ends, and how its response is given.
+//! The state of a call beside its ends, and how its response is given.
 
-ghost use Rattle.std.specs.Prelude.{◌≡◌, ◌≢◌, ◌≤◌, ◌∷◌, ◌⊎◌, [], ℕ, List, true, false, None, Some, IsSomeAnd, IfOk, Bool, Option};
+ghost use Rattle.std.specs.Prelude.{
+  ◌≡◌,
+  ◌≢◌,
+  ◌≤◌,
+  ◌∷◌,
+  ◌⊎◌,
+  [],
+  ℕ,
+  List,
+  true,
+  false,
+  None,
+  Some,
+  IsSomeAnd,
+  IfOk,
+  Bool,
+  Option,
+};
 ghost use Rattle.callbox.specs.InSides.{Tells, grown};
 ghost use Rattle.account.specs.declared.call.OutItem.{OutItem as Item};
 ghost use Rattle.account.specs.declared.call.Told.{Told as ToldOf};
@@ -22,7 +39,7 @@ use std::alloc::{AllocError, Global};
 /// What a turn did.
 #[derive(Clone, Copy, Debug, PartialEq, Eq)]
 pub enum Turn {
-    /// Something: there may be more to do at once.
+    /// It did something: there may be more to do at once.
     Went,
     /// There was nothing to take.
     Nothing,
@@ -48,10 +65,32 @@ impl Call {
     ghost use Rattle.callrun.specs.declared.call.Turn.TheVariants as turn;
     ghost use Rattle.callrun.specs.declared.giving.Refused.TheVariants as refused_kind;
     ghost use Rattle.callrun.specs.Handlings.{HeadIsDue, IsReady, lacks_memory};
-    ghost use Rattle.callrun.specs.Runs.{GivesOne, HasCome, HasRun, RunsOn, RunsOut, SameCall, IsDueReply, IsEnding, HasTrailers, ends_short};
-    ghost use Rattle.callrun.specs.Sides.{HasNoRoom, IsOpenTo, Shown, given_over, is_gone, is_left, is_open, lane_of, left, shown};
+    ghost use Rattle.callrun.specs.Runs.{
+      GivesOne,
+      HasCome,
+      HasRun,
+      RunsOn,
+      RunsOut,
+      SameCall,
+      IsDueReply,
+      IsEnding,
+      HasTrailers,
+      ends_short,
+    };
+    ghost use Rattle.callrun.specs.Sides.{
+      HasNoRoom,
+      IsOpenTo,
+      Shown,
+      given_over,
+      is_gone,
+      is_left,
+      is_open,
+      lane_of,
+      left,
+      shown,
+    };
 
-    /// Ends the call where the deadline has come.
+    /// Ends the call if the deadline has come.
     pub(crate) fn look_at(&mut self, now: u64)
         ensures run { (before : Shown) → RunsOn self.old before self.new before }
         ensures overdue { self.new.overdue ≡ true
@@ -75,7 +114,7 @@ impl Call {
         }
     }
 
-    /// Has the method answer what was taken, or ends the call by it.
+    /// Hands what was taken to the method, or ends the call by it.
     pub(crate) fn answer(&mut self, method: &dyn Method, taken: Taken)
         requires { IsReady self.old.handling }
         ensures run { (said : Option ToldOf) (next : Option ToldOf) (messages : List (List ℕ))
@@ -99,7 +138,7 @@ impl Call {
         }
     }
 
-    /// Has the method answer what is in hand, if anything is.
+    /// Hands what is in hand to the method, if anything is.
     pub(crate) fn hand_over<G: Drop, S: Drop>(
         &mut self,
         method: &dyn Method,
@@ -189,7 +228,7 @@ impl Call {
         }
     }
 
-    /// What the turn comes to in which an item was refused.
+    /// What a turn answers in which an item was refused.
     fn refused<G: Drop, S: Drop>(&mut self, response: &mut Response<G, S>, refused: Refused) -> Turn
         ensures run { (of_open : G → List Item) (of_shut : S → List Item) (was_placed : S → Bool)
             → RunsOn self.old (shown of_open of_shut was_placed response.old) self.new
@@ -214,7 +253,7 @@ impl Call {
         }
     }
 
-    /// Ends the call for want of memory; where it ended so before, without trailers.
+    /// Ends the call for want of memory. A call that ended so before gets no trailers.
     fn run_out<G: Drop, S: Drop>(&mut self, response: &mut Response<G, S>) -> Turn
         ensures run { (of_open : G → List Item) (of_shut : S → List Item) (was_placed : S → Bool)
             → RunsOn self.old (shown of_open of_shut was_placed response.old) self.new
@@ -280,7 +319,7 @@ impl Call {
         }
     }
 
-    /// The trailers, behind a head or alone, and their status.
+    /// The trailers, after a head or alone, and their status.
     fn trailers(&self, has_head: bool) -> Result<(Sequence<Field>, u32), AllocError>
         ensures { IfOk result
             (λ r. HasTrailers has_head self.now.head self.now.handling.ending r.0 r.1) }

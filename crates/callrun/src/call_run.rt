@@ -1,6 +1,30 @@
 //! One call as a state machine.
 
-ghost use Rattle.std.specs.Prelude.{Bool, ◌≡◌, ◌<◌, ◌≤◌, ◌+◌, ◌-◌, ◌++◌, ◌⊎◌, ◌↔◌, [], false, true, None, Some, length, List, ℕ, min, IfSome, IsSome, IsSomeAnd, IsTrue, slice_get};
+ghost use Rattle.std.specs.Prelude.{
+  Bool,
+  ◌≡◌,
+  ◌<◌,
+  ◌≤◌,
+  ◌+◌,
+  ◌-◌,
+  ◌++◌,
+  ◌⊎◌,
+  ◌↔◌,
+  [],
+  false,
+  true,
+  None,
+  Some,
+  length,
+  List,
+  ℕ,
+  min,
+  IfSome,
+  IsSome,
+  IsSomeAnd,
+  IsTrue,
+  slice_get,
+};
 ghost use Rattle.std.specs.Option.{option_map};
 ghost use Rattle.lane.specs.End.{of_end};
 ghost use Rattle.lpm.specs.Messages.{IsUnfinished};
@@ -10,8 +34,28 @@ ghost use Rattle.handlers.specs.Listed.{listed};
 ghost use Rattle.callrun.specs.declared.call.Turn.TheVariants as turn;
 ghost use Rattle.callrun.specs.Outcomes.{IsOutcome};
 ghost use Rattle.callrun.specs.Handlings.{IsReady, lacks_memory};
-ghost use Rattle.callrun.specs.Runs.{GivesOf, GivesOne, HasCome, HasRun, Leaves, MayTake, RunsOut, SameCall, TakesAhead, TakesOne, deadline_of};
-ghost use Rattle.callrun.specs.Sides.{HasNoRoom, given_over, is_gone, is_left, is_open, is_shut, lane_of};
+ghost use Rattle.callrun.specs.Runs.{
+  GivesOf,
+  GivesOne,
+  HasCome,
+  HasRun,
+  Leaves,
+  MayTake,
+  RunsOut,
+  SameCall,
+  TakesAhead,
+  TakesOne,
+  deadline_of,
+};
+ghost use Rattle.callrun.specs.Sides.{
+  HasNoRoom,
+  given_over,
+  is_gone,
+  is_left,
+  is_open,
+  is_shut,
+  lane_of,
+};
 
 use crate::call::{Call, Turn};
 use crate::handling::Handling;
@@ -26,19 +70,19 @@ use std::alloc::Global;
 /// A call that is handled.
 #[derive(Drop)]
 pub struct CallRun<I: Lane<Item = InPiece>, O: Lane<Item = OutItem>> {
-    /// Which of the server's methods the call names.
+    /// The index of the call's method.
     pub(crate) index: usize,
     pub(crate) call: Call,
     pub(crate) taker: Taker<I>,
-    /// What was taken ahead, and is still to be handed to the method.
+    /// What was taken ahead, and not handed to the method yet.
     pub(crate) in_hand: Option<Taken>,
     pub(crate) response: Response<Giver<O>, GivenShut<O>>,
     ghost there: { is_gone response ≡ false },
 }
 
 impl<I: Lane<Item = InPiece>, O: Lane<Item = OutItem>> CallRun<I, O> {
-    /// A call that was opened at this moment, in nanoseconds of the server's clock, and names the method at this index.
-    /// It takes no memory.
+    /// A call of the method at this index, opened at this moment, in nanoseconds of the server's
+    /// clock. It takes no memory.
     pub fn new(
         alloc: Global,
         methods: &Methods,
@@ -49,7 +93,7 @@ impl<I: Lane<Item = InPiece>, O: Lane<Item = OutItem>> CallRun<I, O> {
         opened: u64,
     ) -> CallRun<I, O>
         requires index { index < length (listed methods.now) }
-        // Where nothing was taken and nothing given before, no message leads to it.
+        // If nothing was taken or given before, the empty list of messages leads to it.
         ensures run { IfSome (slice_get (listed methods.now) index)
             (λ method. taker.progress.told ≡ None → O.put_in giver.tx ≡ []
             → HasRun ((⟦<dyn Method as Method>⟧ method.vtable).answers method.value)
@@ -87,10 +131,12 @@ impl<I: Lane<Item = InPiece>, O: Lane<Item = OutItem>> CallRun<I, O> {
         }
     }
 
-    /// Looks at the deadline, and then gives one item of the response, or takes once and has the method answer.
+    /// Looks at the deadline. Then it gives one item of the response, or takes once and hands that
+    /// to the method.
     pub fn turn(&mut self, methods: &Methods, now: u64) -> Turn
         requires index { self.old.index < length (listed methods.now) }
-        // Whatever messages led to the call before, they and those that were taken lead to the call after.
+        // Whatever messages led to the call before, those and the ones that were taken lead to it
+        // after.
         ensures run { IfSome (slice_get (listed methods.now) self.old.index)
             (λ method. (messages : List (List ℕ))
             → Took (I.got self.old.taker.rx) self.old.taker.progress messages
@@ -108,22 +154,24 @@ impl<I: Lane<Item = InPiece>, O: Lane<Item = OutItem>> CallRun<I, O> {
         ensures name { lane_of self.new.response ≡ lane_of self.old.response }
         ensures same { (self.new.index ≡ self.old.index) × (self.new.call.head ≡ self.old.call.head)
             × (self.new.call.deadline ≡ self.old.call.deadline) }
-        // The deadline counts as come only where a moment was not before it.
+        // The deadline counts as come only if this moment, or an earlier turn's, was not before it.
         ensures overdue { self.new.call.overdue ≡ true
             → (self.old.call.overdue ≡ true)
             ⊎ IsSomeAnd self.old.call.deadline (λ deadline. deadline ≤ now) }
-        // And where it was not, it does.
+        // While more may be given, the deadline counts as come if this moment is not before it.
         ensures late { is_open self.old.response ≡ true
             → IsSomeAnd self.old.call.deadline (λ deadline. deadline ≤ now)
             → self.new.call.overdue ≡ true }
         ensures over { result ≡ turn.Over → is_open self.new.response ≡ false }
-        // A call is left without trailers only for want of memory, or by a lane in which the place of an item may be taken already.
+        // A call is left without trailers only for want of memory, or by a lane where an item's
+        // place may be taken already.
         ensures left { is_left self.new.response ≡ true
             → (is_left self.old.response ≡ true)
             ⊎ (lacks_memory self.new.call.handling.ending ≡ true) ⊎ O.MayMiss }
         ensures stays_over { is_open self.old.response ≡ false
             → (result ≡ turn.Over) × (self.new ≡ self.old) }
-        // Something was done: an item was given, or one thing was taken, or memory was wanting, by which the call ends.
+        // Something was done: an item was given, or one thing was taken, or the call ends for want
+        // of memory.
         ensures went { result ≡ turn.Went
             → GivesOne (given_over self.old.response) (given_over self.new.response)
             ⊎ TakesOne (λ all. Took (I.got self.old.taker.rx) self.old.taker.progress all)
@@ -155,8 +203,8 @@ impl<I: Lane<Item = InPiece>, O: Lane<Item = OutItem>> CallRun<I, O> {
         self.take(&**method)
     }
 
-    /// Whether a message, the end, a reset or a fault is at hand, for the next turn to have the method answer. It is taken
-    /// ahead, where no item waits to be given and nothing was taken ahead before.
+    /// Whether the next turn has a message, the end, a reset or a fault to hand to the method. It
+    /// takes that ahead, if no item waits to be given and nothing was taken ahead before.
     pub fn is_ready(&mut self) -> bool
         ensures ready { IsTrue result ↔ IsSome self.new.in_hand }
         ensures ahead { (messages : List (List ℕ))
@@ -196,7 +244,8 @@ impl<I: Lane<Item = InPiece>, O: Lane<Item = OutItem>> CallRun<I, O> {
         }
     }
 
-    /// Gives nothing more, as where the call is no longer live. Each turn answers `Over` from then on.
+    /// Gives nothing more: for a call that is no longer live. Each turn answers `Over` from then
+    /// on.
     pub fn leave(&mut self, methods: &Methods)
         requires index { self.old.index < length (listed methods.now) }
         ensures run { IfSome (slice_get (listed methods.now) self.old.index)
@@ -225,7 +274,7 @@ impl<I: Lane<Item = InPiece>, O: Lane<Item = OutItem>> CallRun<I, O> {
         self.response.leave();
     }
 
-    /// How many bytes came in since the credit was asked for last, as `Taker::credit` counts them.
+    /// How many bytes came in since the last call of this function, as `Taker::credit` counts them.
     pub fn credit(&mut self) -> u32
         ensures owed { result ≡ self.old.taker.progress.owed }
         ensures none { self.new.taker.progress ≡ record self.old.taker.progress { owed = 0 } }
@@ -236,14 +285,14 @@ impl<I: Lane<Item = InPiece>, O: Lane<Item = OutItem>> CallRun<I, O> {
         self.taker.credit()
     }
 
-    /// Whether the call ends by itself at some moment. A turn of a call that doesn't makes no use of the moment it is told.
+    /// Whether the call has a deadline. Without one a turn makes no use of its moment.
     pub fn has_deadline(&self) -> bool
         ensures { IsTrue result ↔ IsSome self.now.call.deadline }
     {
         self.call.deadline.is_some()
     }
 
-    /// How many nanoseconds are left at this moment, until it ends by itself.
+    /// How many nanoseconds are left at this moment until the deadline.
     pub fn time_left(&self, now: u64) -> Option<u128>
         ensures { result ≡ option_map (λ deadline. deadline - now) self.now.call.deadline }
     {
@@ -258,8 +307,8 @@ impl<I: Lane<Item = InPiece>, O: Lane<Item = OutItem>> CallRun<I, O> {
         self.call.handling.lacks_memory()
     }
 
-    /// How many messages were given, and how many bytes they had without their prefixes. A number over the greatest `u64` counts
-    /// as that.
+    /// How many messages were given, and how many bytes they had without their prefixes. A number
+    /// over the greatest `u64` counts as that.
     pub fn given(&self) -> (u64, u64) {
         self.call.handling.waiting.passed()
     }
@@ -292,7 +341,7 @@ impl<I: Lane<Item = InPiece>, O: Lane<Item = OutItem>> CallRun<I, O> {
         }
     }
 
-    /// Takes once, and has the method answer.
+    /// Takes once, and hands that to the method.
     fn take(&mut self, method: &dyn Method) -> Turn
         requires ready { IsReady self.old.call.handling }
         requires open { is_open self.old.response ≡ true }

@@ -14,7 +14,7 @@ pub enum Cause {
     Cancelled,
     /// The time that the client gave it has passed.
     DeadlineExceeded,
-    /// A message is longer than is taken.
+    /// A message is longer than the server takes.
     MessageTooLong,
     /// Memory was wanting.
     OutOfMemory,
@@ -60,7 +60,7 @@ impl Cause {
         }
     }
 
-    /// Why a call ends that was told this fault, where its head says that messages are compressed so.
+    /// Why a call with this encoding ends at this fault.
     pub fn of_fault(fault: LpmFault, encoding: Encoding) -> Cause
         ensures { result ≡ cause_of fault encoding }
     {

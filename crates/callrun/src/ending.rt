@@ -1,4 +1,4 @@
-//! With what a call ends.
+//! How a call ends.
 
 ghost use Rattle.std.specs.Prelude.{◌≡◌, ◌++◌, [], IfOk};
 ghost use Rattle.callhead.specs.StatusFields.{response_fields};
@@ -12,12 +12,12 @@ use handlers::Status;
 use lists::Field;
 use std::alloc::{AllocError, Global};
 
-/// With what a call ends.
+/// How a call ends.
 #[derive(Debug, Drop)]
 pub(crate) enum Ending {
-    /// With the status that its method gave.
+    /// By the status that its method gave.
     Method(Status),
-    /// With that of the server's own.
+    /// By a status of the server's own.
     Cause(Cause),
 }
 

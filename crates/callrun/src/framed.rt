@@ -1,4 +1,4 @@
-//! The message that says a reply.
+//! The message that spells a reply.
 
 ghost use Rattle.std.specs.Prelude.{◌≡◌, IfOk};
 ghost use Rattle.lpm.specs.Messages.{frame};

@@ -1,9 +1,21 @@
-//! What comes of giving an item.
+//! How an item is given, and why one is refused.
 //!
-//! The bytes of an item are made only where there is room for it, so each is made once, and a turn that finds the lane
-//! full takes no memory.
+//! The bytes of an item are made only where there is room for it, so each is made once, and a turn
+//! that finds the lane full takes no memory.
 
-ghost use Rattle.std.specs.Prelude.{◌≡◌, ◌+◌, ◌≤◌, ◌<◌, [], true, length, IfErr, IfOk, OnOk, MatchResult};
+ghost use Rattle.std.specs.Prelude.{
+  ◌≡◌,
+  ◌+◌,
+  ◌≤◌,
+  ◌<◌,
+  [],
+  true,
+  length,
+  IfErr,
+  IfOk,
+  OnOk,
+  MatchResult,
+};
 ghost use Rattle.callbox.specs.OutSides.{has_head};
 ghost use Rattle.lpm.specs.Messages.{frame, IsFrame};
 ghost use Rattle.handlers.specs.Replies.{reply_bytes};
@@ -26,11 +38,11 @@ pub(crate) enum Refused {
     Full,
     /// Memory for it was wanting.
     OutOfMemory,
-    /// Its place was taken.
+    /// Its place was taken already.
     NotTaken,
 }
 
-/// What came of it, without what was handed back.
+/// The result without the item that was handed back.
 fn without_item<T: Drop>(given: Result<(), GiveFault<T>>) -> Result<(), Refused>
     ensures { result ≡ without_item given }
 {
@@ -63,8 +75,8 @@ pub(crate) fn give_head<O: Lane<Item = OutItem>>(
     without_item(giver.head(Sequence::from(fields)))
 }
 
-/// Gives a reply. One that is too long for a message counts as one for which memory is wanting: no method has such a
-/// reply.
+/// Gives a reply. A reply that is too long for a message counts as want of memory; no method has
+/// such a reply.
 pub(crate) fn give_reply<O: Lane<Item = OutItem>>(
     giver: &mut Giver<O>,
     alloc: Global,

@@ -1,4 +1,4 @@
-//! What the method of a call has made of what was taken.
+//! What the method of a call has answered to what was taken.
 
 ghost use Rattle.std.specs.Prelude.{◌≡◌, ◌↔◌, IsTrue, ◌++◌, ◌∷◌, [], List, ℕ, false, None, Some};
 ghost use Rattle.account.specs.declared.call.Told.TheVariants as told_kind;
@@ -11,17 +11,24 @@ use crate::waiting::Waiting;
 use handlers::{Method, MethodFault, MethodState, Replies, Step};
 use std::alloc::Global;
 
-/// The state of a call's method, and what it answered that was not given yet.
+/// The state of a call's method, and the answers that were not given yet.
 #[derive(Debug, Drop)]
 pub(crate) struct Handling {
     pub(crate) state: MethodState,
     pub(crate) waiting: Waiting,
-    /// With what the call ends, behind the replies that wait.
+    /// How the call ends, after the replies that wait.
     pub(crate) ending: Option<Ending>,
 }
 
 impl Handling {
-    ghost use Rattle.callrun.specs.Handlings.{Accepts, Answers, EndsBy, IsReady, IsStanding, lacks_memory};
+    ghost use Rattle.callrun.specs.Handlings.{
+      Accepts,
+      Answers,
+      EndsBy,
+      IsReady,
+      IsStanding,
+      lacks_memory,
+    };
 
     /// No message was taken yet.
     pub(crate) fn new(alloc: Global, method: &dyn Method) -> Handling
@@ -60,7 +67,7 @@ impl Handling {
         self.accept(alloc, step);
     }
 
-    /// Has what a step gave to give, and ends the call where the step failed.
+    /// Adds what a step gave to what is to be given, or ends the call if the step failed.
     fn accept(&mut self, alloc: Global, step: Result<Step, MethodFault>)
         ensures { Accepts step self.old self.new }
     {

@@ -7,7 +7,7 @@ use std::mem;
 /// The giving end of a call.
 #[derive(Drop)]
 pub(crate) enum Response<G, S> {
-    /// More may be given by it.
+    /// More may be given.
     Open(G),
     /// Nothing more is given, and no trailers were.
     Left(G),

@@ -12,7 +12,7 @@ use lane::Lane;
 use lists::{Field, Sequence};
 use std::mem;
 
-/// Gives the trailers, with this status.
+/// Gives the trailers, which have this status.
 pub(crate) fn shut<O: Lane<Item = OutItem>>(
     response: &mut Response<Giver<O>, GivenShut<O>>,
     fields: Sequence<Field>,

@@ -1,4 +1,4 @@
-//! The replies that a call has still to give.
+//! The replies that a call still has to give.
 
 ghost use Rattle.std.specs.Prelude.{◌≡◌, ◌↔◌, IsTrue, [], ◌∷◌, MatchOption, List};
 ghost use Rattle.handlers.specs.declared.reply.Reply.{Reply as ReplyOf};
@@ -13,7 +13,7 @@ pub(crate) struct Waiting {
     replies: Replies,
     /// How many replies of the call were given in all.
     passed: u64,
-    /// How many bytes those had.
+    /// How many bytes those replies had.
     bytes: u64,
 }
 
@@ -37,7 +37,7 @@ impl Waiting {
         }
     }
 
-    /// These wait, and no others.
+    /// Lets these replies wait, and no others.
     pub(crate) fn set(&mut self, replies: Replies)
         ensures { self.new ≡ replies }
     {

@@ -1,5 +1,29 @@
 -- The turns of a call, and what stands at its end.
-use Rattle.std.proofs.Common.{◌≡◌, ◌∙◌, ◌⊎◌, inl, inr, ap, refl, subst, sym, ℕ, ◌≤◌, Bool, true, false, List, [], ◌∷◌, ◌++◌, Option, None, Some, append-nil, append_assoc}
+use Rattle.std.proofs.Common.{
+  ◌≡◌,
+  ◌∙◌,
+  ◌⊎◌,
+  inl,
+  inr,
+  ap,
+  refl,
+  subst,
+  sym,
+  ℕ,
+  ◌≤◌,
+  Bool,
+  true,
+  false,
+  List,
+  [],
+  ◌∷◌,
+  ◌++◌,
+  Option,
+  None,
+  Some,
+  append-nil,
+  append_assoc,
+}
 use Rattle.std.specs.Prelude.{IfSome, IsSome, IsSomeAnd, option_map, slice_get}
 use Rattle.lane.specs.RingLane.{got, out_name, put_in, put_shut}
 use Rattle.account.specs.declared.call.OutItem.{OutItem}
@@ -23,18 +47,29 @@ use Rattle.callparts.specs.declared.work.Request.{Request}
 use Rattle.callparts.specs.declared.work.Work.{Work}
 use Rattle.callparts.specs.Lanes.{OutGiven, OutGiver}
 use Rattle.callparts.specs.Workers.{Answers, AnswersAt, IsAnswered, IsGivenAs, IsWithin, answers_by}
-use Rattle.callworker.specs.Runs.{EndsAs, GoesOn, IsOneCall, LeadsOn, LaneRun, giver_name, shown_by, shows}
+use Rattle.callworker.specs.Runs.{
+  EndsAs,
+  GoesOn,
+  IsOneCall,
+  LeadsOn,
+  LaneRun,
+  giver_name,
+  shown_by,
+  shows,
+}
 
-owes_less : (items : List InPiece) (p q : Progress) (messages : List (List ℕ)) → q ≡ record p { owed = 0 } → Took items p messages → Took items q messages
-owes_less items p q messages less took = subst (λ (r : Progress). Took items r messages) (sym less) (record {
-  missing = took.missing;
-  whole = took.whole;
-  each = took.each;
-  unread = took.unread;
-  closed = took.closed;
-  telling = took.telling;
-  count = took.count;
-})
+owes_less : (items : List InPiece) (p q : Progress) (messages : List (List ℕ))
+    → q ≡ record p { owed = 0 } → Took items p messages → Took items q messages
+owes_less items p q messages less took =
+    subst (λ (r : Progress). Took items r messages) (sym less) (record {
+      missing = took.missing;
+      whole = took.whole;
+      each = took.each;
+      unread = took.unread;
+      closed = took.closed;
+      telling = took.telling;
+      count = took.count;
+    })
 
 -- ---- one call
 
@@ -59,9 +94,12 @@ one_call_then a b c first second = (
 )
 
 -- a turn
-pub one_call_turned : (a b : LaneRun) (now : ℕ) → out_name b.taker.rx ≡ out_name a.taker.rx → giver_name b.response ≡ giver_name a.response
+pub one_call_turned : (a b : LaneRun) (now : ℕ) → out_name b.taker.rx ≡ out_name a.taker.rx
+    → giver_name b.response ≡ giver_name a.response
     → (b.index ≡ a.index) × (b.call.head ≡ a.call.head) × (b.call.deadline ≡ a.call.deadline)
-    → (b.call.overdue ≡ true → (a.call.overdue ≡ true) ⊎ IsSomeAnd a.call.deadline (λ deadline. deadline ≤ now)) → IsOneCall a b
+    → (b.call.overdue ≡ true
+    → (a.call.overdue ≡ true) ⊎ IsSomeAnd a.call.deadline (λ deadline. deadline ≤ now))
+    → IsOneCall a b
 one_call_turned a b now in_name name same overdue = (
   in_name,
   name,
@@ -75,7 +113,9 @@ one_call_turned a b now in_name name same overdue = (
 )
 
 -- what came was returned
-pub one_call_credited : (a b : LaneRun) → b.taker.rx ≡ a.taker.rx → (b.index ≡ a.index) × (b.call ≡ a.call) × (b.in_hand ≡ a.in_hand) × (b.response ≡ a.response) → IsOneCall a b
+pub one_call_credited : (a b : LaneRun) → b.taker.rx ≡ a.taker.rx
+    → (b.index ≡ a.index) × (b.call ≡ a.call) × (b.in_hand ≡ a.in_hand) × (b.response ≡ a.response)
+    → IsOneCall a b
 one_call_credited a b rx same = (
   ap out_name rx,
   ap giver_name same.3,
@@ -86,7 +126,8 @@ one_call_credited a b rx same = (
 )
 
 -- it was left
-pub one_call_left : (a b : LaneRun) → giver_name b.response ≡ giver_name a.response → (b.index ≡ a.index) × (b.taker ≡ a.taker) × SameCall a.call b.call → IsOneCall a b
+pub one_call_left : (a b : LaneRun) → giver_name b.response ≡ giver_name a.response
+    → (b.index ≡ a.index) × (b.taker ≡ a.taker) × SameCall a.call b.call → IsOneCall a b
 one_call_left a b name same = (
   ap (λ t. out_name t.rx) same.1,
   name,
@@ -98,95 +139,156 @@ one_call_left a b name same = (
 
 -- ---- what leads to it
 
-module _ {A : Type 0} (answers : A → List (List ℕ) → Bool → Step → Type 0) (stands : A → MethodState → List (List ℕ) → Step → Type 0) (methods : List A) where
+module _ {A : Type 0} (answers : A → List (List ℕ) → Bool → Step → Type 0)
+    (stands : A → MethodState → List (List ℕ) → Step → Type 0) (methods : List A) where
   stays : (found : Option A) (a : LaneRun) → IfSome found (λ m. LeadsOn (answers m) (stands m) a a)
   stays None a = tt
   stays (Some m) a = λ messages took come. (
     [],
-    subst (λ (ms : List (List ℕ)). Took (got a.taker.rx) a.taker.progress ms) (sym (append-nil messages)) took,
-    subst (λ (ms : List (List ℕ)). HasCome (answers m) (stands m) a.taker.progress.told ms a.call a.in_hand (shows a)) (sym (append-nil messages)) come,
+    subst (λ (ms : List (List ℕ)). Took (got a.taker.rx) a.taker.progress ms)
+        (sym (append-nil messages)) took,
+    subst (λ (ms : List (List ℕ)).
+        HasCome (answers m) (stands m) a.taker.progress.told ms a.call a.in_hand (shows a))
+        (sym (append-nil messages)) come,
   )
 
   pub goes_none : (a : LaneRun) → GoesOn answers stands methods a a
   goes_none a = stays (slice_get methods a.index) a
 
-  follows : (found after : Option A) (a b c : LaneRun) → after ≡ found → IfSome found (λ m. LeadsOn (answers m) (stands m) a b) → IfSome after (λ m. LeadsOn (answers m) (stands m) b c)
+  follows : (found after : Option A) (a b c : LaneRun) → after ≡ found
+      → IfSome found (λ m. LeadsOn (answers m) (stands m) a b)
+      → IfSome after (λ m. LeadsOn (answers m) (stands m) b c)
       → IfSome found (λ m. LeadsOn (answers m) (stands m) a c)
   follows None after a b c same first second = tt
   follows (Some m) after a b c same first second = λ messages took come.
       let one = first messages took come in
-      let then_so = subst (λ (found : Option A). IfSome found (λ n. LeadsOn (answers n) (stands n) b c)) same second in
+      let then_so =
+      subst (λ (found : Option A).
+      IfSome found (λ n. LeadsOn (answers n) (stands n) b c)) same second in
       let two = then_so (messages ++ one.0) one.1 one.2 in (
         one.0 ++ two.0,
-        subst (λ (ms : List (List ℕ)). Took (got c.taker.rx) c.taker.progress ms) (append_assoc messages one.0 two.0) two.1,
-        subst (λ (ms : List (List ℕ)). HasCome (answers m) (stands m) c.taker.progress.told ms c.call c.in_hand (shows c)) (append_assoc messages one.0 two.0) two.2,
+        subst (λ (ms : List (List ℕ)). Took (got c.taker.rx) c.taker.progress ms)
+            (append_assoc messages one.0 two.0) two.1,
+        subst (λ (ms : List (List ℕ)).
+            HasCome (answers m) (stands m) c.taker.progress.told ms c.call c.in_hand (shows c))
+            (append_assoc messages one.0 two.0) two.2,
       )
 
-  pub goes_then : (a b c : LaneRun) → b.index ≡ a.index → GoesOn answers stands methods a b → GoesOn answers stands methods b c → GoesOn answers stands methods a c
-  goes_then a b c same first second = follows (slice_get methods a.index) (slice_get methods b.index) a b c (ap (λ (i : ℕ). slice_get methods i) same) first second
+  pub goes_then : (a b c : LaneRun) → b.index ≡ a.index → GoesOn answers stands methods a b
+      → GoesOn answers stands methods b c → GoesOn answers stands methods a c
+  goes_then a b c same first second =
+      follows (slice_get methods a.index) (slice_get methods b.index) a b c
+      (ap (λ (i : ℕ). slice_get methods i) same) first second
 
-  credited : (found : Option A) (a b : LaneRun) → b.taker.rx ≡ a.taker.rx → b.taker.progress ≡ record a.taker.progress { owed = 0 }
-      → (b.index ≡ a.index) × (b.call ≡ a.call) × (b.in_hand ≡ a.in_hand) × (b.response ≡ a.response) → IfSome found (λ m. LeadsOn (answers m) (stands m) a b)
+  credited : (found : Option A) (a b : LaneRun) → b.taker.rx ≡ a.taker.rx
+      → b.taker.progress ≡ record a.taker.progress { owed = 0 }
+      → (b.index ≡ a.index) × (b.call ≡ a.call) × (b.in_hand ≡ a.in_hand)
+      × (b.response ≡ a.response)
+      → IfSome found (λ m. LeadsOn (answers m) (stands m) a b)
   credited None a b rx less same = tt
   credited (Some m) a b rx less same = λ messages took come. (
     [],
-    subst (λ (ms : List (List ℕ)). Took (got b.taker.rx) b.taker.progress ms) (sym (append-nil messages))
-        (subst (λ (items : List InPiece). Took items b.taker.progress messages) (sym (ap got rx)) (owes_less (got a.taker.rx) a.taker.progress b.taker.progress messages less took)),
-    subst (λ (ms : List (List ℕ)). HasCome (answers m) (stands m) b.taker.progress.told ms b.call b.in_hand (shows b)) (sym (append-nil messages))
-        (subst (λ (t : Option Told). HasCome (answers m) (stands m) t messages b.call b.in_hand (shows b)) (sym (ap (λ (p : Progress). p.told) less))
-        (subst (λ (call : Call). HasCome (answers m) (stands m) a.taker.progress.told messages call b.in_hand (shows b)) (sym same.1)
-        (subst (λ (hand : Option Taken). HasCome (answers m) (stands m) a.taker.progress.told messages a.call hand (shows b)) (sym same.2)
-        (subst (λ (r : Response OutGiver OutGiven). HasCome (answers m) (stands m) a.taker.progress.told messages a.call a.in_hand (shown_by r)) (sym same.3) come)))),
+    subst (λ (ms : List (List ℕ)). Took (got b.taker.rx) b.taker.progress ms)
+        (sym (append-nil messages))
+        (subst (λ (items : List InPiece). Took items b.taker.progress messages) (sym (ap got rx))
+        (owes_less (got a.taker.rx) a.taker.progress b.taker.progress messages less took)),
+    subst (λ (ms : List (List ℕ)).
+        HasCome (answers m) (stands m) b.taker.progress.told ms b.call b.in_hand (shows b))
+        (sym (append-nil messages))
+        (subst
+        (λ (t : Option Told). HasCome (answers m) (stands m) t messages b.call b.in_hand (shows b))
+        (sym (ap (λ (p : Progress). p.told) less))
+        (subst (λ (call : Call).
+        HasCome (answers m) (stands m) a.taker.progress.told messages call b.in_hand
+        (shows b)) (sym same.1)
+        (subst (λ (hand : Option Taken).
+        HasCome (answers m) (stands m) a.taker.progress.told messages a.call hand
+        (shows b)) (sym same.2)
+        (subst (λ (r : Response OutGiver OutGiven).
+        HasCome (answers m) (stands m) a.taker.progress.told messages a.call a.in_hand (shown_by r))
+        (sym same.3) come)))),
   )
 
   -- what came was returned
-  pub goes_credited : (a b : LaneRun) → b.taker.rx ≡ a.taker.rx → b.taker.progress ≡ record a.taker.progress { owed = 0 }
-      → (b.index ≡ a.index) × (b.call ≡ a.call) × (b.in_hand ≡ a.in_hand) × (b.response ≡ a.response) → GoesOn answers stands methods a b
+  pub goes_credited : (a b : LaneRun) → b.taker.rx ≡ a.taker.rx
+      → b.taker.progress ≡ record a.taker.progress { owed = 0 }
+      → (b.index ≡ a.index) × (b.call ≡ a.call) × (b.in_hand ≡ a.in_hand)
+      × (b.response ≡ a.response)
+      → GoesOn answers stands methods a b
   goes_credited a b rx less same = credited (slice_get methods a.index) a b rx less same
 
   leaves : (found : Option A) (a b : LaneRun) → b.taker ≡ a.taker
-      → IfSome found (λ m. (messages : List (List ℕ)) → HasCome (answers m) (stands m) a.taker.progress.told messages a.call a.in_hand (shows a) → HasCome (answers m) (stands m) b.taker.progress.told messages b.call b.in_hand (shows b))
+      → IfSome found (λ m.
+      (messages : List (List ℕ))
+      → HasCome (answers m) (stands m) a.taker.progress.told messages a.call a.in_hand (shows a)
+      → HasCome (answers m) (stands m) b.taker.progress.told messages b.call b.in_hand (shows b))
       → IfSome found (λ m. LeadsOn (answers m) (stands m) a b)
   leaves None a b same left = tt
   leaves (Some m) a b same left = λ messages took come. (
     [],
-    subst (λ (ms : List (List ℕ)). Took (got b.taker.rx) b.taker.progress ms) (sym (append-nil messages)) (subst (λ t. Took (got t.rx) t.progress messages) (sym same) took),
-    subst (λ (ms : List (List ℕ)). HasCome (answers m) (stands m) b.taker.progress.told ms b.call b.in_hand (shows b)) (sym (append-nil messages)) (left messages come),
+    subst (λ (ms : List (List ℕ)). Took (got b.taker.rx) b.taker.progress ms)
+        (sym (append-nil messages))
+        (subst (λ t. Took (got t.rx) t.progress messages) (sym same) took),
+    subst (λ (ms : List (List ℕ)).
+        HasCome (answers m) (stands m) b.taker.progress.told ms b.call b.in_hand (shows b))
+        (sym (append-nil messages)) (left messages come),
   )
 
   -- it was left
   pub goes_left : (a b : LaneRun) → b.taker ≡ a.taker
-      → IfSome (slice_get methods a.index) (λ m. (messages : List (List ℕ)) → HasCome (answers m) (stands m) a.taker.progress.told messages a.call a.in_hand (shows a) → HasCome (answers m) (stands m) b.taker.progress.told messages b.call b.in_hand (shows b))
+      → IfSome (slice_get methods a.index) (λ m.
+      (messages : List (List ℕ))
+      → HasCome (answers m) (stands m) a.taker.progress.told messages a.call a.in_hand (shows a)
+      → HasCome (answers m) (stands m) b.taker.progress.told messages b.call b.in_hand (shows b))
       → GoesOn answers stands methods a b
   goes_left a b same left = leaves (slice_get methods a.index) a b same left
 
   -- ---- all of it
 
-  all_of : (found after : Option A) (a b : LaneRun) (said : Option Told) (put : List OutItem) → after ≡ found → Took (got a.taker.rx) a.taker.progress [] → a.taker.progress.told ≡ None
+  all_of : (found after : Option A) (a b : LaneRun) (said : Option Told) (put : List OutItem)
+      → after ≡ found → Took (got a.taker.rx) a.taker.progress [] → a.taker.progress.told ≡ None
       → said ≡ None → put ≡ [] → a.in_hand ≡ None → is_open b.response ≡ false
-      → IfSome found (λ m. said ≡ None → put ≡ [] → HasRun (answers m) (stands m) None [] a.call (shows a))
+      → IfSome found
+      (λ m. said ≡ None → put ≡ [] → HasRun (answers m) (stands m) None [] a.call (shows a))
       → IfSome after (λ m. LeadsOn (answers m) (stands m) a b)
-      → IfSome found (λ m. (messages : List (List ℕ)) × Took (got b.taker.rx) b.taker.progress messages × HasRun (answers m) (stands m) b.taker.progress.told messages b.call (shows b))
+      → IfSome found (λ m.
+      (messages : List (List ℕ)) × Took (got b.taker.rx) b.taker.progress messages
+      × HasRun (answers m) (stands m) b.taker.progress.told messages b.call (shows b))
   all_of None after a b said put same took untold unsaid unput empty closed fresh goes = tt
   all_of (Some m) after a b said put same took untold unsaid unput empty closed fresh goes =
-      let begun = subst (λ (t : Option Told). HasRun (answers m) (stands m) t [] a.call (shows a)) (sym untold) (fresh unsaid unput) in
+      let begun =
+      subst (λ (t : Option Told). HasRun (answers m) (stands m) t [] a.call (shows a)) (sym untold)
+      (fresh unsaid unput) in
       let come = with_none a.taker.progress.told [] a.call a.in_hand (shows a) empty begun in
-      let leads = subst (λ (found : Option A). IfSome found (λ n. LeadsOn (answers n) (stands n) a b)) same goes in
-      let all = leads [] took come in
-      ([] ++ all.0, all.1, closed_run (λ g. put_in g.tx) (λ s. put_shut s.shut) (λ s. true) b.response b.taker.progress.told ([] ++ all.0) b.call b.in_hand closed all.2)
+      let leads =
+      subst (λ (found : Option A).
+      IfSome found (λ n. LeadsOn (answers n) (stands n) a b)) same goes in
+      let all = leads [] took come in (
+        [] ++ all.0,
+        all.1,
+        closed_run (λ g. put_in g.tx) (λ s. put_shut s.shut) (λ s. true) b.response
+            b.taker.progress.told ([] ++ all.0) b.call b.in_hand closed all.2,
+      )
 
-  -- from a call of which nothing was taken yet to one that gives nothing more: the messages that were taken, and what stands of them
-  pub run_all : (index : ℕ) (a b : LaneRun) (said : Option Told) (put : List OutItem) → a.index ≡ index → Took (got a.taker.rx) a.taker.progress [] → a.taker.progress.told ≡ None
+  -- from a call of which nothing was taken yet to one that gives nothing more: the messages that
+  -- were taken, and what stands of them
+  pub run_all : (index : ℕ) (a b : LaneRun) (said : Option Told) (put : List OutItem)
+      → a.index ≡ index → Took (got a.taker.rx) a.taker.progress [] → a.taker.progress.told ≡ None
       → said ≡ None → put ≡ [] → a.in_hand ≡ None → is_open b.response ≡ false
-      → IfSome (slice_get methods index) (λ m. said ≡ None → put ≡ [] → HasRun (answers m) (stands m) None [] a.call (shows a))
+      → IfSome (slice_get methods index)
+      (λ m. said ≡ None → put ≡ [] → HasRun (answers m) (stands m) None [] a.call (shows a))
       → GoesOn answers stands methods a b
-      → IfSome (slice_get methods index) (λ m. (messages : List (List ℕ)) × Took (got b.taker.rx) b.taker.progress messages × HasRun (answers m) (stands m) b.taker.progress.told messages b.call (shows b))
+      → IfSome (slice_get methods index) (λ m.
+      (messages : List (List ℕ)) × Took (got b.taker.rx) b.taker.progress messages
+      × HasRun (answers m) (stands m) b.taker.progress.told messages b.call (shows b))
   run_all index a b said put same took untold unsaid unput empty closed fresh goes =
-      all_of (slice_get methods index) (slice_get methods a.index) a b said put (ap (λ (i : ℕ). slice_get methods i) same) took untold unsaid unput empty closed fresh goes
+      all_of (slice_get methods index) (slice_get methods a.index) a b said put
+      (ap (λ (i : ℕ). slice_get methods i) same) took untold unsaid unput empty closed fresh goes
 
 -- ---- the deadline
 
-timed_head : (timeout : Option ℕ) (opened : ℕ) → IsSome (deadline_of timeout opened) → IsSome timeout
+timed_head : (timeout : Option ℕ) (opened : ℕ)
+    → IsSome (deadline_of timeout opened) → IsSome timeout
 timed_head None opened some = some
 timed_head (Some timeout) opened some = refl
 
@@ -195,7 +297,9 @@ true_of true is other = absurd (cc)
 true_of false is other = absurd (cc)
 
 -- a call that ends by its deadline has a timeout
-pub overdue_timed : (a b : LaneRun) (head : CallHead) (opened : ℕ) → a.call.overdue ≡ false → a.call.deadline ≡ deadline_of head.timeout opened → IsOneCall a b → b.call.overdue ≡ true → IsSome head.timeout
+pub overdue_timed : (a b : LaneRun) (head : CallHead) (opened : ℕ) → a.call.overdue ≡ false
+    → a.call.deadline ≡ deadline_of head.timeout opened → IsOneCall a b → b.call.overdue ≡ true
+    → IsSome head.timeout
 overdue_timed a b head opened early due one late = elim (one.5 late) [
   | inl before ↦ true_of a.call.overdue early before
   | inr timed ↦ timed_head head.timeout opened (subst (λ (d : Option ℕ). IsSome d) due timed)
@@ -204,31 +308,51 @@ overdue_timed a b head opened early due one late = elim (one.5 late) [
 -- ---- what was answered
 
 -- what stands of a call whose method is there
-pub call_answers : {A : Type 0} (answers : A → List (List ℕ) → Bool → Step → Type 0) (stands : A → MethodState → List (List ℕ) → Step → Type 0)
-    (methods : List A) (found : Option A) (request : Request) (run : LaneRun) (items : List InPiece) (p : Progress) (given : List OutItem) (status : Option ℕ)
-    → found ≡ slice_get methods request.index → (found ≡ None → ⊥) → run.call.head ≡ request.head → items ≡ got run.taker.rx → p ≡ record run.taker.progress { owed = 0 }
+pub call_answers : {A : Type 0} (answers : A → List (List ℕ) → Bool → Step → Type 0)
+    (stands : A → MethodState → List (List ℕ) → Step → Type 0)
+    (methods : List A) (found : Option A) (request : Request) (run : LaneRun) (items : List InPiece)
+    (p : Progress) (given : List OutItem) (status : Option ℕ)
+    → found ≡ slice_get methods request.index → (found ≡ None → ⊥) → run.call.head ≡ request.head
+    → items ≡ got run.taker.rx → p ≡ record run.taker.progress { owed = 0 }
     → (run.call.overdue ≡ true → IsSome request.head.timeout)
-    → IfSome found (λ m. (messages : List (List ℕ)) × Took (got run.taker.rx) run.taker.progress messages × HasRun (answers m) (stands m) run.taker.progress.told messages run.call (shows run))
+    → IfSome found (λ m.
+    (messages : List (List ℕ)) × Took (got run.taker.rx) run.taker.progress messages
+    × HasRun (answers m) (stands m) run.taker.progress.told messages run.call (shows run))
     → EndsAs run given status
     → Answers (answers_by answers methods) request items p given status
-call_answers answers stands methods None request run items p given status is some same_head same_got less timed has ends = absurd (some refl)
-call_answers {A} answers stands methods (Some m) request run items p given status is some same_head same_got less timed has ends =
+call_answers answers stands methods None request run items p given status is some same_head same_got
+    less timed has ends = absurd (some refl)
+call_answers {A} answers stands methods (Some m) request run items p given status is some same_head
+    same_got less timed has ends =
     let told : p.told ≡ run.taker.progress.told = ap (λ (q : Progress). q.told) less in
     record {
       messages = has.0;
-      took = subst (λ (xs : List InPiece). Took xs p has.0) (sym same_got) (owes_less (got run.taker.rx) run.taker.progress p has.0 less has.1);
-      answered = subst (λ (said : Option Told). IsAnswered (answers_by answers methods request.index) request.head has.0 said given status) (sym told) (record {
-        overdue = run.call.overdue;
-        timed = timed;
-        items = ends.0;
-        outcome = λ answer answered. subst (λ (head : CallHead). IsOutcome head run.call.overdue run.taker.progress.told answer ends.0 status) same_head (ends.2 answer (has.2.each answer
-            (subst (λ (o : Option A). IsSomeAnd o (λ n. answers n has.0 (is_end run.taker.progress.told) answer)) (sym is) answered)));
-        ends = ends.1;
-      });
+      took =
+          subst (λ (xs : List InPiece). Took xs p has.0) (sym same_got)
+          (owes_less (got run.taker.rx) run.taker.progress p has.0 less has.1);
+      answered =
+          subst (λ (said : Option Told).
+          IsAnswered (answers_by answers methods request.index) request.head has.0 said given
+          status) (sym told) (record {
+            overdue = run.call.overdue;
+            timed = timed;
+            items = ends.0;
+            outcome = λ answer answered.
+                subst (λ (head : CallHead).
+                IsOutcome head run.call.overdue run.taker.progress.told answer
+                ends.0 status) same_head
+                (ends.2 answer (has.2.each answer
+                (subst (λ (o : Option A).
+                IsSomeAnd o (λ n. answers n has.0 (is_end run.taker.progress.told) answer))
+                (sym is) answered)));
+            ends = ends.1;
+          });
     }
 
 -- of a call whose method isn't there
-pub none_answers : {A : Type 0} (answers : A → List (List ℕ) → Bool → Step → Type 0) (methods : List A) (request : Request) (items : List InPiece) (p : Progress) (given : List OutItem)
+pub none_answers : {A : Type 0} (answers : A → List (List ℕ) → Bool → Step → Type 0)
+    (methods : List A) (request : Request) (items : List InPiece) (p : Progress)
+    (given : List OutItem)
     → slice_get methods request.index ≡ None → Took items p [] → IsGivenAs [] given
     → Answers (answers_by answers methods) request items p given None
 none_answers {A} answers methods request items p given none took nothing = record {
@@ -238,14 +362,18 @@ none_answers {A} answers methods request items p given none took nothing = recor
     overdue = false;
     timed = λ late. absurd (cc);
     items = [];
-    outcome = λ answer answered. absurd (subst (λ (o : Option A). IsSomeAnd o (λ n. answers n [] (is_end p.told) answer)) none answered);
+    outcome = λ answer answered.
+        absurd (subst (λ (o : Option A).
+        IsSomeAnd o (λ n. answers n [] (is_end p.told) answer)) none answered);
     ends = nothing;
   };
 }
 
 -- what is so of more answers is so of these
-pub of_fewer : (wide narrow : ℕ → List (List ℕ) → Bool → Step → Type 0) (request : Request) (items : List InPiece) (p : Progress) (given : List OutItem) (status : Option ℕ)
-    → IsWithin narrow wide → Answers wide request items p given status → Answers narrow request items p given status
+pub of_fewer : (wide narrow : ℕ → List (List ℕ) → Bool → Step → Type 0) (request : Request)
+    (items : List InPiece) (p : Progress) (given : List OutItem) (status : Option ℕ)
+    → IsWithin narrow wide → Answers wide request items p given status
+    → Answers narrow request items p given status
 of_fewer wide narrow request items p given status within has = record {
   messages = has.messages;
   took = has.took;
@@ -253,22 +381,34 @@ of_fewer wide narrow request items p given status within has = record {
     overdue = has.answered.overdue;
     timed = has.answered.timed;
     items = has.answered.items;
-    outcome = λ answer is. has.answered.outcome answer (within request.index has.messages (is_end p.told) answer is);
+    outcome = λ answer is.
+        has.answered.outcome answer (within request.index has.messages (is_end p.told) answer is);
     ends = has.answered.ends;
   };
 }
 
 -- what stands of a call stands of the same, of which what came was returned
-pub same_ends : (a b : LaneRun) (items given : List OutItem) (status : Option ℕ) → b.taker.progress ≡ record a.taker.progress { owed = 0 } → (b.index ≡ a.index) × (b.call ≡ a.call) × (b.in_hand ≡ a.in_hand) × (b.response ≡ a.response)
+pub same_ends : (a b : LaneRun) (items given : List OutItem) (status : Option ℕ)
+    → b.taker.progress ≡ record a.taker.progress { owed = 0 }
+    → (b.index ≡ a.index) × (b.call ≡ a.call) × (b.in_hand ≡ a.in_hand) × (b.response ≡ a.response)
     → IsGivenAs items given
-    → ((answer : Step) → GivesOf b.taker.progress.told answer b.call (shows b) → IsOutcome b.call.head b.call.overdue b.taker.progress.told answer items status)
+    → ((answer : Step) → GivesOf b.taker.progress.told answer b.call (shows b)
+    → IsOutcome b.call.head b.call.overdue b.taker.progress.told answer items status)
     → EndsAs a given status
 same_ends a b items given status less same ends outcome = (
   items,
   ends,
-  subst (λ (t : Option Told). (answer : Step) → GivesOf t answer a.call (shows a) → IsOutcome a.call.head a.call.overdue t answer items status) (ap (λ (p : Progress). p.told) less)
-      (subst (λ (c : Call). (answer : Step) → GivesOf b.taker.progress.told answer c (shows a) → IsOutcome c.head c.overdue b.taker.progress.told answer items status) same.1
-      (subst (λ (r : Response OutGiver OutGiven). (answer : Step) → GivesOf b.taker.progress.told answer b.call (shown_by r) → IsOutcome b.call.head b.call.overdue b.taker.progress.told answer items status) same.3 outcome)),
+  subst (λ (t : Option Told).
+      (answer : Step) → GivesOf t answer a.call (shows a)
+      → IsOutcome a.call.head a.call.overdue t answer items status)
+      (ap (λ (p : Progress). p.told) less)
+      (subst (λ (c : Call).
+      (answer : Step) → GivesOf b.taker.progress.told answer c (shows a)
+      → IsOutcome c.head c.overdue b.taker.progress.told answer items status) same.1
+      (subst (λ (r : Response OutGiver OutGiven).
+      (answer : Step) → GivesOf b.taker.progress.told answer b.call (shown_by r)
+      → IsOutcome b.call.head b.call.overdue b.taker.progress.told answer items
+      status) same.3 outcome)),
 )
 
 -- the item of a call that is left, where it was placed
@@ -278,7 +418,11 @@ left_as items given is = inr is
 -- ---- the call of a number
 
 -- what stands of a call stands of the number at which it is
-pub answers_at : (known : ℕ → List (List ℕ) → Bool → Step → Type 0) (log : List Work) (number : ℕ) (work : Work) (items : List InPiece) (p : Progress) (given : List OutItem) (status : Option ℕ)
-    → slice_get log number ≡ Some work → Answers known work.request items p given status → AnswersAt known log number items p given status
+pub answers_at : (known : ℕ → List (List ℕ) → Bool → Step → Type 0) (log : List Work) (number : ℕ)
+    (work : Work) (items : List InPiece) (p : Progress) (given : List OutItem) (status : Option ℕ)
+    → slice_get log number ≡ Some work → Answers known work.request items p given status
+    → AnswersAt known log number items p given status
 answers_at known log number work items p given status stands has =
-    subst (λ (found : Option Work). IsSomeAnd (option_map (λ (w : Work). w.request) found) (λ request. Answers known request items p given status)) (sym stands) has
+    subst (λ (found : Option Work).
+    IsSomeAnd (option_map (λ (w : Work). w.request) found)
+    (λ request. Answers known request items p given status)) (sym stands) has

@@ -1,5 +1,17 @@
 -- How a call goes on from turn to turn, over its two lanes.
-use Rattle.std.specs.Prelude.{◌≡◌, ◌⊎◌, ℕ, Bool, true, List, ◌++◌, Option, IfSome, IsSome, slice_get}
+use Rattle.std.specs.Prelude.{
+  ◌≡◌,
+  ◌⊎◌,
+  ℕ,
+  Bool,
+  true,
+  List,
+  ◌++◌,
+  Option,
+  IfSome,
+  IsSome,
+  slice_get,
+}
 use Rattle.lane.specs.contracts.ring_lane.RingLaneLane.TheImpl.{ghosts, no_dict}
 use Rattle.lane.specs.declared.ring_lane.RingLane.{RingLane}
 use Rattle.lane.specs.declared.ring_lane.RingLaneIn.{RingLaneIn}
@@ -30,7 +42,7 @@ LaneRun = CallRun (RingLane InPiece) (RingLane OutItem)
 
 -- ---- what a call shows
 
--- what its giving end shows: what was given of the call
+-- what its giving end shows: what the call was given
 abbrev pub shown_by : Response OutGiver OutGiven → Shown
 shown_by response = shown (λ g. put_in g.tx) (λ s. put_shut s.shut) (λ s. true) response
 
@@ -40,29 +52,36 @@ shows run = shown_by run.response
 abbrev pub giver_name : Response OutGiver OutGiven → Option LaneName
 giver_name response = name_by (λ g. in_name g.tx) (λ s. shut_name s.shut) response
 
--- Whatever messages led to the call before, they and those that were taken since lead to it after.
-abbrev pub LeadsOn : (List (List ℕ) → Bool → Step → Type 0) → (MethodState → List (List ℕ) → Step → Type 0)
+-- Whatever messages led to the call before, those and the ones that were taken since lead to it
+-- after.
+abbrev pub LeadsOn : (List (List ℕ) → Bool → Step → Type 0)
+    → (MethodState → List (List ℕ) → Step → Type 0)
     → LaneRun → LaneRun → Type 0
 LeadsOn answers stands before after = (messages : List (List ℕ))
     → Took (got before.taker.rx) before.taker.progress messages
-    → HasCome answers stands before.taker.progress.told messages before.call before.in_hand (shows before)
+    → HasCome answers stands before.taker.progress.told messages before.call
+    before.in_hand (shows before)
     → (more : List (List ℕ)) × Took (got after.taker.rx) after.taker.progress (messages ++ more)
-    × HasCome answers stands after.taker.progress.told (messages ++ more) after.call after.in_hand (shows after)
+    × HasCome answers stands after.taker.progress.told (messages ++ more) after.call
+    after.in_hand (shows after)
 
--- the same, by the method that the call names
+-- a call leads on so, by the method that it names
 abbrev pub GoesOn : {A : Type 0} → (A → List (List ℕ) → Bool → Step → Type 0)
     → (A → MethodState → List (List ℕ) → Step → Type 0) → List A → LaneRun → LaneRun → Type 0
 GoesOn answers stands methods before after =
     IfSome (slice_get methods before.index) (λ m. LeadsOn (answers m) (stands m) before after)
 
--- It is one call: over the same ends, of one method, head and deadline. The deadline counts as come only where it has one.
+-- It is one call before and after: its ends, method, head and deadline didn't change. The deadline
+-- counts as come only where it has one.
 abbrev pub IsOneCall : LaneRun → LaneRun → Type 0
 IsOneCall before after = (out_name after.taker.rx ≡ out_name before.taker.rx)
     × (giver_name after.response ≡ giver_name before.response)
-    × (after.index ≡ before.index) × (after.call.head ≡ before.call.head) × (after.call.deadline ≡ before.call.deadline)
+    × (after.index ≡ before.index) × (after.call.head ≡ before.call.head)
+    × (after.call.deadline ≡ before.call.deadline)
     × (after.call.overdue ≡ true → (before.call.overdue ≡ true) ⊎ IsSome before.call.deadline)
 
--- What was given is an outcome of whatever answer led to the call, maybe with a status, and behind it at most that the call was left.
+-- What was given is an outcome of whatever answer led to the call, maybe with a status, and after
+-- it at most that the call was left.
 abbrev pub EndsAs : LaneRun → List OutItem → Option ℕ → Type 0
 EndsAs run given status = (items : List OutItem) × IsGivenAs items given
     × ((answer : Step) → GivesOf run.taker.progress.told answer run.call (shows run)

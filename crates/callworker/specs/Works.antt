@@ -7,7 +7,7 @@ asked number [] = []
 asked number (None ∷ tasks) = asked number tasks
 asked number (Some job ∷ tasks) = number job ∷ asked number tasks
 
--- it handed back each call that it took, in their order
+-- it handed back each call that it took, in order
 abbrev pub HasHandedBack : {T F : Type 0} → (T → ℕ) → (F → ℕ) → List (Option T) → List F → Type 0
 HasHandedBack of_job of_finished tasks done = map of_finished done ≡ asked of_job tasks
 

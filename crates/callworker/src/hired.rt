@@ -18,12 +18,12 @@ use std::sync::{Arc, Wait};
 use std::thread::{Builder, Promise, PromisedHandle, Threads};
 use std::time::Clock;
 
-/// How large the stacks of a connection's threads are, in bytes. They need less than 20,000: none of their direct calls recurs. Those of the
-/// usual size, 8 MiB, take address space, and longer to make.
+/// How large the stacks of a connection's threads are, in bytes. They need less than 20,000: no
+/// function calls itself. Stacks of the usual size, 8 MiB, take address space, and longer to make.
 pub const STACK: usize = 262_144;
 
-/// What a worker was given. It promises that the ends that it hands back are of the same rings, and that it handed back each call that it
-/// took, in their order.
+/// What a worker was given. It promises to hand back the ends of these rings, and that it has
+/// handed back each call that it took, in order.
 #[derive(Drop)]
 pub struct Hired<J: Naming, M: Answering> {
     pub ways: Snapshot<Ways<J, M>>,
@@ -40,7 +40,7 @@ impl<J: Naming, M: Answering> Promise<Ways<J, M>> for Hired<J, M> {
 /// The thread of a worker.
 pub type Hand<J, M> = PromisedHandle<Ways<J, M>, Hired<J, M>>;
 
-/// Starts a worker. None where no thread can be had: then the ends are dropped.
+/// Starts a worker. None where no thread can be made: then the ends are dropped.
 pub fn hire<A, B, C, G, J, M, R>(
     rt: R,
     worker: Worker<A, B, C, G>,

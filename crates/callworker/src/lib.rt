@@ -1,12 +1,13 @@
-//! What a worker of a connection does: one thread, which answers one call after another.
+//! One worker thread of a connection, which answers one call after another.
 //!
-//! - `worker`: the loops, which wait: from call to call, and from turn to turn of a call.
+//! - `worker`: the loops from call to call and from turn to turn of a call, which wait.
 //! - `pace`: how long a call waits, and when the writer is rung for it.
-//! - `ways`: how a worker is handed its calls, and hands them back; `hired`: a worker in a thread of its own, and its promise.
+//! - `ways`: how a worker is handed its calls, and hands them back; `hired`: a worker in a thread
+//!   of its own, and its promise.
 //! - `jobs`: where a worker waits for its next call.
-//! - `shared`: the connection's lock and bells; `gate`: who says when a call goes on.
+//! - `shared`: the connection's lock and bells; `gate`: when a call may go on.
 //!
-//! What a call is answered is decided by `callrun`, a turn at a time, without waiting.
+//! `callrun` decides what a call is answered, a turn at a time, without waiting.
 #![tactic(auto)]
 
 pub mod gate;

@@ -1,30 +1,32 @@
-//! How a call waits, and when the writer is rung for it.
+//! How long a call waits, and when the writer is rung for it.
 
 use callrun::Turn;
 use std::time::Duration;
 
-/// How long a worker sleeps at most, where all that it waits for rings its bell, before it looks again, in seconds.
+/// How many seconds a worker sleeps at most before it looks again, if all that it waits for rings
+/// its bell.
 pub(crate) const IDLE: u64 = 3600;
 
-/// How many milliseconds a worker waits at most, where the writer has to get what was given, before it looks again.
+/// How many milliseconds a worker waits at most before it looks again, if it waits for the writer
+/// to get what was given.
 pub(crate) const STEP: u64 = 1;
 
-/// How many turns a call goes on before the writer is rung. A short call has come to its end by then, and rings once.
+/// After how many turns of a call the writer is rung. A short call is over by then, and rings once.
 const FEW_TURNS: u32 = 4;
 
 /// How many times the gate may hold a call back.
 const REFUSALS: u32 = 10_000;
 
-/// How a call waits, and when the writer is rung for it.
+/// How long a call waits, and when the writer is rung for it.
 #[derive(Drop)]
 pub(crate) struct Pace {
-    /// How many turns it went on since it had nothing to do.
+    /// How many turns it has gone on since it last had nothing to do.
     turns: u32,
-    /// Whether the writer was rung for all that it did.
+    /// Whether the writer was rung for all that the call did.
     is_told: bool,
-    /// How many bytes came of it, up to the greatest `u64`.
+    /// How many bytes came on the call, up to the greatest `u64`.
     bytes: u64,
-    /// How many times more the gate may hold it back.
+    /// How many more times the gate may hold it back.
     refusals: u32,
 }
 
@@ -38,7 +40,7 @@ impl Pace {
         }
     }
 
-    /// So many bytes came.
+    /// Counts bytes that came.
     pub(crate) fn came(&mut self, bytes: u32) {
         self.bytes = self.bytes.saturating_add(u64::from(bytes));
     }
@@ -48,7 +50,7 @@ impl Pace {
         self.bytes
     }
 
-    /// How many times more the gate may hold the call back.
+    /// How many more times the gate may hold the call back.
     pub(crate) fn refusals(&self) -> u32 {
         self.refusals
     }
@@ -63,14 +65,14 @@ impl Pace {
         self.is_told
     }
 
-    /// A turn went. Whether the writer is to be rung for it at once.
+    /// A turn did something. Answers whether the writer is to be rung for it at once.
     pub(crate) fn went(&mut self) -> bool {
         self.turns = self.turns.saturating_add(1);
         self.is_told = self.turns > FEW_TURNS;
         self.is_told
     }
 
-    /// The call has waited behind such a turn.
+    /// The call has waited after such a turn.
     pub(crate) fn waited(&mut self, turn: Turn) {
         self.is_told = true;
         if turn != Turn::Full {
@@ -79,7 +81,7 @@ impl Pace {
     }
 }
 
-/// How long a call of which so much time is left sleeps at most: not past its deadline.
+/// How long a call with this much time left sleeps at most: not past its deadline.
 pub(crate) fn limit(time_left: Option<u128>) -> Duration {
     let left = u64::try_from(time_left.unwrap_or(u128::MAX)).unwrap_or(u64::MAX);
     Duration::from_secs(IDLE).min(Duration::from_nanos(left))

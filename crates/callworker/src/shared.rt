@@ -14,7 +14,7 @@ pub struct Shared<A: Ledger, B: Ledger, C: Ledger> {
     pub book: Mutex<ConnBook<A, B, C>>,
     /// Rung after each change that the writer is to look at.
     pub writer: Bell,
-    /// Rung where the reader may wait for room, or for a worker.
+    /// Rung for what the reader may wait for: room, or a worker.
     pub reader: Bell,
     /// Whether the writer writes nothing more.
     stopped: AtomicBool,

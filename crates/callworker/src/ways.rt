@@ -1,4 +1,4 @@
-//! How a worker is handed its calls, and hands them back.
+//! The rings through which a worker gets its calls and hands them back.
 
 use callparts::{Answering, DoneIn, Naming, TasksOut};
 

@@ -1,6 +1,7 @@
-//! What a worker does with its calls.
+//! How a worker answers its calls.
 //!
-//! `Worker::work` answers one call after another, and hands each back as soon as it is over: with its ends, and what is known of it.
+//! `Worker::work` answers one call after another, and hands each back, with its ends, as soon as it
+//! is over.
 
 ghost use Rattle.std.specs.Prelude.{◌≡◌, ◌<◌, [], ◌∷◌, ◌++◌, false, length, None, Some};
 ghost use Rattle.lane.specs.End.{of_end};
@@ -10,7 +11,14 @@ ghost use Rattle.rtrb.specs.Ring.{received, sent};
 ghost use Rattle.handlers.specs.Listed.{listed};
 ghost use Rattle.callrun.specs.declared.call.Turn.TheVariants as turn;
 ghost use Rattle.callrun.specs.Sides.{is_open};
-ghost use Rattle.callparts.specs.Workers.{Answers, AnswersAt, IsFreshWork, IsGivenAs, IsKnown, answers_by};
+ghost use Rattle.callparts.specs.Workers.{
+  Answers,
+  AnswersAt,
+  IsFreshWork,
+  IsGivenAs,
+  IsKnown,
+  answers_by,
+};
 ghost use Rattle.callworker.specs.Runs.{EndsAs, GoesOn, IsOneCall, giver_name};
 ghost use Rattle.callworker.specs.Works.{HasHandedBack, IsUnused};
 
@@ -37,12 +45,12 @@ use std::time::{Clock, Duration, Instant};
 #[derive(Drop)]
 pub struct Worker<A: Ledger, B: Ledger, C: Ledger, G: Drop> {
     pub alloc: Global,
-    /// By which it is woken.
+    /// The line that wakes it.
     pub line: Arc<Line>,
     pub shared: Arc<Shared<A, B, C>>,
     pub gate: Arc<G>,
-    /// When the connection began.
-    pub start: Instant,
+    /// When the connection began; nothing where the clock didn't tell.
+    pub start: Option<Instant>,
 }
 
 /// What is left of a call that was answered.
@@ -55,7 +63,8 @@ struct Served {
 }
 
 impl<A: Ledger, B: Ledger, C: Ledger, G: Gate + Drop> Worker<A, B, C, G> {
-    /// Answers one call after another, until no more come, and hands each back.
+    /// Answers one call after another, until no more come. It hands back each call that it took, in
+    /// order.
     pub fn work<J, M, R>(&self, rt: &R, methods: &Methods, ways: Ways<J, M>) -> Ways<J, M>
     where
         J: Naming,
@@ -79,8 +88,9 @@ impl<A: Ledger, B: Ledger, C: Ledger, G: Gate + Drop> Worker<A, B, C, G> {
         unreachable!()
     }
 
-    /// Hands a call back. There is room for it, since the one before it was taken before this one came. Only then the others are rung, so
-    /// that this worker is free by the time that the peer sees the end of the call.
+    /// Hands a call back. There is room for it, since the call before was taken before this one
+    /// came. Only then it rings the other threads, so that this worker is free by the time that the
+    /// peer sees the end of the call.
     fn hand_back<J: Naming, M: Answering>(
         &self,
         rt: &impl Wait,
@@ -140,7 +150,7 @@ impl<A: Ledger, B: Ledger, C: Ledger, G: Gate + Drop> Worker<A, B, C, G> {
         }
     }
 
-    /// The same, without the number.
+    /// Answers a call, without its number.
     fn serve<R: Wait + Clock>(&self, rt: &R, methods: &Methods, work: Work) -> Served
         requires fresh { IsFreshWork work }
         ensures in_name { out_name result.taker.rx ≡ out_name work.taker.rx }
@@ -170,7 +180,7 @@ impl<A: Ledger, B: Ledger, C: Ledger, G: Gate + Drop> Worker<A, B, C, G> {
         self.end(rt, id, run, pace)
     }
 
-    /// Leaves a call of which nothing was taken.
+    /// Leaves a call from which nothing was taken.
     fn pass_over(
         &self,
         rt: &impl Wait,
@@ -193,7 +203,7 @@ impl<A: Ledger, B: Ledger, C: Ledger, G: Gate + Drop> Worker<A, B, C, G> {
         }
     }
 
-    /// Gives the call turns to its end.
+    /// Gives the call turns until its end.
     fn run<R: Wait + Clock>(
         &self,
         rt: &R,
@@ -234,7 +244,8 @@ impl<A: Ledger, B: Ledger, C: Ledger, G: Gate + Drop> Worker<A, B, C, G> {
         }
     }
 
-    /// Gives the call a turn, and waits where there was nothing to do; a call that is no longer live ends. Answers whether it goes on.
+    /// Gives the call a turn, and waits where there was nothing to do. A call that is no longer
+    /// live ends. Answers whether it goes on.
     fn step<R: Wait + Clock>(
         &self,
         rt: &R,
@@ -274,7 +285,8 @@ impl<A: Ledger, B: Ledger, C: Ledger, G: Gate + Drop> Worker<A, B, C, G> {
         }
     }
 
-    /// Gives the call a turn; where that finds no room, another one, once its bell is rung for room.
+    /// Gives the call a turn. One that finds no room is repeated, once the worker has asked to be
+    /// rung for room.
     fn look(&self, methods: &Methods, run: &mut CallRun<InLane, OutLane>, now: u64) -> Turn
         requires index { run.old.index < length (listed methods.now) }
         ensures goes_on { GoesOn (λ m. answers (m.vtable, m.value))
@@ -291,8 +303,8 @@ impl<A: Ledger, B: Ledger, C: Ledger, G: Gate + Drop> Worker<A, B, C, G> {
         run.turn(methods, now)
     }
 
-    /// Returns what was taken, and says whether the call is live still. The writer is rung where something was returned, or
-    /// where it wasn't told yet of what was given.
+    /// Returns the bytes that were taken, and answers whether the call is still live. It rings the
+    /// writer if bytes were returned, or if something was given since the last ring.
     fn is_live(
         &self,
         rt: &impl Wait,
@@ -310,19 +322,20 @@ impl<A: Ledger, B: Ledger, C: Ledger, G: Gate + Drop> Worker<A, B, C, G> {
         let is_live = {
             let mut book = self.shared.book.lock(rt);
             if credit > 0 {
-                // Where the call is no longer live, its bytes were returned already.
+                // The bytes of a call that is no longer live were returned already.
                 let _ = book.give_back(id, credit);
             }
             book.is_live(id)
         };
-        // Only now, so that the writer sees what was returned.
+        // Only now, so that the writer sees the bytes that were returned.
         if credit > 0 || !pace.is_told() {
             self.shared.writer.ring();
         }
         is_live
     }
 
-    /// Leaves a call that is no longer live, unless it was reset: then that is what it is told last.
+    /// Gives a call that is no longer live turns as long as they do something, and then leaves it.
+    /// So a call that was reset ends by that.
     fn give_up<R: Wait + Clock>(
         &self,
         rt: &R,
@@ -376,7 +389,8 @@ impl<A: Ledger, B: Ledger, C: Ledger, G: Gate + Drop> Worker<A, B, C, G> {
         }
     }
 
-    /// Returns what was taken of a call that is over. Its last item was given before. One without trailers is live no more.
+    /// Returns the bytes that were taken of a call that is over, whose last item was given before.
+    /// A call without trailers is cut.
     fn settle(&self, rt: &impl Wait, id: StreamId, credit: u32, has_trailers: bool) {
         let mut book = self.shared.book.lock(rt);
         if credit > 0 {
@@ -387,7 +401,8 @@ impl<A: Ledger, B: Ledger, C: Ledger, G: Gate + Drop> Worker<A, B, C, G> {
         }
     }
 
-    /// The moment, in nanoseconds of the connection. No clock is read for a call without a deadline.
+    /// The moment, in nanoseconds of the connection. No clock is read for a call without a
+    /// deadline.
     fn now(&self, rt: &impl Clock, run: &CallRun<InLane, OutLane>) -> u64 {
         if run.has_deadline() {
             return moment(rt, self.start);
@@ -396,15 +411,20 @@ impl<A: Ledger, B: Ledger, C: Ledger, G: Gate + Drop> Worker<A, B, C, G> {
     }
 }
 
-/// How many nanoseconds there were since the start; the greatest number where the clock doesn't tell.
-pub fn moment(rt: &impl Clock, start: Instant) -> u64 {
+/// How many nanoseconds there were since the start; the greatest number where the clock doesn't
+/// tell, or didn't tell the start. So without a start no deadline of a call comes, but that of a
+/// timeout of 0.
+pub fn moment(rt: &impl Clock, start: Option<Instant>) -> u64 {
+    let Some(start) = start else {
+        return u64::MAX;
+    };
     match start.elapsed(rt) {
         Ok(past) => u64::try_from(past.as_nanos()).unwrap_or(u64::MAX),
         Err(_) => u64::MAX,
     }
 }
 
-/// The giving end once the call is left, where it wasn't answered.
+/// The giving end of a call, which is left if it wasn't answered.
 fn shut_of(end: End<Giver<OutLane>, GivenShut<OutLane>>) -> GivenShut<OutLane>
     ensures name { shut_name result.shut ≡ of_end (λ g. in_name g.tx) (λ s. shut_name s.shut) end }
     ensures given { IsGivenAs (of_end (λ g. put_in g.tx) (λ s. put_shut s.shut) end)

@@ -9,7 +9,8 @@ word_sum [] = 0
 word_sum (high ∷ []) = high * 256
 word_sum (high ∷ (low ∷ rest)) = high * 256 + low + word_sum rest
 
--- A sum of words that aren't all zero is all ones in one's complement: there numbers are the same modulo 65,535.
+-- A sum of words that aren't all zero is all ones in one's complement, where numbers count modulo
+-- 65,535.
 abbrev pub IsAllOnes : ℕ → Type 0
 IsAllOnes sum = sum % 65535 ≡ 0
 
@@ -17,6 +18,7 @@ abbrev pub address_sum : Hosts → ℕ
 address_sum (V4 from to) = word_sum from + word_sum to
 address_sum (V6 from to) = word_sum from + word_sum to
 
--- of a pseudo-header: both addresses, the protocol, and how many bytes a segment has (RFC 9293, section 3.1; RFC 8200, section 8.1)
+-- of a pseudo-header: both addresses, the protocol, and how many bytes a segment has (RFC 9293,
+-- section 3.1; RFC 8200, section 8.1)
 abbrev pub pseudo_sum : Hosts → ℕ → ℕ
 pseudo_sum hosts size = address_sum hosts + 6 + size

@@ -19,7 +19,8 @@ hosts_back (V6 from to) = V6 to from
 
 -- the way back
 abbrev pub back : Path → Path
-back path = record { hosts = hosts_back path.hosts; from_port = path.to_port; to_port = path.from_port }
+back path =
+    record { hosts = hosts_back path.hosts; from_port = path.to_port; to_port = path.from_port }
 
 -- flags of a segment (section 3.1)
 abbrev pub fin_ack : ℕ
@@ -60,7 +61,8 @@ segment_of talk time Server flags payload = record {
   payload = payload;
 }
 
--- A side has sent so many numbers more: one for each byte, for its SYN and for its FIN (section 3.4).
+-- A side has used more sequence numbers: one for each byte, for its SYN and for its FIN (section
+-- 3.4).
 abbrev pub advanced : Conversation → Side → ℕ → Conversation
 advanced talk Client count = record talk { client_next = (talk.client_next + count) % 2 ^ 32 }
 advanced talk Server count = record talk { server_next = (talk.server_next + count) % 2 ^ 32 }
@@ -84,7 +86,8 @@ abbrev pub AreSent : Conversation → Time → Side → List ℕ → List Packet
 AreSent talk time side bytes [] next = (bytes ≡ []) × (next ≡ talk)
 AreSent talk time side bytes (packet ∷ packets) next =
     (0 < length bytes) × (packet ≡ segment_of talk time side psh_ack (take 65000 bytes))
-    × AreSent (advanced talk side (length (take 65000 bytes))) time side (drop 65000 bytes) packets next
+    × AreSent (advanced talk side (length (take 65000 bytes))) time side
+    (drop 65000 bytes) packets next
 
 -- The client closes it, and then the server (section 3.6, figure 12).
 abbrev pub closing : Conversation → Time → List Packet

@@ -9,9 +9,11 @@ be16_at bytes at = from_be_bytes w16 (slice_index bytes at ∷ slice_index bytes
 -- of four bytes, the highest first
 unfoldable pub be32_at : List ℕ → ℕ → ℕ
 be32_at bytes at = from_be_bytes w32
-    (slice_index bytes at ∷ slice_index bytes (at + 1) ∷ slice_index bytes (at + 2) ∷ slice_index bytes (at + 3) ∷ [])
+    (slice_index bytes at ∷ slice_index bytes (at + 1) ∷ slice_index bytes (at + 2)
+    ∷ slice_index bytes (at + 3) ∷ [])
 
 -- of four bytes, the lowest first
 unfoldable pub le32_at : List ℕ → ℕ → ℕ
 le32_at bytes at = from_le_bytes w32
-    (slice_index bytes at ∷ slice_index bytes (at + 1) ∷ slice_index bytes (at + 2) ∷ slice_index bytes (at + 3) ∷ [])
+    (slice_index bytes at ∷ slice_index bytes (at + 1) ∷ slice_index bytes (at + 2)
+    ∷ slice_index bytes (at + 3) ∷ [])

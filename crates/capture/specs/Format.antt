@@ -1,6 +1,22 @@
--- A capture file as libpcap writes it (pcap-savefile), whose packets are IPv4 (RFC 791) or IPv6 (RFC 8200) with a segment of TCP
--- (RFC 9293).
-use Rattle.std.specs.Prelude.{◌≡◌, ℕ, ◌+◌, ◌/◌, ◌%◌, ◌^◌, ◌≤◌, List, [], ◌∷◌, ◌++◌, length, take, drop, slice_index}
+-- A capture file as libpcap writes it (pcap-savefile), whose packets are IPv4 (RFC 791) or IPv6
+-- (RFC 8200) with a segment of TCP (RFC 9293).
+use Rattle.std.specs.Prelude.{
+  ◌≡◌,
+  ℕ,
+  ◌+◌,
+  ◌/◌,
+  ◌%◌,
+  ◌^◌,
+  ◌≤◌,
+  List,
+  [],
+  ◌∷◌,
+  ◌++◌,
+  length,
+  take,
+  drop,
+  slice_index,
+}
 use Rattle.capture.specs.declared.packet.Hosts.{Hosts}
 use Rattle.capture.specs.declared.packet.Hosts.TheVariants.{V4, V6}
 use Rattle.capture.specs.declared.packet.Packet.{Packet}
@@ -88,4 +104,5 @@ AreRecords text (packet ∷ packets) =
 
 -- a file with these packets
 abbrev pub IsCapture : List ℕ → List Packet → Type 0
-IsCapture bytes packets = (head rest : List ℕ) × (bytes ≡ head ++ rest) × IsFileHead head × AreRecords rest packets
+IsCapture bytes packets =
+    (head rest : List ℕ) × (bytes ≡ head ++ rest) × IsFileHead head × AreRecords rest packets

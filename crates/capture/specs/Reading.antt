@@ -6,7 +6,8 @@ use Rattle.capture.specs.Format.{IsRecord}
 
 -- a record of as many bytes as its head says
 abbrev pub HasItsSize : List ℕ → Type 0
-HasItsSize record_text = (16 ≤ length record_text) × (le32_at record_text 8 + 16 ≡ length record_text)
+HasItsSize record_text =
+    (16 ≤ length record_text) × (le32_at record_text 8 + 16 ≡ length record_text)
 
 -- The bytes begin with the record of the packet.
 abbrev pub StartsWith : List ℕ → Packet → List ℕ → Type 0

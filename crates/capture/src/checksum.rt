@@ -21,7 +21,8 @@ pub(crate) fn word_sum(bytes: &[u8]) -> u64
     sum
 }
 
-/// The word that makes a sum of words all ones: 0 where it is so already, and not its other zero (RFC 1624, section 3).
+/// The word that makes a sum of words all ones: 0 where it is so already, and not its other zero
+/// (RFC 1624, section 3).
 pub(crate) fn checksum(sum: u64) -> u16
     ensures ones { IsAllOnes (sum + result) }
     ensures zero { result < 65535 }

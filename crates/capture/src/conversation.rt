@@ -1,8 +1,34 @@
 //! A connection of TCP whose sides sent bytes, as the records of a capture.
 
-ghost use Rattle.std.specs.Prelude.{◌≡◌, ◌+◌, ◌%◌, ◌^◌, ◌<◌, ◌≤◌, ◌++◌, List, [], length, take, drop, Some, IsNone, IfOk, OnErr};
+ghost use Rattle.std.specs.Prelude.{
+  ◌≡◌,
+  ◌+◌,
+  ◌%◌,
+  ◌^◌,
+  ◌<◌,
+  ◌≤◌,
+  ◌++◌,
+  List,
+  [],
+  length,
+  take,
+  drop,
+  Some,
+  IsNone,
+  IfOk,
+  OnErr,
+};
 ghost use Rattle.capture.specs.declared.packet.Packet.{Packet as PacketOf};
-ghost use Rattle.capture.specs.Conversations.{AreSent, advanced, back, closing, opened, opening, other_side, segment_of};
+ghost use Rattle.capture.specs.Conversations.{
+  AreSent,
+  advanced,
+  back,
+  closing,
+  opened,
+  opening,
+  other_side,
+  segment_of,
+};
 ghost use Rattle.capture.specs.Format.{AreRecords, IsRecord};
 ghost use Rattle.capture.specs.declared.conversation.Side.TheVariants as sides;
 
@@ -61,8 +87,9 @@ pub struct Conversation {
 }
 
 impl Conversation {
-    /// The client opens it: three records of segments without bytes. Its numbers begin with `number`, by which readers of a capture know
-    /// the connection from an earlier one between the same ports.
+    /// The client opens it: three records of segments without bytes. Its sequence numbers begin
+    /// with `number`, by which readers of a capture distinguish the connection from an earlier one
+    /// between these ports.
     pub fn open(
         alloc: Global,
         path: Path,
@@ -158,7 +185,7 @@ impl Conversation {
         record_of(alloc, time, head, payload)
     }
 
-    /// A side has sent so many bytes more, or SYN, or FIN.
+    /// A side has sent `count` more bytes, or SYN, or FIN.
     fn advanced(&self, side: Side, count: usize) -> Conversation
         requires { count < 2 ^ 32 }
         ensures { result ≡ advanced self.now side count }
@@ -172,7 +199,8 @@ impl Conversation {
     }
 }
 
-/// Which side of the connection with this path, from its client to its server, sent a packet, if one did.
+/// Which side of the connection with this path, from its client to its server, sent a packet, if
+/// one did.
 pub fn side_of(path: &Path, packet: &Packet) -> Option<Side>
     ensures client { result ≡ Some sides.Client → packet.now.head.path ≡ path.now }
     ensures server { result ≡ Some sides.Server → packet.now.head.path ≡ back path.now }
@@ -198,7 +226,7 @@ fn three(first: Vec<u8>, second: Vec<u8>, third: Vec<u8>) -> Result<Vec<u8>, All
     Ok(text)
 }
 
-/// The first 65,000 bytes, or all where there are fewer, and what is behind them.
+/// The first 65,000 bytes, or all if there are fewer, and what follows them.
 fn parted(bytes: &[u8]) -> (&[u8], &[u8])
     ensures front { result.0.now ≡ take 65000 bytes.now }
     ensures behind { result.1.now ≡ drop 65000 bytes.now }

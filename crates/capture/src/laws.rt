@@ -1,4 +1,4 @@
-//! What is read of what was written, for callers. None of them does anything.
+//! Laws of reading back what was written, for callers. The functions do nothing.
 
 ghost use Rattle.std.specs.Prelude.{◌≡◌, ℕ, List, ◌++◌};
 ghost use Rattle.capture.specs.declared.packet.Packet.{Packet as PacketOf};

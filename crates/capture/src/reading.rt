@@ -1,12 +1,39 @@
 //! Reading a capture.
 
-ghost use Rattle.std.specs.Prelude.{◌≡◌, ◌↔◌, ◌<◌, ◌^◌, ◌++◌, ◌⊎◌, ℕ, List, length, IfOk, IfErr, IfSome, IfNone, IsTrue, MatchResult};
+ghost use Rattle.std.specs.Prelude.{
+  ◌≡◌,
+  ◌↔◌,
+  ◌<◌,
+  ◌^◌,
+  ◌++◌,
+  ◌⊎◌,
+  ℕ,
+  List,
+  length,
+  IfOk,
+  IfErr,
+  IfSome,
+  IfNone,
+  IsTrue,
+  MatchResult,
+};
 ghost use Rattle.capture.specs.declared.packet.Hosts.{Hosts as HostsOf};
 ghost use Rattle.capture.specs.declared.reading.CaptureFault.TheVariants.{OutOfMemory};
 ghost use Rattle.capture.specs.declared.packet.Packet.{Packet as PacketOf};
 ghost use Rattle.capture.specs.declared.packet.SegmentHead.{SegmentHead as SegmentHeadOf};
 ghost use Rattle.capture.specs.Reading.{HasItsSize, StartsNone, StartsWith};
-ghost use Rattle.capture.specs.Format.{AreRecords, Carries, IsCapture, IsRecord, IsPacket, IsV4, IsV6, IsChecked, IsSegment, IsFileHead};
+ghost use Rattle.capture.specs.Format.{
+  AreRecords,
+  Carries,
+  IsCapture,
+  IsRecord,
+  IsPacket,
+  IsV4,
+  IsV6,
+  IsChecked,
+  IsSegment,
+  IsFileHead,
+};
 
 use crate::checksum::{is_all_ones, word_sum};
 use crate::fields::{be16_at, be32_at, le32_at, v4_address, v6_address};
@@ -16,7 +43,8 @@ use bytes::Bytes;
 use std::alloc::{AllocError, AllocFailed, Global};
 use thiserror::Error;
 
-/// The bytes before a file's first record, before a record's packet, before the segment in a packet of either version, and before a segment's payload.
+/// The bytes before a file's first record, before a record's packet, before the segment in a packet
+/// of either version, and before a segment's payload.
 const FILE_HEAD: usize = 24;
 
 const RECORD_HEAD: usize = 16;
@@ -108,7 +136,7 @@ fn packets_of(alloc: Global, records: &[u8]) -> Result<Vec<Packet>, CaptureFault
     Ok(packets)
 }
 
-/// The packet of the first record, at this byte, and what is behind that.
+/// The packet of the first record, at this byte, and what follows it.
 fn first_packet(alloc: Global, at: usize, bytes: &[u8]) -> Result<(Packet, &[u8]), CaptureFault>
     ensures ok { IfOk result (λ taken. StartsWith bytes.now taken.0 taken.1.now) }
     ensures err { IfErr result (λ fault. (fault ≡ OutOfMemory) ⊎ StartsNone bytes.now) }
@@ -130,7 +158,7 @@ fn first_packet(alloc: Global, at: usize, bytes: &[u8]) -> Result<(Packet, &[u8]
     }
 }
 
-/// As many bytes as the first record has, and what is behind it.
+/// The bytes of the first record, and what follows it.
 fn first_record(bytes: &[u8]) -> Option<(&[u8], &[u8])>
     ensures some { IfSome result (λ pair. (bytes.now ≡ pair.0.now ++ pair.1.now)
         × HasItsSize pair.0.now) }
@@ -180,7 +208,8 @@ fn carried(packet: &[u8]) -> Option<(SegmentHead, &[u8])>
     }
 }
 
-/// The head of this segment of a packet between these hosts, and its payload, where the checksum is right.
+/// The head of this segment of a packet between these hosts, and its payload, where the checksum is
+/// right.
 fn checked_parts<'s>(
     packet: &[u8],
     hosts: Hosts,
@@ -230,7 +259,8 @@ fn packet_parts(packet: &[u8]) -> Option<(Hosts, &[u8])>
 fn v4_parts(packet: &[u8]) -> Option<(Hosts, &[u8])>
     ensures some { IfSome result (λ parts. IsPacket packet.now parts.0 parts.1.now) }
     ensures short { IfSome result (λ parts. length parts.1.now < 2 ^ 16) }
-    ensures none { IfNone result ((from to segment : List ℕ) → IsV4 packet.now from to segment → ⊥) }
+    ensures none { IfNone result
+        ((from to segment : List ℕ) → IsV4 packet.now from to segment → ⊥) }
 {
     if packet.len() < V4_HEAD || packet[0] != 0x45 || packet[9] != TCP {
         return None;
@@ -251,7 +281,8 @@ fn v4_parts(packet: &[u8]) -> Option<(Hosts, &[u8])>
 fn v6_parts(packet: &[u8]) -> Option<(Hosts, &[u8])>
     ensures some { IfSome result (λ parts. IsPacket packet.now parts.0 parts.1.now) }
     ensures short { IfSome result (λ parts. length parts.1.now < 2 ^ 16) }
-    ensures none { IfNone result ((from to segment : List ℕ) → IsV6 packet.now from to segment → ⊥) }
+    ensures none { IfNone result
+        ((from to segment : List ℕ) → IsV6 packet.now from to segment → ⊥) }
 {
     if packet.len() < V6_HEAD || packet[0] / 16 != 6 || packet[6] != TCP {
         return None;

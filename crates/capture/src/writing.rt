@@ -2,7 +2,15 @@
 
 ghost use Rattle.std.specs.Prelude.{◌≡◌, ◌+◌, ◌<◌, ◌≤◌, ◌^◌, ◌++◌, length, IfOk};
 ghost use Rattle.capture.specs.Checksum.{pseudo_sum};
-ghost use Rattle.capture.specs.Format.{IsFileHead, IsRecord, IsPacket, IsV4, IsV6, IsSegment, IsChecked};
+ghost use Rattle.capture.specs.Format.{
+  IsFileHead,
+  IsRecord,
+  IsPacket,
+  IsV4,
+  IsV6,
+  IsSegment,
+  IsChecked,
+};
 ghost use Rattle.capture.specs.Writing.{segment_head, v4_head, v6_head, record_head};
 
 use crate::checksum::{checksum, word_sum};
@@ -12,8 +20,8 @@ use std::alloc::{AllocError, Global};
 /// The most bytes of a payload, so that the lengths of packets fit their fields.
 pub const MOST_PAYLOAD: usize = 65_000;
 
-/// What a file begins with: the magic number, the version, two unused fields, the most bytes that are kept of a packet, and that packets
-/// begin with the head of IP.
+/// What a file begins with: the magic number, the version, two unused fields, the most bytes that
+/// are kept of a packet, and that packets begin with the head of IP.
 #[tactic(auto, unfolding(crate::specs::Fields::le32_at))]
 pub fn file_head() -> [u8; 24]
     ensures { IsFileHead result }

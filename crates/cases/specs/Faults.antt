@@ -1,7 +1,17 @@
 -- The numbers by which the faults are known outside.
 use Rattle.std.specs.Prelude.{ℕ}
 use Rattle.cases.specs.declared.fault.CaseFault.{CaseFault}
-use Rattle.cases.specs.declared.fault.CaseFault.TheVariants.{Connection, WrongStatus, WrongReply, WrongMetadata, UnknownCase, StreamFailed, OutOfMemory, OwnBound, TooSlow}
+use Rattle.cases.specs.declared.fault.CaseFault.TheVariants.{
+  Connection,
+  WrongStatus,
+  WrongReply,
+  WrongMetadata,
+  UnknownCase,
+  StreamFailed,
+  OutOfMemory,
+  OwnBound,
+  TooSlow,
+}
 use Rattle.cases.specs.declared.fault.Fault.{Fault}
 use Rattle.cases.specs.declared.fault.Fault.TheVariants as fault
 

@@ -1,4 +1,5 @@
--- Kinds and flags of frames that can be written: of a known kind, not padded, without priority (RFC 9113, section 6).
+-- Kinds and flags of frames that can be written: of a known kind, not padded, without priority (RFC
+-- 9113, section 6).
 use Rattle.std.specs.Prelude.{◌≡◌, false}
 use Rattle.h2frame.specs.declared.kind.FrameKind.{FrameKind}
 use Rattle.h2frame.specs.declared.flags.Flags.{Flags}

@@ -4,9 +4,23 @@ use Rattle.lists.specs.declared.field.Field.{Field}
 use Rattle.callhead.specs.Fields.{field_of}
 use Rattle.callhead.specs.RequestFields.{request_fields}
 use Rattle.cases.specs.declared.method.Method.{Method}
-use Rattle.cases.specs.declared.method.Method.TheVariants.{EmptyCall, UnaryCall, CacheableUnaryCall, StreamingOutputCall, StreamingInputCall, FullDuplexCall, UnimplementedCall, UnimplementedService}
+use Rattle.cases.specs.declared.method.Method.TheVariants.{
+  EmptyCall,
+  UnaryCall,
+  CacheableUnaryCall,
+  StreamingOutputCall,
+  StreamingInputCall,
+  FullDuplexCall,
+  UnimplementedCall,
+  UnimplementedService,
+}
 use Rattle.cases.specs.declared.method.Asked.{Asked}
-use Rattle.cases.specs.declared.method.Asked.TheVariants.{Nothing, Echoes, OneMillisecond, UserAddress}
+use Rattle.cases.specs.declared.method.Asked.TheVariants.{
+  Nothing,
+  Echoes,
+  OneMillisecond,
+  UserAddress,
+}
 
 abbrev pub path_of : Method → List ℕ
 path_of EmptyCall = codes "/grpc.testing.TestService/EmptyCall"
@@ -20,6 +34,10 @@ path_of UnimplementedService = codes "/grpc.testing.UnimplementedService/Unimple
 
 abbrev pub fields_of : Method → Asked → List Field
 fields_of method Nothing = request_fields (path_of method) None [] []
-fields_of method Echoes = request_fields (path_of method) None (codes "test_initial_metadata_value" ∷ []) ((0xAB ∷ 0xAB ∷ 0xAB ∷ []) ∷ [])
+fields_of method Echoes =
+    request_fields (path_of method) None (codes "test_initial_metadata_value" ∷ [])
+    ((0xAB ∷ 0xAB ∷ 0xAB ∷ []) ∷ [])
 fields_of method OneMillisecond = request_fields (path_of method) (Some (codes "1m")) [] []
-fields_of method UserAddress = request_fields (path_of method) None [] [] ++ field_of (codes "x-user-ip") (codes "1.2.3.4") ∷ []
+fields_of method UserAddress =
+    request_fields (path_of method) None [] []
+    ++ field_of (codes "x-user-ip") (codes "1.2.3.4") ∷ []

@@ -1,7 +1,23 @@
 -- The names of the cases and of the soaks: gRPC, "Interoperability Test Case Descriptions".
 use Rattle.std.specs.Prelude.{◌≢◌, ℕ, List, codes}
 use Rattle.cases.specs.declared.case.Case.{Case}
-use Rattle.cases.specs.declared.case.Case.TheVariants.{EmptyUnary, LargeUnary, ClientStreaming, ServerStreaming, PingPong, EmptyStream, CustomMetadata, StatusCodeAndMessage, SpecialStatusMessage, UnimplementedMethod, UnimplementedService, CancelAfterBegin, CancelAfterFirstResponse, TimeoutOnSleepingServer, CacheableUnary}
+use Rattle.cases.specs.declared.case.Case.TheVariants.{
+  EmptyUnary,
+  LargeUnary,
+  ClientStreaming,
+  ServerStreaming,
+  PingPong,
+  EmptyStream,
+  CustomMetadata,
+  StatusCodeAndMessage,
+  SpecialStatusMessage,
+  UnimplementedMethod,
+  UnimplementedService,
+  CancelAfterBegin,
+  CancelAfterFirstResponse,
+  TimeoutOnSleepingServer,
+  CacheableUnary,
+}
 use Rattle.cases.specs.declared.soak.Soak.{Soak}
 use Rattle.cases.specs.declared.soak.Soak.TheVariants.{Rpc, Channel}
 

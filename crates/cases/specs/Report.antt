@@ -5,14 +5,33 @@ use Rattle.std.specs.Fmt.{decimal}
 use Rattle.cases.specs.Faults.{code_of}
 use Rattle.cases.specs.Names.{name_of}
 use Rattle.cases.specs.declared.case.Case.{Case}
-use Rattle.cases.specs.declared.case.Case.TheVariants.{EmptyUnary, LargeUnary, ClientStreaming, ServerStreaming, PingPong, EmptyStream, CustomMetadata, StatusCodeAndMessage, SpecialStatusMessage, UnimplementedMethod, UnimplementedService, CancelAfterBegin, CancelAfterFirstResponse, TimeoutOnSleepingServer, CacheableUnary}
+use Rattle.cases.specs.declared.case.Case.TheVariants.{
+  EmptyUnary,
+  LargeUnary,
+  ClientStreaming,
+  ServerStreaming,
+  PingPong,
+  EmptyStream,
+  CustomMetadata,
+  StatusCodeAndMessage,
+  SpecialStatusMessage,
+  UnimplementedMethod,
+  UnimplementedService,
+  CancelAfterBegin,
+  CancelAfterFirstResponse,
+  TimeoutOnSleepingServer,
+  CacheableUnary,
+}
 use Rattle.cases.specs.declared.fault.CaseFault.{CaseFault}
 use Rattle.cases.specs.declared.report.Outcome.{Outcome}
 
 -- the fourteen cases, in the order in which they are run
 abbrev pub all_cases : List Case
-all_cases = EmptyUnary ∷ LargeUnary ∷ ClientStreaming ∷ ServerStreaming ∷ PingPong ∷ EmptyStream ∷ CustomMetadata
-    ∷ StatusCodeAndMessage ∷ SpecialStatusMessage ∷ UnimplementedMethod ∷ UnimplementedService ∷ CancelAfterBegin
+all_cases =
+    EmptyUnary ∷ LargeUnary ∷ ClientStreaming ∷ ServerStreaming ∷ PingPong
+    ∷ EmptyStream ∷ CustomMetadata
+    ∷ StatusCodeAndMessage ∷ SpecialStatusMessage ∷ UnimplementedMethod ∷ UnimplementedService
+    ∷ CancelAfterBegin
     ∷ CancelAfterFirstResponse ∷ TimeoutOnSleepingServer ∷ []
 
 -- the cases that have a name: those, and one that is run by its name alone

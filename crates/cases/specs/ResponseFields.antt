@@ -1,11 +1,18 @@
--- Which fields are no response: RFC 9113, sections 8.1, 8.2 and 8.3.2; and which begin one of gRPC: gRPC over HTTP/2,
--- "Responses". Names, values and fields of one connection are judged as those of requests are.
+-- Which fields are no response: RFC 9113, sections 8.1, 8.2 and 8.3.2; and which begin one of gRPC:
+-- gRPC over HTTP/2, "Responses". Names, values and fields of one connection are judged as those of
+-- requests are.
 use Rattle.std.specs.Prelude.{◌≡◌, ◌==◌, Bool, not, ◌&&◌, ◌||◌, List, count_by, Some, codes}
 use Rattle.std.specs.List.{list_any}
 use Rattle.lists.specs.declared.field.Field.{Field}
 use Rattle.callhead.specs.Fields.{is_named, first_of}
 use Rattle.callhead.specs.Heads.{IsGrpc}
-use Rattle.callhead.specs.MalformedHeads.{has_bad_name, has_bad_value, is_connection_specific, is_pseudo_header, has_late_pseudo_header}
+use Rattle.callhead.specs.MalformedHeads.{
+  has_bad_name,
+  has_bad_value,
+  is_connection_specific,
+  is_pseudo_header,
+  has_late_pseudo_header,
+}
 
 -- `te` speaks of one connection too, and a request alone may have it (section 8.2.2)
 abbrev pub is_specific : Field → Bool
@@ -23,11 +30,13 @@ has_one_status fields = count_by (is_named (codes ":status")) fields == 1
 
 unfoldable pub is_malformed_head : List Field → Bool
 is_malformed_head fields =
-    list_any is_malformed_field fields || list_any is_unknown fields || has_late_pseudo_header fields || not (has_one_status fields)
+    list_any is_malformed_field fields || list_any is_unknown fields
+    || has_late_pseudo_header fields || not (has_one_status fields)
 
 -- trailers have no pseudo-headers (section 8.1)
 unfoldable pub are_malformed_trailers : List Field → Bool
-are_malformed_trailers fields = list_any is_malformed_field fields || list_any is_pseudo_header fields
+are_malformed_trailers fields =
+    list_any is_malformed_field fields || list_any is_pseudo_header fields
 
 -- `:status` is 200, and the content type begins with `application/grpc`
 pub record IsGrpcHead (fields : List Field) : Type 0 where

@@ -68,7 +68,7 @@ impl Call {
         })
     }
 
-    /// Sends a message; nothing is sent behind the last one.
+    /// Sends a message; nothing is sent after the last one.
     pub fn send<S: Line>(
         &self,
         connection: &mut Connection<S>,
@@ -98,8 +98,8 @@ impl Call {
         connection.leave(self.stream)
     }
 
-    /// Reads for so many milliseconds at most, until the response has ended, and answers whether it
-    /// has.
+    /// Reads until the response has ended, for a number of milliseconds at most, and answers
+    /// whether it has.
     pub fn ends_within<S: Line>(
         &self,
         connection: &mut Connection<S>,
@@ -136,7 +136,8 @@ impl Call {
         Ok(None)
     }
 
-    /// What is wrong with the next reply's prefix, or with where the stream ended. A flag stands in the last piece.
+    /// What is wrong with the next reply's prefix, or with where the stream ended. A flag stands in
+    /// the last piece.
     fn framing(&self, fault: LpmFault) -> Fault {
         let at = self.piece.len().saturating_sub(self.waiting);
         let flag = self.piece.as_slice().get(at).copied().unwrap_or(0);

@@ -1,8 +1,7 @@
 //! The client's side of a connection: what it writes, and what it waits for (RFC 9113).
 //!
 //! Reads and writes of the device fail once the case's time is over (`line`): so each wait ends,
-//! whatever the server sends.
-//! What the server's frames come to stands in `incoming`.
+//! whatever the server sends. `incoming` has what the server's frames mean.
 
 ghost use Rattle.std.specs.Prelude.{◌≡◌, ◌<◌, ◌≤◌, ◌^◌, length, IfOk, IfSome};
 
@@ -163,7 +162,7 @@ impl<S: Line> Connection<S> {
         self.write(Outgoing::Headers, stream, Bytes::from_vec(block)?)
     }
 
-    /// Writes bytes as DATA, as the windows let them through; nothing is said behind the last ones.
+    /// Writes bytes as DATA, as the windows let them through; nothing is said after the last ones.
     /// What a server no longer takes isn't sent: it may end a call before it has all of the request
     /// (section 8.1).
     pub fn send(&mut self, stream: StreamId, bytes: &[u8], last: bool) -> Result<(), Fault>
@@ -245,7 +244,8 @@ impl<S: Line> Connection<S> {
         self.write(Outgoing::Reset, stream, content)
     }
 
-    /// Waits until a PING was answered that is sent now: until then the server has read all that was written.
+    /// Waits until a PING was answered that is sent now: until then the server has read all that
+    /// was written.
     pub fn ping(&mut self) -> Result<(), Fault> {
         self.wait_for_answer()?;
         self.ask()?;
@@ -330,8 +330,9 @@ impl<S: Line> Connection<S> {
         Err(self.silence(Silence::Stalled, Progress::NONE))
     }
 
-    /// Reads on until a PING was answered: nothing more may come on the streams that have ended; and until the client's
-    /// SETTINGS were acknowledged, for which the server has the whole time of the case. It may end the connection meanwhile.
+    /// Reads on until a PING was answered: nothing more may come on the streams that have ended;
+    /// and until the client's SETTINGS were acknowledged, for which the server has the whole time
+    /// of the case. It may end the connection meanwhile.
     pub fn finish(&mut self) -> Result<(), Fault> {
         match self.settle() {
             Err(Fault::Silence(silence)) if silence.is_end() => match self.cause_of(silence) {
@@ -356,8 +357,8 @@ impl<S: Line> Connection<S> {
         Err(Fault::Violation(Violation::SettingsUnacknowledged))
     }
 
-    /// Reads for so many milliseconds at most, until the server has ended its half of a stream, and
-    /// answers whether it has.
+    /// Reads until the server has ended its half of a stream, for a number of milliseconds at most,
+    /// and answers whether it has.
     pub fn ends_within(&mut self, stream: StreamId, milliseconds: u64) -> Result<bool, Fault> {
         let until = self.device.pace().spent.saturating_add(milliseconds);
         for _ in 0..u64::MAX {
@@ -374,7 +375,8 @@ impl<S: Line> Connection<S> {
         Ok(false)
     }
 
-    /// What the server said before a write failed, where that is why: GOAWAY with an error, or what broke a rule.
+    /// What the server said before a write failed, where that is why: GOAWAY with an error, or what
+    /// broke a rule.
     pub fn cause_of(&mut self, unwritten: SilenceFault) -> Fault {
         for _ in 0..u64::MAX {
             match self.read_frame() {
@@ -429,7 +431,8 @@ impl<S: Line> Connection<S> {
         })
     }
 
-    /// What is missing. That SETTINGS never came, or that a PING isn't acknowledged, goes before what a response lacks.
+    /// What is missing. That SETTINGS never came, or that a PING isn't acknowledged, goes before
+    /// what a response lacks.
     fn missing(&self, how: Silence) -> Awaited {
         match self.awaited {
             Awaited::Head(_) | Awaited::Trailers(_, _) | Awaited::Ping if !self.has_begun => {

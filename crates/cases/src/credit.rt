@@ -1,11 +1,12 @@
-//! What the server may send: the windows of what is received, and when they are opened again (RFC 9113, sections 5.2 and
-//! 6.9).
+//! What the server may send: the windows of what is received, and when they are opened again (RFC
+//! 9113, sections 5.2 and 6.9).
 //!
-//! A client that gives credit for each DATA frame at once can't see that a server goes past its windows. So this one lets
-//! the windows run low, and then asks by PING whether the server stops: once the acknowledgement came with no DATA
-//! before it, or nothing of the window is left, the server has. Of the two windows one is opened then, and the other only
-//! once the server is seen to stop still: so each of them is seen to hold by itself, the stream's and the connection's by
-//! turns.
+//! A client that gives credit for each DATA frame at once can't see that a server goes past its
+//! windows. So this one lets the windows run low, and then asks by PING whether the server stops.
+//! The server has stopped once the acknowledgement came with no DATA before it, or nothing of the
+//! window is left. Then the client opens one of the two windows, and the other only once it sees
+//! that the server still stops. So it sees each window hold by itself, the stream's and the
+//! connection's alternately.
 //!
 //! What takes so long is no time of the server's. Where the time of calls is asked for, both
 //! windows are opened as DATA come (`Windows::Open`), and that they are kept is seen only where the
@@ -21,24 +22,25 @@ use h2frame::{MAX_PAYLOAD, StreamId};
 use std::alloc::Global;
 use std::fmt;
 
-/// Below so many bytes a window that isn't held is opened.
+/// A window that isn't held is opened once it is below this many bytes.
 const LOW: u32 = 49_152;
 
 /// A rule on windows that the server broke.
 #[derive(Clone, Copy)]
 pub enum WindowViolation {
-    /// DATA of so many bytes on a stream whose window has so many left.
+    /// DATA on a stream whose window has fewer bytes left.
     Stream {
         stream: StreamId,
         length: u32,
         window: u32,
     },
-    /// DATA of so many bytes, where the connection's window has so many left.
+    /// DATA where the connection's window has fewer bytes left.
     Connection {
         length: u32,
         window: u32,
     },
-    /// WINDOW_UPDATE takes the window of a stream, or that of the connection where it is 0, past the greatest one.
+    /// WINDOW_UPDATE takes the window of a stream, or that of the connection where it is 0, past
+    /// the greatest one.
     Overflow {
         stream: StreamId,
         increment: u32,
@@ -79,8 +81,9 @@ struct Question {
     has_gone_on: bool,
     /// Whether one of the windows was opened already.
     is_half_open: bool,
-    /// Whether it was asked twice of windows that were the same. It is so once at most: a server may count PINGs that
-    /// come while it sends nothing, and end the connection (grpc C++ does).
+    /// Whether the client asked twice while the windows didn't change. It does so at most once: a
+    /// server may count PINGs that come while it sends nothing, and end the connection (grpc C++
+    /// does).
     is_asked_twice: bool,
 }
 
@@ -105,7 +108,8 @@ impl Credit {
         }
     }
 
-    /// The client opens a stream. There is no answer where its number isn't odd, or isn't above those before it.
+    /// The client opens a stream. There is no answer where its number isn't odd, or isn't above
+    /// those before it.
     pub fn open(&mut self, stream: StreamId) -> Result<bool, BookFault> {
         if stream % 2 == 1 && stream > self.book.last() {
             self.book.admit(stream)?;
@@ -125,8 +129,8 @@ impl Credit {
         let _done = self.book.end_remote(stream);
     }
 
-    /// Counts bytes of DATA that came on a stream, which are taken at once. Those of a stream that the client has reset
-    /// count on the connection alone.
+    /// Counts bytes of DATA that came on a stream, which are taken at once. Those of a stream that
+    /// the client has reset count on the connection alone.
     pub fn receive(&mut self, stream: StreamId, length: u32) -> Result<(), WindowViolation>
         ensures stream { OnOk result
             (IsSome (call_at self.old.book stream) → length ≤ window_of self.old.book stream) }
@@ -150,14 +154,16 @@ impl Credit {
         Ok(())
     }
 
-    /// Counts bytes that fit the windows, on a live stream and the connection, or on the connection alone.
+    /// Counts bytes that fit the windows, on a live stream and the connection, or on the connection
+    /// alone.
     fn count(&mut self, id: StreamId, length: u32) {
         if self.book.receive(id, length).is_ok() {
             let _given = self.book.give_back(id, length);
         }
     }
 
-    /// How many bytes the server may still send on a stream, or on the connection where the stream was reset.
+    /// How many bytes the server may still send on a stream, or on the connection where the stream
+    /// was reset.
     fn left(&self, stream: StreamId) -> u32 {
         match self.book.marks(stream) {
             Some(_) => self.book.window(0).min(self.book.window(stream)),
@@ -206,7 +212,8 @@ impl Credit {
             });
             return Step::Ask;
         }
-        // The acknowledgement of a PING may overtake DATA (RFC 9113, section 6.7): a second one then comes behind it.
+        // The acknowledgement of a PING may overtake DATA (RFC 9113, section 6.7): a second PING's
+        // then comes after them.
         if question.is_half_open && !question.is_asked_twice {
             self.question = Some(Question {
                 has_gone_on: false,
@@ -228,8 +235,8 @@ impl Credit {
         Step::OpenOne(first)
     }
 
-    /// Opens the window of a stream, or that of the connection where it is 0, and answers by how much: the increment of
-    /// the WINDOW_UPDATE that is due.
+    /// Opens the window of a stream, or that of the connection where it is 0, and answers by how
+    /// much: the increment of the WINDOW_UPDATE that is due.
     pub fn announce(&mut self, stream: StreamId) -> u32 {
         self.book.announce(stream)
     }

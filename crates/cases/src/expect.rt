@@ -41,7 +41,8 @@ fn is_wanted(said: &str, text: Option<&str>) -> bool {
     }
 }
 
-/// The replies are as many as these lengths, and the body of each has its length and zero bytes alone.
+/// There is one reply for each of these lengths, and the body of each has its length and only zero
+/// bytes.
 pub fn expect_bodies(alloc: Global, replies: &[Bytes], lengths: &[usize]) -> Result<(), Fault> {
     expect_count(replies, lengths.len())?;
     for (place, (reply, wanted)) in replies.iter().zip(lengths).enumerate() {
@@ -109,7 +110,7 @@ pub fn expect_response(alloc: Global, replies: &[Bytes]) -> Result<(), Fault> {
     Ok(())
 }
 
-/// There are so many replies.
+/// There are `wanted` replies.
 pub fn expect_count(replies: &[Bytes], wanted: usize) -> Result<(), Fault> {
     let came = replies.len();
     if came == wanted {

@@ -1,4 +1,4 @@
-//! Why a run failed, for whoever prints it.
+//! Why a run failed, in a form to print.
 
 ghost use Rattle.std.specs.Prelude.{◌≡◌};
 ghost use Rattle.cases.specs.Faults.{number_of};
@@ -10,7 +10,7 @@ use std::alloc::Global;
 /// Why a run failed.
 #[derive(Drop)]
 pub struct Failure {
-    /// What tells it apart for programs.
+    /// The fault, by which programs know it.
     pub fault: CaseFault,
     /// What came, what was wanted, and the section of the standard, in a line without its end. It
     /// is cut where there is no memory for it.
@@ -52,7 +52,7 @@ impl Failure {
         ensures { result.fault ≡ number_of fault.now }
     {
         let mut note = String::new(alloc);
-        // The number tells of the fault even where there is no memory for its line.
+        // The number reports the fault even if there is no memory for its line.
         let _written = write!(note, "{fault}");
         Failure {
             fault: fault.case_fault(),

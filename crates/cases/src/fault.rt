@@ -19,7 +19,8 @@ use std::fmt;
 /// Why a case fails, as programs tell it apart by its number.
 #[derive(Clone, Copy, Debug, PartialEq, Eq)]
 pub enum CaseFault {
-    /// The server ended the connection with an error, or broke a rule of HTTP/2 or of gRPC over HTTP/2.
+    /// The server ended the connection with an error, or broke a rule of HTTP/2 or of gRPC over
+    /// HTTP/2.
     Connection,
     /// A call ended with another status, or with none.
     WrongStatus,
@@ -79,7 +80,8 @@ pub enum Fault {
     Echo(EchoFault),
     UnknownCase,
     Silence(SilenceFault),
-    /// A frame of the client's own can't be written: it is over 16,384 bytes, or its stream was opened before.
+    /// A frame of the client's own can't be written: it is over 16,384 bytes, or its stream was
+    /// opened before.
     Unwritable,
     OutOfMemory,
     OwnBound(OwnBound),
@@ -93,8 +95,8 @@ pub enum OwnBound {
     Block(StreamId),
     /// The decoded fields of this stream are.
     Fields(StreamId),
-    /// The header block of this stream has an integer of over six bytes, or over 4,294,967,295. Each
-    /// reader has a limit of its own (RFC 7541, section 5.1).
+    /// The header block of this stream has an integer of over six bytes, or over 4,294,967,295.
+    /// Each reader has a limit of its own (RFC 7541, section 5.1).
     Integer(StreamId),
 }
 

@@ -1,4 +1,5 @@
-//! Which rule it is that malformed fields break, and the text of each (RFC 9113, sections 8.2 and 8.3).
+//! Which rule it is that malformed fields break, and the text of each (RFC 9113, sections 8.2 and
+//! 8.3).
 //!
 //! Whether fields are malformed is decided in `fields`; here is what is said of them.
 
@@ -9,7 +10,8 @@ use lists::Field;
 use std::alloc::{AllocError, Global};
 use std::fmt;
 
-/// A rule on the fields of a response that the server broke. Names and values are shown by their front.
+/// A rule on the fields of a response that the server broke. Names and values are shown by their
+/// front.
 #[derive(Drop)]
 pub enum FieldViolation {
     /// A rule that requests have too, broken by the field with this name.
@@ -69,7 +71,8 @@ pub fn trailers_violation(alloc: Global, fields: &[Field]) -> Result<FieldViolat
     }
 }
 
-/// The rule that the first field breaks that breaks one by itself. `te` speaks of one connection in a response.
+/// The rule that the first field breaks that breaks one by itself. `te` speaks of one connection in
+/// a response.
 fn field_violation(alloc: Global, fields: &[Field]) -> Result<Option<FieldViolation>, AllocError> {
     for field in fields {
         let rule = match field_rule(field) {

@@ -1,14 +1,23 @@
 //! The fields of responses (RFC 9113, sections 8.2 and 8.3; gRPC over HTTP/2, "Responses").
 //!
-//! Names, values and the fields of one connection are judged as the server judges those of a request (the crate
-//! `callhead`). `:status` is the one pseudo-header of a response, and trailers have none.
+//! Names, values and the fields of one connection are judged as the server judges those of a
+//! request (the crate `callhead`). `:status` is the one pseudo-header of a response, and trailers
+//! have none.
 
 ghost use Rattle.std.specs.Prelude.{◌≡◌, ◌↔◌, Some, false, codes, IsTrue, OnOk, IfOk};
 ghost use Rattle.std.specs.List.{list_any};
 ghost use Rattle.callhead.specs.Fields.{first_of};
 ghost use Rattle.callhead.specs.Heads.{IsGrpc};
 ghost use Rattle.callhead.specs.MalformedHeads.{is_pseudo_header};
-ghost use Rattle.cases.specs.ResponseFields.{is_specific, is_malformed_field, is_unknown, has_one_status, is_malformed_head, are_malformed_trailers, IsGrpcHead};
+ghost use Rattle.cases.specs.ResponseFields.{
+  is_specific,
+  is_malformed_field,
+  is_unknown,
+  has_one_status,
+  is_malformed_head,
+  are_malformed_trailers,
+  IsGrpcHead,
+};
 ghost use Rattle.cases.specs.declared.fields.ResponseHead.TheVariants.{Final};
 
 use crate::field_rules::{
@@ -47,7 +56,8 @@ impl From<AllocError> for FieldFault {
 pub enum ResponseHead {
     /// They begin the response.
     Final,
-    /// They have a `:status` of 100 to 199, and the response's own are still to come (RFC 9113, section 8.1).
+    /// They have a `:status` of 100 to 199, and the response's own are still to come (RFC 9113,
+    /// section 8.1).
     Informational,
 }
 
@@ -86,7 +96,8 @@ pub fn judge_trailers(alloc: Global, fields: &[Field]) -> Result<(), FieldFault>
     Ok(())
 }
 
-/// Whether a `:status` is one of 100 to 199 that HTTP/2 has: 101 is none (RFC 9113, section 8.6).
+/// Whether a `:status` is one of 100 to 199, but not 101, which HTTP/2 doesn't have (RFC 9113,
+/// section 8.6).
 fn is_informational(status: &[u8]) -> bool {
     status.len() == 3
         && status.first() == Some(&b'1')
@@ -165,7 +176,8 @@ fn is_malformed_field(field: &Field) -> bool
     has_bad_name(field) || has_bad_value(field) || is_specific(field)
 }
 
-/// Whether the field speaks of one connection alone. `te` does too, and a request alone may have it.
+/// Whether the field speaks of one connection alone. `te` does too, and a request alone may have
+/// it.
 fn is_specific(field: &Field) -> bool
     ensures { result ≡ is_specific field.now }
 {

@@ -14,9 +14,9 @@ pub enum FrameViolation {
     TooLong(FrameHead),
     /// A frame of the connection on a stream, or one of a stream on the connection.
     WrongStream(FrameHead),
-    /// The payload's length is none that the frame's type may have.
+    /// The payload's length isn't one that the frame's type may have.
     BadLength(FrameHead),
-    /// So many bytes of padding are more than the payload has.
+    /// The padding has more bytes than the rest of the payload.
     BadPadding(FrameHead, u8),
     /// A byte of the padding is this one.
     PaddingNotZero(FrameHead, u8),
@@ -25,8 +25,8 @@ pub enum FrameViolation {
 }
 
 impl FrameViolation {
-    /// The rule that a frame with this head breaks, where the frame reader finds this fault in it. `padding` is what
-    /// the frame says of its padding.
+    /// The rule that a frame with this head breaks, where the frame reader finds this fault in it.
+    /// `padding` is what the frame says of its padding.
     pub fn of(fault: FrameFault, head: FrameHead, padding: u8) -> Option<FrameViolation>
         ensures { fault ≢ OutOfMemory → result ≢ None }
     {

@@ -1,4 +1,4 @@
-//! What the server's frames come to (RFC 9113, sections 3.4, 4.3, 5.1 and 6).
+//! What the server's frames mean (RFC 9113, sections 3.4, 4.3, 5.1 and 6).
 
 ghost use Rattle.std.specs.Prelude.{◌≡◌, ◌<◌, ◌^◌, length};
 ghost use Rattle.h2frame.specs.declared.kind.FrameKind.TheVariants.{Headers};
@@ -84,7 +84,7 @@ impl<S: Line> Connection<S> {
             }
         }
         match self.credit.came(head.stream) {
-            // A PING that is unanswered asks the same.
+            // A PING that is still unanswered asks this already.
             Step::Ask if self.pings.is_open() => Ok(()),
             step => self.take_step(step),
         }
@@ -100,7 +100,8 @@ impl<S: Line> Connection<S> {
         last
     }
 
-    /// HEADERS, with the frames that go on with them. Each block is decoded, also where its fields are dropped.
+    /// HEADERS, with the frames that go on with them. Each block is decoded, also where its fields
+    /// are dropped.
     fn headers(&mut self, frame: &Frame) -> Result<(), Fault>
         requires { frame.now.head.kind ≡ Headers }
     {
@@ -267,7 +268,8 @@ impl<S: Line> Connection<S> {
         self.write(Outgoing::Credit, stream, content)
     }
 
-    /// GOAWAY: one without an error is kept, and may not be followed by one with a greater last stream (section 6.8).
+    /// GOAWAY: one without an error is kept, and may not be followed by one with a greater last
+    /// stream (section 6.8).
     fn going_away(&mut self, frame: &Frame) -> Result<(), Fault> {
         let content = frame.content.as_slice();
         let last = number_at(content, 0) & 0x7fff_ffff;

@@ -1,7 +1,7 @@
 //! The server's frames, one after another, and where the bytes end or go against a rule of frames.
 //!
-//! No more is read than the frame has: its nine bytes first, which say how long it is. So a fault is told with what the
-//! frame says of itself, and an end with how far the frame had come.
+//! No more is read than the frame has: first its nine bytes, which say how long it is. So a fault
+//! comes with what the frame says of itself, and an end with how far the frame had come.
 
 ghost use Rattle.std.specs.Prelude.{◌≡◌, ◌<◌, ◌≤◌, ◌^◌, length};
 
@@ -16,7 +16,8 @@ const HEAD_LEN: usize = 9;
 /// The most bytes that are read at once.
 const PIECE: usize = 16_384;
 
-/// How far a frame had come: the bytes that were there, and what it says of itself, where its nine bytes were.
+/// How far a frame had come: the bytes that were there, and what it says of itself, where its nine
+/// bytes were.
 #[derive(Clone, Copy)]
 pub struct Progress {
     pub came: usize,
@@ -143,7 +144,7 @@ fn head_of(raw: &[u8]) -> Option<FrameHead> {
     })
 }
 
-/// A byte of the padding that isn't 0, where the frame is padded by so many bytes.
+/// A byte of the padding that isn't 0, if the frame has this much padding.
 fn padding_fault(head: &FrameHead, padding: u8, raw: &[u8]) -> Option<u8> {
     if !head.is_padded() {
         return None;

@@ -12,7 +12,7 @@ use std::io;
 use std::io::{ErrorKind, Read, Write};
 use std::time::{Clock, Duration, Instant};
 
-/// After so many milliseconds a read or a write of the socket has to fail by itself, with
+/// After how many milliseconds a read or a write of the socket has to fail by itself, with
 /// `WouldBlock` or `TimedOut`.
 pub const TICK: u64 = 100;
 
@@ -42,7 +42,7 @@ impl Pace {
 pub trait Line: ConnRead + ConnWrite {
     fn pace(&self) -> Pace;
 
-    /// Waits until something comes, so many milliseconds at most, and answers whether it did.
+    /// Waits until something comes, for `milliseconds` at most, and answers whether it did.
     fn awaits(&mut self, milliseconds: u64) -> bool;
 
     /// The nanoseconds since 1970.

@@ -31,7 +31,7 @@ pub enum StatusFault {
 /// Why the replies of a call are not those that were wanted.
 #[derive(Drop)]
 pub enum ReplyFault {
-    /// So many replies came.
+    /// Too few or too many replies came.
     Count {
         came: usize,
         wanted: usize,
@@ -56,7 +56,7 @@ pub enum ReplyFault {
         at: usize,
         byte: u8,
     },
-    /// A reply has so many bytes, and is to be empty.
+    /// A reply has bytes, and is to be empty.
     NotEmpty {
         came: usize,
     },
@@ -79,7 +79,7 @@ pub enum ReplyFault {
     TooLong {
         reply: usize,
     },
-    /// The stream ended inside a reply, so many bytes behind its beginning.
+    /// The stream ended inside a reply, after some of its bytes.
     Cut {
         reply: usize,
         came: usize,
@@ -96,8 +96,8 @@ pub enum EchoFault {
 }
 
 impl ReplyFault {
-    /// What is wrong with the prefix of a reply, or with where its stream ended; none for want of memory. `flag` is the
-    /// prefix's first byte, and so many bytes of the reply came.
+    /// What is wrong with the prefix of a reply, or with where its stream ended; none for want of
+    /// memory. `flag` is the prefix's first byte, and `came` is how many bytes of the reply came.
     pub fn of(fault: LpmFault, reply: usize, flag: u8, came: usize) -> Option<ReplyFault> {
         match fault {
             LpmFault::Compressed | LpmFault::BadFlag => Some(ReplyFault::Flag { reply, flag }),

@@ -14,7 +14,7 @@ pub enum Outgoing {
     /// A whole header block.
     Headers,
     Data,
-    /// DATA behind which the client says nothing more.
+    /// DATA after which the client says nothing more.
     LastData,
     Reset,
     Credit,

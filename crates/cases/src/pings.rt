@@ -1,4 +1,5 @@
-//! The client's PINGs, each with bytes of its own, and what acknowledges them (RFC 9113, section 6.7).
+//! The client's PINGs, each with bytes of its own, and what acknowledges them (RFC 9113, section
+//! 6.7).
 //!
 //! An acknowledgement has to have the bytes of a PING. That one comes twice, or without a PING, no
 //! sentence forbids: such a one says nothing.

@@ -95,8 +95,8 @@ pub fn print_line<W: ConnWrite>(
     Ok(())
 }
 
-/// Runs the fourteen cases one after another, each once, by calls of `run`, and prints the line of each before the next
-/// is run. It answers what came of them.
+/// Runs the fourteen cases one after another, each once, by calls of `run`, and prints the line of
+/// each before the next is run. It answers what came of them.
 pub fn run_all<F: FnMut(Case) -> Result<(), CaseFault>, W: ConnWrite>(
     alloc: Global,
     mut run: F,

@@ -16,7 +16,7 @@ pub struct AskedStatus {
 }
 
 impl AskedStatus {
-    /// The status that the call has to end with: a code below 0 is none.
+    /// The status with which the call has to end: a code below 0 means none.
     pub fn wanted(self) -> Wanted {
         Wanted {
             code: self.code.unsigned_abs(),
@@ -25,7 +25,7 @@ impl AskedStatus {
     }
 }
 
-/// So many zero bytes.
+/// `len` zero bytes.
 fn zeros(alloc: Global, len: usize) -> Result<Vec<u8>, AllocError> {
     vec![in alloc; 0; len]
 }
@@ -60,7 +60,7 @@ pub fn simple_request(
     simple_request_of(alloc, response_size, body.as_slice(), status)
 }
 
-/// The same with this body.
+/// A request for one payload, with this body.
 pub fn simple_request_of(
     alloc: Global,
     response_size: i32,

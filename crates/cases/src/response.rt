@@ -1,7 +1,8 @@
-//! What a server may send on a stream, by what it sent there before (RFC 9113, sections 5.1 and 8.1).
+//! What a server may send on a stream, by what it sent there before (RFC 9113, sections 5.1 and
+//! 8.1).
 //!
-//! The client opens odd streams and has pushes turned off, so the server opens none. A response is HEADERS, DATA, and
-//! HEADERS with END_STREAM, the trailers; or HEADERS with END_STREAM alone.
+//! The client opens odd streams and has pushes turned off, so the server opens none. A response is
+//! HEADERS, DATA, and HEADERS with END_STREAM, the trailers; or HEADERS with END_STREAM alone.
 
 ghost use Rattle.std.specs.Prelude.{◌≡◌, true, false, IfOk, IfErr};
 ghost use Rattle.cases.specs.Responses.{is_lawful, phase_after};
@@ -10,7 +11,7 @@ use figures::FrameName;
 use h2frame::{Flags, FrameHead, FrameKind, StreamId};
 use std::fmt;
 
-/// What the server's half of a stream has come to.
+/// The state of the server's half of a stream.
 #[derive(Clone, Copy)]
 pub enum Phase {
     /// The fields that begin the response are still to come.
@@ -34,17 +35,17 @@ pub enum StreamViolation {
     Even(FrameHead),
     /// DATA, where no HEADERS came before.
     DataBeforeHeaders(FrameHead),
-    /// DATA or HEADERS behind END_STREAM.
+    /// DATA or HEADERS after END_STREAM.
     BehindEnd(FrameHead),
-    /// Another frame behind the server's own RST_STREAM.
+    /// Another frame after the server's own RST_STREAM.
     BehindReset(FrameHead),
-    /// HEADERS behind those that began the response, without END_STREAM.
+    /// HEADERS after those that began the response, without END_STREAM.
     TrailersWithoutEnd(StreamId),
 }
 
 impl Phase {
-    /// Judges a frame on a stream whose half has come to this: whether it is taken, or dropped since the client has
-    /// reset the stream.
+    /// Judges a frame on a stream with this half: whether it is taken, or dropped since the client
+    /// has reset the stream.
     pub fn judge(self, head: &FrameHead) -> Result<bool, StreamViolation>
         ensures ok { IfOk result (λ taken. is_lawful self head.now ≡ true) }
         ensures err { IfErr result (λ _. is_lawful self head.now ≡ false) }
@@ -63,7 +64,7 @@ impl Phase {
         }
     }
 
-    /// What the half comes to by a frame that is taken.
+    /// The half after a frame that is taken.
     pub fn after(self, head: &FrameHead) -> Phase
         ensures { result ≡ phase_after self head.now }
     {

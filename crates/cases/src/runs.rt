@@ -112,7 +112,7 @@ pub fn explain<S: Line>(
     }
 }
 
-/// Runs a case, and reads on for a short while behind it.
+/// Runs a case, and reads on for a short while after it.
 fn run<S: Line>(connection: &mut Connection<S>, case: Case) -> Result<(), Fault> {
     connection.greet()?;
     run_calls(connection, case)?;
@@ -288,7 +288,8 @@ fn unimplemented<S: Line>(connection: &mut Connection<S>, method: Method) -> Res
     expect_status(alloc, &call, UNIMPLEMENTED)
 }
 
-/// The client's own status of what it cancelled is CANCELLED: what is to be seen is that the server goes on.
+/// The client's own status of what it cancelled is CANCELLED: what is to be seen is that the server
+/// goes on.
 fn cancel_after_begin<S: Line>(connection: &mut Connection<S>) -> Result<(), Fault> {
     let call = Call::begin(
         connection,
@@ -330,8 +331,8 @@ fn timeout_on_sleeping_server<S: Line>(connection: &mut Connection<S>) -> Result
     call.leave(connection)
 }
 
-/// Two calls that ask the same, which nothing but the time is, in nanoseconds. That both bodies are
-/// the same is the part of a proxy that caches (gRPC's clients send GET for it), and no server's.
+/// Two calls with one request, which has only the time, in nanoseconds. That both bodies are equal
+/// is up to a proxy that caches (gRPC's clients send GET for it), not to a server.
 fn cacheable_unary<S: Line>(connection: &mut Connection<S>) -> Result<(), Fault> {
     let alloc = connection.alloc;
     let now = connection.timestamp();

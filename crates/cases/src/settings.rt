@@ -33,7 +33,8 @@ fn parameter_of(text: &[u8]) -> Parameter
     }
 }
 
-/// What the parameter that six bytes spell tells a client, if anything. A server may not turn pushes on (section 6.5.2).
+/// The setting for a client in the parameter that six bytes spell, if there is one. A server may
+/// not turn pushes on (section 6.5.2).
 pub fn read_setting(text: &[u8]) -> Result<Option<PeerSetting>, SettingViolation>
     requires { length text.now ≡ 6 }
 {

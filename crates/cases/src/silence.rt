@@ -25,15 +25,15 @@ pub enum Silence {
 /// What was waited for.
 #[derive(Clone, Copy)]
 pub enum Awaited {
-    /// Room for a message's bytes: so many of so many were sent.
+    /// Room for a message's bytes: how many of them were sent.
     Window { sent: usize, of: usize },
     /// SETTINGS, which a server sends first.
     Settings,
     /// The fields that begin a response.
     Head(StreamId),
-    /// The same, where informational ones came.
+    /// The final head, where informational ones came.
     FinalHead(StreamId),
-    /// What follows so many bytes of a response's DATA.
+    /// What follows this many bytes of a response's DATA.
     Trailers(StreamId, u64),
     /// The rest of a header block.
     Block(StreamId),
@@ -71,8 +71,8 @@ impl SilenceFault {
         )
     }
 
-    /// Whether the connection is over, and between two frames. A server may end it so once all is said (RFC 9113,
-    /// section 9.1).
+    /// Whether the connection is over, and between two frames. A server may end it so once all is
+    /// said (RFC 9113, section 9.1).
     pub fn is_end(&self) -> bool {
         matches!(
             self.how,
@@ -96,7 +96,7 @@ impl SilenceFault {
     }
 }
 
-/// Milliseconds, as seconds with a digit behind the point.
+/// Milliseconds, as seconds with a digit after the point.
 #[derive(Clone, Copy)]
 struct Seconds(u64);
 

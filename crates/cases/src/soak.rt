@@ -127,7 +127,7 @@ impl<S: Line + Drop> Channel<S> {
         )
     }
 
-    /// Reads on for a short while behind the last call, as behind a case.
+    /// Reads on for a short while after the last call, as after a case.
     pub fn close(mut self) -> Result<(), Failure> {
         let alloc = self.connection.alloc;
         match self.connection.finish() {

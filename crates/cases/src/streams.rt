@@ -43,14 +43,14 @@ impl Streams {
         self.set(id, Phase::Cancelled);
     }
 
-    /// What the server's half of a stream has come to, and how many bytes of DATA came, if it was opened.
+    /// The server's half of a stream, and how many bytes of DATA came, if the stream was opened.
     pub fn find(&self, id: StreamId) -> Option<(Phase, u64)> {
         let stream = self.streams.iter().rev().find(|stream| stream.id == id)?;
         Some((stream.phase, stream.bytes))
     }
 
-    /// Judges a frame of a stream by what came before it. Its phase is answered where the frame is to be taken, and
-    /// none where it is dropped.
+    /// Judges a frame of a stream by what came before it. Its phase is answered where the frame is
+    /// to be taken, and none where it is dropped.
     pub fn judge(&self, head: &FrameHead) -> Result<Option<Phase>, StreamViolation> {
         let Some((phase, _)) = self.find(head.stream) else {
             return Err(if head.stream % 2 == 0 {
@@ -76,7 +76,7 @@ impl Streams {
         }
     }
 
-    /// So many bytes of DATA came on a stream.
+    /// Bytes of DATA came on a stream.
     pub fn count(&mut self, id: StreamId, length: u32) {
         for stream in self.streams.iter_mut().rev() {
             if stream.id == id {

@@ -11,7 +11,8 @@ use h2frame::{FrameHead, StreamId};
 use hpack_codec::HpackFault;
 use std::fmt;
 
-/// A rule of HTTP/2, or of gRPC over HTTP/2, that the server broke; or the error with which it ended the connection.
+/// A rule of HTTP/2, or of gRPC over HTTP/2, that the server broke; or the error with which it
+/// ended the connection.
 #[derive(Drop)]
 pub enum Violation {
     Frame(FrameViolation),
@@ -27,7 +28,8 @@ pub enum Violation {
         head: FrameHead,
         is_ack: bool,
     },
-    /// The client's SETTINGS weren't acknowledged in the whole time of the case, though a PING after them was.
+    /// The client's SETTINGS weren't acknowledged in the whole time of the case, though a PING
+    /// after them was.
     SettingsUnacknowledged,
     PushPromise(StreamId),
     /// GOAWAY with an error, and the text that it carries.
@@ -50,7 +52,7 @@ pub enum BlockViolation {
     Lone(FrameHead),
     /// Another frame inside the header block of this stream.
     Interrupted(StreamId, FrameHead),
-    /// The block of this stream, of so many bytes, isn't HPACK.
+    /// The block of this stream, by its length, isn't HPACK.
     Hpack {
         stream: StreamId,
         length: usize,

@@ -1,4 +1,5 @@
--- What `interop body` prints for what it reads: the messages of one call (gRPC over HTTP/2, "Length-Prefixed-Message").
+-- What `interop body` prints for what it reads: the messages of one call (gRPC over HTTP/2,
+-- "Length-Prefixed-Message").
 use Rattle.std.specs.Prelude.{◌≡◌, ℕ, Bool, true, List, [], ◌∷◌, Option, Some, None}
 use Rattle.std.specs.Option.{option_or}
 use Rattle.std.specs.Io.KnownBytes.{Appends, Consumes, IsAtEnd, Keeps}
@@ -13,14 +14,19 @@ use Rattle.device.specs.declared.whole.ReadFault.TheVariants as read_fault
 use Rattle.commands.specs.declared.text.HexFault.{HexFault}
 use Rattle.commands.specs.declared.text.HexFault.TheVariants as hex_fault
 use Rattle.commands.specs.declared.body.RunFault.{RunFault}
-use Rattle.commands.specs.declared.body.RunFault.TheVariants.{NotHex, OutOfMemory, ReadFailed, WriteFailed}
+use Rattle.commands.specs.declared.body.RunFault.TheVariants.{
+  NotHex,
+  OutOfMemory,
+  ReadFailed,
+  WriteFailed,
+}
 
 -- a call must not end inside a message
 abbrev pub fault_of_rest : List ℕ → Option LpmFault
 fault_of_rest [] = None
 fault_of_rest (byte ∷ bytes) = Some CutAtEnd
 
--- what is wrong with the bytes of a whole call, if anything
+-- the fault of the bytes of a whole call, if there is one
 abbrev pub fault_at_end : List ℕ → Option LpmFault
 fault_at_end bytes = option_or (fault_of bytes) (fault_of_rest (rest_of bytes))
 
@@ -39,14 +45,19 @@ ReadsText input rest text = Consumes input rest text × IsAtEnd rest
 -- all was read, and the report on it was written
 abbrev pub Reports : Option (List ℕ) → Option (List ℕ) → Option (List ℕ) → Option (List ℕ) → Type 0
 Reports input rest before after =
-    (text : List ℕ) × (printed : List ℕ) × ReadsText input rest text × Prints text printed × Appends before after printed
+    (text : List ℕ) × (printed : List ℕ) × ReadsText input rest text × Prints text printed
+    × Appends before after printed
 
--- what a run that failed has read and written: what remained of the input before and after, and what the output held
-abbrev pub Leaves : RunFault → Option (List ℕ) → Option (List ℕ) → Option (List ℕ) → Option (List ℕ) → Type 0
-Leaves NotHex input rest before after = (text : List ℕ) × ReadsText input rest text × IsNotHex text × Keeps before after
+-- what a run that failed has read and written: what remained of the input, and what the output had,
+-- before and after
+abbrev pub Leaves : RunFault → Option (List ℕ) → Option (List ℕ) → Option (List ℕ)
+    → Option (List ℕ) → Type 0
+Leaves NotHex input rest before after =
+    (text : List ℕ) × ReadsText input rest text × IsNotHex text × Keeps before after
 Leaves ReadFailed input rest before after = ConsumesSome input rest × Keeps before after
 Leaves WriteFailed input rest before after =
-    (text : List ℕ) × (printed : List ℕ) × ReadsText input rest text × Prints text printed × AppendsPrefix before after printed
+    (text : List ℕ) × (printed : List ℕ) × ReadsText input rest text × Prints text printed
+    × AppendsPrefix before after printed
 Leaves OutOfMemory input rest before after = ConsumesSome input rest × Keeps before after
 
 -- the marks of failure of reader and writer, before and after: each is set by its own fault alone
@@ -65,7 +76,7 @@ abbrev pub fault_of_text : HexFault → RunFault
 fault_of_text hex_fault.NotHex = NotHex
 fault_of_text hex_fault.OutOfMemory = OutOfMemory
 
--- the numbers by which the faults are known outside
+-- the numbers by which programs print the faults
 abbrev pub code_of : RunFault → ℕ
 code_of NotHex = 1
 code_of ReadFailed = 2

@@ -7,7 +7,8 @@ use Rattle.commands.specs.declared.drain.Goaway.{Goaway}
 
 -- `goaway LAST CODE`
 abbrev pub goaway_line : Goaway → List ℕ
-goaway_line goaway = codes "goaway " ++ decimal goaway.last ++ codes " " ++ decimal goaway.code ++ 10 ∷ []
+goaway_line goaway =
+    codes "goaway " ++ decimal goaway.last ++ codes " " ++ decimal goaway.code ++ 10 ∷ []
 
 abbrev pub goaway_lines : List Goaway → List ℕ
 goaway_lines [] = []

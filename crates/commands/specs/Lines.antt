@@ -13,16 +13,18 @@ count_of (Report line) = 1
 abbrev pub lines_of : List Batch → ℕ
 lines_of batches = sum_by (λ batch. count_of batch.told) batches
 
--- this is printed for it: a line of the report as it is; of those of the log nothing is said
+-- the text of lines: a line of the report as it is; of lines of the log nothing is said
 abbrev pub IsTextOf : Told → List ℕ → Type 0
 IsTextOf (Lines lines) text = Unit {0}
 IsTextOf (Report line) text = text ≡ string_bytes line
 
--- the text tells those of these batches behind which the others stand, each once and whole, in their order
+-- the text has the first of these batches, without the others, each once and whole, in order
 abbrev pub TellsUpTo : List Batch → List Batch → List ℕ → Type 0
-TellsUpTo batches behind text = (told : List Batch) × (texts : List (List ℕ)) × (batches ≡ told ++ behind)
+TellsUpTo batches behind text =
+    (told : List Batch) × (texts : List (List ℕ)) × (batches ≡ told ++ behind)
     × AllZip (λ batch. IsTextOf batch.told) told texts × (text ≡ concat texts)
 
--- it tells some of them, the first ones, and so many lines all others have
+-- the text has the first of the batches, and the others have this many lines
 abbrev pub TellsFirst : List Batch → List ℕ → ℕ → Type 0
-TellsFirst batches text lost = (behind : List Batch) × TellsUpTo batches behind text × (lost ≡ lines_of behind)
+TellsFirst batches text lost =
+    (behind : List Batch) × TellsUpTo batches behind text × (lost ≡ lines_of behind)

@@ -1,4 +1,4 @@
--- The text that tells a call's messages and how the call ended.
+-- The text with a call's messages and how the call ended.
 use Rattle.std.specs.Prelude.{ℕ, ◌+◌, List, [], ◌∷◌, ◌++◌, length, Option, Some, None, codes}
 use Rattle.std.specs.Fmt.{decimal}
 use Rattle.hex.specs.Hex.{encode_lower}
@@ -13,12 +13,14 @@ hex_column (byte ∷ bytes) = 32 ∷ encode_lower (byte ∷ bytes)
 -- `message I LEN HEX`, and `message I 0` for an empty one
 abbrev pub message_line : ℕ → List ℕ → List ℕ
 message_line number message =
-    codes "message " ++ decimal number ++ codes " " ++ decimal (length message) ++ hex_column message ++ 10 ∷ []
+    codes "message " ++ decimal number ++ codes " " ++ decimal (length message)
+    ++ hex_column message ++ 10 ∷ []
 
 -- the messages, numbered from some number on
 abbrev pub message_lines : ℕ → List (List ℕ) → List ℕ
 message_lines number [] = []
-message_lines number (message ∷ messages) = message_line number message ++ message_lines (number + 1) messages
+message_lines number (message ∷ messages) =
+    message_line number message ++ message_lines (number + 1) messages
 
 -- `end`, or `fault CODE`
 abbrev pub ending_line : Option LpmFault → List ℕ

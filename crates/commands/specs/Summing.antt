@@ -1,4 +1,4 @@
--- What `self` and `drain` print: a line that sums up stands behind those of cases.
+-- What `self` and `drain` print: the lines of cases, and then one that sums up.
 use Rattle.std.specs.Prelude.{ℕ, List, [], ◌∷◌, ◌++◌, Result}
 use Rattle.cases.specs.Report.{lines_of}
 use Rattle.cases.specs.declared.fault.CaseFault.{CaseFault}

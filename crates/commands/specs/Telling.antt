@@ -1,21 +1,23 @@
--- How far the messages of a call were told, of which these bytes came.
+-- How far the messages of a call, of which these bytes came, were printed.
 use Rattle.std.specs.Prelude.{◌≡◌, ℕ, List, ◌++◌, length, All, MatchOption}
 use Rattle.lpm.specs.Messages.{frames, IsMessage, Spells, IsFaultyAfter}
 use Rattle.commands.specs.Report.{message_lines}
 use Rattle.commands.specs.declared.body.Telling.{Telling}
 
--- these messages were told, each by its line, and what is left waits
-pub record HasToldThose (messages : List (List ℕ)) (bytes : List ℕ) (telling : Telling) : Type 0 where
+-- these messages were printed, each by its line, and what is left waits
+pub record HasToldThose (messages : List (List ℕ)) (bytes : List ℕ)
+    (telling : Telling) : Type 0 where
   pub each : All IsMessage messages
   pub whole : bytes ≡ frames messages ++ telling.splitter
   pub text : telling.text.items ≡ message_lines 0 messages
   pub count : telling.count ≡ length messages
 
--- some were
+-- some messages were printed
 abbrev pub HasTold : List ℕ → Telling → Type 0
 HasTold bytes telling = (messages : List (List ℕ)) × HasToldThose messages bytes telling
 
--- all were that are whole, and the fault is the one that stands behind them
+-- all whole messages were printed, and the fault is the one after them
 abbrev pub HasToldAll : List ℕ → Telling → Type 0
 HasToldAll bytes telling = (messages : List (List ℕ)) × HasToldThose messages bytes telling
-    × MatchOption telling.fault (Spells bytes messages telling.splitter) (IsFaultyAfter bytes messages)
+    × MatchOption telling.fault (Spells bytes messages telling.splitter)
+    (IsFaultyAfter bytes messages)

@@ -3,13 +3,13 @@ use Rattle.std.specs.Prelude.{◌≡◌, ℕ, ◌+◌, ◌-◌, ◌^◌, [], ◌
 use Rattle.commands.specs.declared.waiting.Batch.{Batch}
 use Rattle.commands.specs.declared.waiting.Waiting.{Waiting}
 
--- Nothing was dropped, and the batch is behind those that wait.
+-- Nothing was dropped, and the batch is after those that wait.
 pub record Keeps (batch : Batch) (old new : Waiting) : Type 0 where
   pub order : old.dropped ≡ 0
   pub behind : new.batches.items ≡ old.batches.items ++ batch ∷ []
   pub dropped : new.dropped ≡ 0
 
--- So many more lines were dropped, behind those that wait.
+-- `count` more lines were dropped, after those that wait.
 pub record Drops (count : ℕ) (old new : Waiting) : Type 0 where
   pub same : new.batches.items ≡ old.batches.items
   pub dropped : new.dropped ≡ min (old.dropped + count) (2 ^ 64 - 1)

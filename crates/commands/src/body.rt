@@ -1,10 +1,18 @@
 //! `interop body`: the messages of one call, from hexadecimal text to printed lines.
 //!
-//! The whole report is made before any of it is written, so out of memory prints nothing. A message becomes its line once it is whole, so
-//! that little more is held than the report.
+//! The whole report is made before any of it is written, so out of memory prints nothing. A message
+//! becomes its line once it is whole, so that little more is held than the report.
 ghost use Rattle.std.specs.Prelude.{◌≡◌, ℕ, ◌<◌, List, [], ◌++◌, IfOk, IfErr, OnOk};
 ghost use Rattle.commands.specs.declared.body.RunFault.TheVariants.{OutOfMemory, WriteFailed};
-ghost use Rattle.commands.specs.Body.{Leaves, Marks, Reports, fault_at_end, fault_of_read, fault_of_text, report_of};
+ghost use Rattle.commands.specs.Body.{
+  Leaves,
+  Marks,
+  Reports,
+  fault_at_end,
+  fault_of_read,
+  fault_of_text,
+  report_of,
+};
 
 use crate::report::{push_ending, push_message};
 use crate::text::{HexFault, bytes_of};
@@ -21,7 +29,7 @@ pub enum RunFault {
     ReadFailed,
     /// A write failed.
     WriteFailed,
-    /// No memory was to be had.
+    /// There is no memory.
     OutOfMemory,
 }
 
@@ -79,15 +87,15 @@ impl From<AllocError> for RunFault {
     }
 }
 
-/// A call that comes in pieces, whose messages are told as soon as they are whole.
+/// A call that comes in pieces, whose messages are printed as soon as they are whole.
 #[derive(Drop)]
 struct Telling {
-    /// What came of the call, but for the messages that were told.
+    /// The bytes of the call, without those of the messages that were printed.
     splitter: Splitter,
-    /// The lines of those, and how many they are.
+    /// The lines of the messages, and how many there are.
     text: Vec<u8>,
     count: usize,
-    /// What is wrong with what came, if anything is.
+    /// The fault of what came, if there is one.
     fault: Option<LpmFault>,
 }
 
@@ -117,7 +125,7 @@ impl Telling {
         self.tell()
     }
 
-    /// Tells the messages that are whole.
+    /// Prints the messages that are whole.
     fn tell(&mut self) -> Result<(), AllocError>
         ensures { (bytes : List ℕ) → HasTold bytes self.old
             → OnOk result (HasToldAll bytes self.new) }
@@ -146,7 +154,7 @@ impl Telling {
         }
     }
 
-    /// What is wrong with the bytes of the call, where no more come.
+    /// The fault of the call's bytes, if no more come.
     fn fault_at_end(&self) -> Option<LpmFault>
         ensures { (bytes : List ℕ) → HasToldAll bytes self.now → result ≡ fault_at_end bytes }
     {

@@ -1,7 +1,9 @@
-//! The command `drain`: a server is drained while a client has a call, in one process (RFC 9113, section 6.8).
+//! The command `drain`: a server is drained while a client has a call, in one process (RFC 9113,
+//! section 6.8).
 //!
-//! The caller's thread is the client. Once it has read the first reply it stops the server, whose connection is drained by a thread of
-//! its own, and goes on behind that. Another takes that connection, and reads it; others write it and answer its call.
+//! The caller's thread is the client. Once it has read the first reply it stops the server, and
+//! goes on after that. One thread drains the server's connection. Another takes that connection and
+//! reads it; others write it and answer its call.
 
 ghost use Rattle.std.specs.Prelude.{◌≡◌, ◌++◌, ℕ, List, Result, is_ok, IfOk, OnOk};
 ghost use Rattle.std.specs.Io.KnownBytes.{Appends};
@@ -48,7 +50,8 @@ pub struct Goaway {
     pub code: u32,
 }
 
-/// The client's connection. What is read of it is looked at: GOAWAYs are kept, and the first reply stops the server.
+/// The client's connection. It looks at what is read: it keeps GOAWAYs, and the first reply stops
+/// the server.
 #[derive(Drop)]
 struct Watched<R> {
     rt: R,
@@ -59,8 +62,9 @@ struct Watched<R> {
     has_stopped: bool,
 }
 
-/// Serves one connection to the port that is listened on, runs a case over it, and drains it behind the first reply. It prints the
-/// GOAWAYs that the client read, the case's line, and one that sums up, and answers whether the case passed.
+/// Listens on a port, serves one connection to it, runs a case over that, and drains it after the
+/// first reply. It prints the GOAWAYs that the client read, the case's line, and one that sums up,
+/// and answers whether the case passed.
 pub fn run_drain<R, W>(
     rt: R,
     methods: Arc<Methods>,
@@ -99,7 +103,8 @@ where
     Ok(answer.is_ok())
 }
 
-/// Runs the case over this connection, closes it, and answers what came of it, and the GOAWAYs that were read.
+/// Runs the case over this connection, closes it, and answers what came of it, and the GOAWAYs that
+/// were read.
 fn run_client<R: Wait + Clock + Eprint + Copy + Drop>(
     rt: R,
     alloc: Global,
@@ -120,7 +125,7 @@ fn run_client<R: Wait + Clock + Eprint + Copy + Drop>(
         return (Ok(()), goaways);
     };
     let Failure { fault, note } = failure;
-    // The line that is printed tells of the fault even where nothing can be said here.
+    // The line that is printed reports the fault even if nothing can be written here.
     let _said = eprintln!(rt; "{CASE}: {note}");
     (Err(fault), goaways)
 }
@@ -195,7 +200,8 @@ fn push_goaway(text: &mut Vec<u8>, goaway: Goaway) -> Result<(), AllocError>
 }
 
 impl<R: Wait> Watched<R> {
-    /// Looks at what was read. Behind bytes that are no frames it sees nothing more: the case itself judges them.
+    /// Looks at what was read. After bytes that are no frames it sees nothing more: the case itself
+    /// judges them.
     fn look(&mut self, bytes: &[u8]) -> Result<(), AllocError> {
         if self.frames.feed(bytes).is_err() {
             return Ok(());

@@ -1,18 +1,21 @@
-//! The commands of the program `interop` that serve, for it and for whoever runs them otherwise: each over devices that its caller gives.
+//! The commands `serve`, `self`, `drain`, `body` and `parts`.
 //!
-//! - `run_body` prints the messages of one call, and `run_parts` what a connection is answered with (`body`, `parts`). Their
-//!   input is hexadecimal text. The program hands them its standard input and output.
+//! - `run_body` prints the messages of one call, and `run_parts` what the server writes on a
+//!   connection (`body`, `parts`). Their input is hexadecimal text. The program hands them its
+//!   standard input and output.
 //! - `run_self` runs test cases against a server of its own (`server`).
 //! - `run_drain` drains a server of its own while a client has a call (`drain`).
-//! - `serve` serves connections to a port (`server`): `listening` is the port, `port` has the threads, `stream` a connection, `stopping`
-//!   how it stops, `room` how many are served at a time, `log`, `waiting` and `times` the log, `reporting` and `served` the report, `witness` who sees connections.
-//! Those that try a server are in the crate `trials`.
+//! - `serve` serves connections to a port (`server`): `listening` is the port, `port` has the
+//!   threads, `stream` a connection, `stopping` how it stops, `room` how many are served at a time,
+//!   `log`, `waiting` and `times` the log, `reporting` and `served` the report, `witness` what sees
+//!   connections. Those that try a server are in the crate `trials`.
 //!
 //! Below them:
 //!
 //! - `text`: hexadecimal text into bytes.
-//! - `report`: the lines that tell messages, the end and faults.
-//! - `memory` and `streams`: a connection over memory, and what was written on it, stream by stream.
+//! - `report`: the lines for messages, the end and faults.
+//! - `memory` and `streams`: a connection over memory, and what was written on it, stream by
+//!   stream.
 #![tactic(auto)]
 
 mod body;

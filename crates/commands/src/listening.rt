@@ -1,4 +1,4 @@
-//! The port that is listened on.
+//! Listening on a port.
 
 use sinks::write_whole;
 use std::alloc::Global;
@@ -9,12 +9,12 @@ use std::rt::Files;
 use trials::without_brackets;
 use words::{LOOPBACK, Port, ServeWords};
 
-/// Listens on the port of a host's address; of a name's addresses it is the first where that can be. Where it can't, a line on
-/// standard error names the port and says why.
+/// Listens on the port of a host's address, or of the first of a name's addresses where it can. If
+/// it can't, a line on standard error names the port and says why.
 pub fn listen<R: Net + Eprint>(rt: &R, host: &str, port: Port) -> io::Result<TcpListener> {
     let listening = bind(rt, host, number_of(port));
     if let Err(error) = &listening {
-        // The exit status tells of it even where nothing can be said here.
+        // The exit status reports it even if nothing can be written here.
         let _said = match port {
             Port::Number(port) if host == LOOPBACK => {
                 eprintln!(rt; "interop: port {port} can't be had: {error}")
@@ -28,8 +28,8 @@ pub fn listen<R: Net + Eprint>(rt: &R, host: &str, port: Port) -> io::Result<Tcp
     listening
 }
 
-/// Writes the files that tell that the port is listened on, so that a script can wait for them: first the port's number, then the
-/// address, each in a line. Where one can't be written, a line on standard error says why.
+/// Writes the files by which a script can wait until the server listens: first the port's number,
+/// then the address, each in a line. If one can't be written, a line on standard error says why.
 pub(crate) fn tell_ready<R: Files + Eprint>(
     rt: &R,
     alloc: Global,
@@ -60,8 +60,8 @@ fn number_of(port: Port) -> u16 {
     }
 }
 
-/// As `TcpListener::bind`, but as many connections wait to be accepted as the system allows. Behind std's 128 a client's next
-/// try comes after a second.
+/// As `TcpListener::bind`, but as many connections wait to be accepted as the system allows. Once
+/// std's 128 wait, a client's next try comes after a second.
 fn bind(rt: &impl Net, host: &str, port: u16) -> io::Result<TcpListener> {
     let mut last = io::Error::new(ErrorKind::InvalidInput, "the name has no address");
     for address in (without_brackets(host), port).to_socket_addrs(rt)? {

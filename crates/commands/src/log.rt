@@ -1,7 +1,8 @@
 //! The log of a server: what happens on its connections, a line each, as it happens.
 //!
-//! Whoever reads or writes a connection shows the bytes to its `Watch`, and leaves the lines that come of it here; one thread of the
-//! log's own prints them. So printing holds nobody up: where too many lines wait, they are counted in place of being kept.
+//! A thread that reads or writes a connection shows the bytes to its `Watch`, and leaves the
+//! resulting lines here; one thread of the log's own prints them. So printing delays no connection:
+//! if too many lines wait, further ones are counted but not kept.
 
 ghost use Rattle.std.specs.Prelude.{◌≡◌, ◌≤◌, ℕ, List, ◌++◌, IfSome, OnOk, OnErr, string_bytes};
 ghost use Rattle.commands.specs.Lines.{IsTextOf, TellsFirst, lines_of};
@@ -26,7 +27,8 @@ use words::LogForm;
 /// How often the log looks for calls that wait, in milliseconds.
 const TICK: u64 = 1_000;
 
-/// How long it pauses once it has printed, in milliseconds: so a busy server's lines are printed many at a time.
+/// How long it pauses once it has printed, in milliseconds: so a busy server's lines are printed
+/// many at a time.
 const PAUSE: u64 = 10;
 
 /// The log of a server.
@@ -36,7 +38,7 @@ pub struct Log {
     /// The connections that go on.
     watches: Mutex<Vec<Arc<Watch>>>,
     waiting: Mutex<Waiting>,
-    /// Rung where lines were left, and where no more will come.
+    /// Rung when lines were left, and when no more will come.
     bell: Bell,
     is_closed: AtomicBool,
 }
@@ -83,7 +85,7 @@ impl Log {
         self.leave_report(rt, connection, moment, line);
     }
 
-    /// Leaves the report on a connection to be printed, behind its lines.
+    /// Leaves the report on a connection to be printed, after its lines.
     pub fn report_end<R: Wait + Clock>(
         &self,
         rt: &R,
@@ -121,8 +123,8 @@ impl Log {
         }
     }
 
-    /// Prints lines as they come, until the log is closed. It fails where one can't be written; that nobody reads them any more is no
-    /// failure.
+    /// Prints lines as they come, until the log is closed. It fails if one can't be written. That
+    /// no one reads them any more isn't a failure.
     pub fn print_all<R: Print + Wait + Clock>(&self, rt: &R, alloc: Global) -> io::Result<()> {
         let mut ticked = Instant::now(rt).ok();
         for _ in rt.forever() {
@@ -164,8 +166,8 @@ impl Log {
         Ok(true)
     }
 
-    /// The text of batches, and how many of their lines are left out. Where there is no memory for some, those behind them are left out
-    /// too, so that their number stands in their place.
+    /// The text of batches, and how many of their lines are left out. If there is no memory for
+    /// some, those after them are left out too, so that their number comes in their place.
     fn text_of(&self, alloc: Global, batches: &[Batch]) -> (String, usize)
         requires { lines_of batches.now ≤ 16384 }
         ensures { TellsFirst batches.now (string_bytes result.0) result.1 }
@@ -181,7 +183,8 @@ impl Log {
         (text, 0)
     }
 
-    /// Adds the text of a batch. Lines of the log are written to `lines` first, whose memory is used again.
+    /// Adds the text of a batch. Lines of the log are written to `lines` first, whose memory is
+    /// used again.
     fn add_text(
         &self,
         alloc: Global,
@@ -229,7 +232,8 @@ impl Log {
         Ok(())
     }
 
-    /// Prints the line that says how many were dropped. It has its place where there is no memory too: an object is without its time then.
+    /// Prints the line that says how many were dropped, even without memory: then an object is
+    /// without its time.
     fn print_dropped<R: Print + Clock>(
         &self,
         rt: &R,
@@ -274,13 +278,13 @@ impl Log {
         connection_object(alloc, time, connection, ended, file)
     }
 
-    /// So many lines are lost.
+    /// Counts lines that are lost.
     fn lose(&self, rt: &impl Wait, lines: usize) {
         self.waiting.lock(rt).lose(lines);
         self.bell.ring();
     }
 
-    /// Takes what waits, and how many lines were dropped behind it, unless that is nothing.
+    /// Takes what waits, and how many lines were dropped after it, unless there is neither.
     fn next(&self, rt: &impl Wait, alloc: Global) -> Option<(Vec<Batch>, usize)>
         ensures { IfSome result (λ it. lines_of it.0.items ≤ 16384) }
     {
@@ -327,7 +331,7 @@ impl Log {
     }
 }
 
-/// That nobody reads what is printed any more is no failure.
+/// The result, but that no one reads what is printed any more isn't a failure.
 fn unless_closed(printed: io::Result<()>) -> io::Result<()> {
     match printed {
         Err(error) if error.kind() == ErrorKind::BrokenPipe => Ok(()),
@@ -335,7 +339,7 @@ fn unless_closed(printed: io::Result<()>) -> io::Result<()> {
     }
 }
 
-/// Whether so long has gone by that calls which wait are to be looked for. Where no clock can be read, it never has.
+/// Whether it is time to look for calls that wait. If no clock can be read, it never is.
 fn has_ticked(rt: &impl Clock, before: Option<Instant>) -> bool {
     match before {
         Some(before) => match before.elapsed(rt) {
@@ -387,7 +391,7 @@ impl Logged {
         Ok(logged)
     }
 
-    /// Another one of the same connection.
+    /// A second handle of this connection.
     pub fn try_clone(&self) -> Result<Logged, AllocError> {
         Ok(Logged {
             log: Arc::try_clone(&self.log)?,

@@ -1,7 +1,7 @@
 //! A connection's bytes in memory: those of its client, and those that the server writes.
 //!
-//! A client that keeps to its windows waits for a WINDOW_UPDATE before it sends more DATA. So DATA are held
-//! back here until the server has written the credit that they need.
+//! A client that keeps to its windows waits for a WINDOW_UPDATE before it sends more DATA. So DATA
+//! are held back here until the server has written the credit that they need.
 
 use h2frame::{Frame, FrameKind, FrameReader, StreamId};
 use std::alloc::{AllocError, Global};
@@ -94,7 +94,7 @@ impl Memory {
 }
 
 impl Written {
-    /// Looks at what is written. Behind bytes that are no frames it sees nothing more.
+    /// Looks at what is written. After bytes that are no frames it sees nothing more.
     fn look(&mut self, bytes: &[u8]) -> Result<(), AllocError> {
         if self.frames.feed(bytes).is_err() {
             return Ok(());
@@ -180,7 +180,7 @@ pub struct MemoryInput<R> {
 }
 
 impl<R: Wait + Clock> MemoryInput<R> {
-    /// Of a client to which this server answers.
+    /// The bytes of a client to which this server answers.
     pub fn new(rt: R, alloc: Global, bytes: Vec<u8>, memory: Arc<Memory>) -> MemoryInput<R> {
         // (what doesn't begin so has no frames)
         let free = if bytes.as_slice().starts_with(PREFACE) {
@@ -198,8 +198,8 @@ impl<R: Wait + Clock> MemoryInput<R> {
         }
     }
 
-    /// Frees at least this many of the next bytes, unless DATA without credit come first. If nothing is free, it
-    /// waits for their credit.
+    /// Frees at least this many of the next bytes, unless DATA without credit come first. If
+    /// nothing is free, it waits for their credit.
     fn release(&mut self, wanted: usize) {
         for _ in 0..u64::MAX {
             let free = self.free.saturating_sub(self.at);
@@ -233,7 +233,8 @@ impl<R: Wait + Clock> MemoryInput<R> {
         head_of(self.bytes.get(self.free..)?)
     }
 
-    /// Whether these DATA have credit on the connection and on their stream, now or within some milliseconds.
+    /// Whether these DATA have credit on the connection and on their stream, now or within some
+    /// milliseconds.
     fn gets_credit(&self, head: Head, limit: u64) -> bool {
         let begun = Instant::now(&self.rt).ok();
         for _ in 0..u64::MAX {

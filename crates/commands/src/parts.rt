@@ -18,8 +18,9 @@ use std::thread::Threads;
 use std::time::Clock;
 use trace::{InputFault, Sent, sent_of};
 
-/// Reads a connection's bytes as hexadecimal text, or as what `serve --record` writes, to the end of the input, and serves them. Then it writes what the
-/// connection was answered with, stream by stream, and how it ended. Its calls go on when the gate lets them.
+/// Reads a connection's bytes as hexadecimal text, or as what `serve --record` writes, to the end
+/// of the input, and serves them. Then it writes what the server wrote, stream by stream, and how
+/// the connection ended. Its calls go on when the gate lets them.
 pub fn run_parts<R, G, I, O>(
     rt: R,
     alloc: Global,
@@ -52,7 +53,8 @@ where
     Ok(())
 }
 
-/// The bytes that a client sent: hexadecimal text has them alone; where lines name their sides, those of the client do.
+/// The bytes that a client sent: hexadecimal text has them alone; where lines name their sides,
+/// those of the client do.
 fn client_bytes(alloc: Global, text: Vec<u8>) -> Result<Vec<u8>, RunFault> {
     if !names_sides(text.as_slice()) {
         return Ok(bytes_of(alloc, text)?);

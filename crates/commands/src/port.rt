@@ -1,9 +1,10 @@
 //! The threads that serve a port.
 //!
-//! One thread takes connections, and starts a thread for each that it takes. Where all that come are served, the first of these
-//! take further connections too once theirs have ended, beside that one: so a client that makes a connection a call seldom waits
-//! for a thread to start. Where only so many are served, each has a thread of its own. Where the system has too few threads, or too
-//! little memory, the crate's `room` says how many connections are served at a time.
+//! One thread takes connections, and starts a thread for each. If the server serves all that come,
+//! the first of these threads also take further connections once theirs have ended. So a client
+//! that makes a connection for each call seldom waits for a thread to start. If it serves only a
+//! number of connections, each has a thread of its own. If the system has too few threads, or too
+//! little memory, `room` says how many connections are served at a time.
 
 use crate::log::ended_of;
 use crate::room::Room;
@@ -22,14 +23,14 @@ use std::thread::{Builder, JoinHandle, Threads};
 use std::time::{Clock, Duration};
 use std::{io, thread};
 
-/// How long no connection is taken after one could not be, in milliseconds.
+/// How long the server waits after a connection could not be taken, in milliseconds.
 const PAUSE: u64 = 10;
 
-/// What all connections to a port are served by.
+/// What serves all connections to a port.
 #[derive(Drop)]
 pub struct Service<W> {
     pub methods: Arc<Methods>,
-    /// Who sees them, and their calls.
+    /// What sees the connections and their calls.
     pub witness: Arc<W>,
     /// How it stops, if it does before the program is interrupted.
     pub stop: Option<Arc<Stop>>,
@@ -48,16 +49,16 @@ struct Port<W> {
 /// What a thread does once the connection that it was started for has ended.
 #[derive(Clone, Copy)]
 enum Afterwards {
-    /// It takes more connections, where it is among the first.
+    /// It takes more connections, if it is among the first.
     MayTakeMore,
     /// It ends.
     Ends,
-    /// It has the server stop, since that connection was the last, and ends.
+    /// It stops the server, since that connection was the last, and ends.
     StopsServer,
 }
 
-/// Serves connections that come, until the server has stopped, if it does. A thread of its own takes them where it does. It answers
-/// which connections are left, for which it had no more patience.
+/// Serves connections that come, until the server has stopped, if it does: then a thread of its own
+/// takes them. Answers which connections are left when its patience ended.
 pub fn serve_port<R, W>(
     rt: R,
     alloc: Global,
@@ -98,7 +99,7 @@ where
     Ok(stop.wait(&rt, alloc))
 }
 
-/// The same, in a thread of its own. That none can be made counts as want of memory.
+/// Serves a connection in a thread of its own. If no thread can be made, it answers want of memory.
 pub fn serve_apart<R, W>(
     rt: R,
     alloc: Global,
@@ -145,7 +146,7 @@ fn pause(rt: &impl Clock) {
     let _ = thread::sleep(rt, Duration::from_millis(PAUSE));
 }
 
-/// Takes so many connections. Once the last of them has ended, the server stops.
+/// Takes a number of connections. Once the last of them has ended, the server stops.
 fn take_some<R, W>(rt: R, alloc: Global, port: &Arc<Port<W>>, count: u16)
 where
     R: Files<File = File> + Print + Eprint + Threads + Wait + Clock,
@@ -170,8 +171,8 @@ where
     }
 }
 
-/// Takes the next connection, and starts a thread that serves it. One that no thread can be made for is ended, as is one that comes
-/// while the server stops.
+/// Takes the next connection, and starts a thread that serves it. A connection for which no thread
+/// can be made is ended, and so is one that comes while the server stops.
 fn serve_next<R, W>(
     rt: R,
     alloc: Global,
@@ -200,7 +201,8 @@ where
     Ok(())
 }
 
-/// Serves the connection that a thread was started for to its end, and then does what comes afterwards.
+/// Serves the connection that a thread was started for to its end, and then does what comes
+/// afterwards.
 fn serve_first<R, W>(
     rt: R,
     alloc: Global,
@@ -226,7 +228,8 @@ where
     }
 }
 
-/// Takes one connection after another, and serves each to its end, until there are too few threads for that.
+/// Takes one connection after another, and serves each to its end, until there are too few threads
+/// for that.
 fn take_more<R, W>(rt: R, alloc: Global, port: &Port<W>)
 where
     R: Files<File = File> + Print + Eprint + Threads + Wait + Clock,
@@ -244,7 +247,8 @@ where
     unreachable!()
 }
 
-/// Takes the next connection and serves it, unless the server stops. It fails where none could be taken.
+/// Takes the next connection and serves it, unless the server stops. It fails if none could be
+/// taken.
 fn serve_taken<R, W>(rt: R, alloc: Global, port: &Port<W>) -> io::Result<()>
 where
     R: Files<File = File> + Print + Eprint + Threads + Wait + Clock,
@@ -260,8 +264,8 @@ where
 }
 
 impl<W> Port<W> {
-    /// Takes the next connection. One that comes while the server stops is closed at once, so that its client looks for another
-    /// server.
+    /// Takes the next connection. One that comes while the server stops is closed at once, so that
+    /// its client looks for another server.
     fn take_next(&self, rt: &impl Wait) -> io::Result<Option<(TcpStream, Connection)>> {
         let (stream, peer) = self.listener.accept()?;
         let number = self.taken.fetch_add(1, Ordering::SeqCst).wrapping_add(1);
@@ -275,7 +279,8 @@ impl<W> Port<W> {
         Ok(Some((stream, connection)))
     }
 
-    /// A connection has ended, and was reported on, or couldn't be served for want of threads or memory.
+    /// A connection has ended, and was reported on, or couldn't be served for want of threads or
+    /// memory.
     fn note_ended(&self, rt: &(impl Wait + Clock), connection: Connection, lacks: bool) {
         self.room.leave(rt, lacks);
         if let Some(stop) = &self.service.stop {
@@ -293,8 +298,9 @@ impl<W> Service<W> {
     }
 }
 
-/// Serves a connection to its end, and has it and its calls reported on where that is wanted. One that was drained has had all by then, and
-/// is read on after that for a moment. Whether threads or memory were wanting.
+/// Serves a connection to its end, and reports on it and its calls if that is wanted. One that was
+/// drained has all its frames by then, and is read on for a moment. Answers whether threads or
+/// memory were lacking.
 fn serve_one<R, W>(
     rt: R,
     alloc: Global,

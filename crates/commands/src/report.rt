@@ -1,4 +1,4 @@
-//! The text that tells a call's messages and how the call ended.
+//! The text with a call's messages and how the call ended.
 ghost use Rattle.std.specs.Prelude.{◌≡◌, ◌++◌, OnOk};
 ghost use Rattle.hex.specs.Hex.{encode_lower};
 ghost use Rattle.commands.specs.Report.{ending_line, hex_column, message_line};

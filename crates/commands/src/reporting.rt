@@ -1,4 +1,5 @@
-//! Where a connection and its calls are reported on: in the lines that the log's thread prints, so that whoever reports waits for nobody.
+//! Reports on a connection and its calls, in lines that the log's thread prints. So the reporting
+//! thread waits for no other.
 
 use crate::log::Log;
 use crate::stopping::Connection;
@@ -9,9 +10,10 @@ use std::alloc::{AllocError, Global};
 use std::sync::{Arc, Wait};
 use std::time::Clock;
 
-/// Who reports on a connection and its calls. Who serves it takes that as a type parameter, as a `Witness` is.
+/// Reports on a connection and its calls. The code that serves it has the type as a parameter, like
+/// a `Witness`.
 pub trait Report: Drop {
-    /// Another one of the same connection.
+    /// A second handle of this connection.
     fn try_clone(&self) -> Result<Self, AllocError>;
 
     /// A call was settled.
@@ -27,7 +29,7 @@ pub struct Reporting {
 }
 
 impl Reporting {
-    /// Of this connection, whose calls are answered by these methods.
+    /// The reports of this connection, whose calls these methods answer.
     pub fn new(
         log: &Arc<Log>,
         methods: &Arc<Methods>,
@@ -40,7 +42,8 @@ impl Reporting {
         })
     }
 
-    /// The connection has ended, and its calls were reported on. Its bytes are in the file, where there is one.
+    /// The connection has ended, and its calls were reported on. Its bytes are in the file, if
+    /// there is one.
     // (kept out of its caller, whose frame is on the stack of each connection that lives)
     #[inline(never)]
     pub fn end(

@@ -1,20 +1,23 @@
-//! How many connections are served at a time, where the system doesn't have threads or memory for all that come.
+//! How many connections are served at a time, if the system lacks threads or memory for all that
+//! come.
 //!
-//! Threads that wait for next connections are given up then. Each second in which nothing was wanting one more is tried.
+//! Threads that wait for further connections are given up then. After each second in which nothing
+//! was lacking it tries one more connection.
 
 ghost use Rattle.std.specs.Prelude.{◌≡◌, ◌≤◌, ◌<◌, ◌+◌, ◌-◌, ◌^◌, true, false, None, Some, IfSome};
 
 use std::sync::{Mutex, Wait};
 use std::time::{Clock, Duration, Instant};
 
-/// How many threads take further connections once theirs have ended: the first that were started. A client that makes a connection
-/// a call needs two. Each holds a heap, which keeps what its largest connection took.
+/// How many threads take further connections once theirs have ended: the first that were started. A
+/// client that makes a connection for each call needs two. Each has a heap, which keeps what its
+/// largest connection took.
 const STAYING: usize = 4;
 
-/// How many connections at a time are as good as any number, where more and more were tried.
+/// From how many connections at a time on, as more and more are tried, there is no limit any more.
 const MANY: usize = 1_024;
 
-/// How long nothing must have been wanting before one more is tried, in milliseconds.
+/// How long nothing must have been lacking before one more is tried, in milliseconds.
 const STEP: u64 = 1_000;
 
 /// The connections of a port.
@@ -84,7 +87,7 @@ impl Room {
 }
 
 impl Crowd {
-    /// Whether nothing was wanting for so long that one more connection is tried.
+    /// Whether nothing was lacking for long enough to try one more connection.
     fn is_due(&self, rt: &impl Clock) -> bool {
         if self.most.is_none() {
             return false;
@@ -122,7 +125,7 @@ impl Crowd {
         self.live = self.live.saturating_sub(1);
     }
 
-    /// Threads or memory were wanting for one of those that live: fewer may, but always one.
+    /// Threads or memory were lacking for one of those that live: fewer may, but always one.
     fn shrink(&mut self)
         ensures fewer { IfSome self.new.most (λ most. (1 ≤ most)
             × (1 < self.old.live → most < self.old.live)) }
@@ -148,7 +151,7 @@ impl Crowd {
         };
     }
 
-    /// So many threads stay as long as none is wanting.
+    /// Whether this thread stays: a number of threads does, as long as none is lacking.
     fn stay(&mut self) -> bool
         ensures one { result ≡ true → self.new.staying ≡ self.old.staying + 1 }
         ensures few { result ≡ true → self.new.staying ≤ 4 }

@@ -1,4 +1,5 @@
-//! What `interop serve --report` tells: a line of each call once it was settled, and at last one of its connection.
+//! What `interop serve --report` prints: a line for each call once it was settled, and at last one
+//! for its connection.
 
 ghost use Rattle.std.specs.Prelude.{◌≡◌, ◌-◌, false, true, min};
 
@@ -12,7 +13,8 @@ use handlers::Methods;
 use std::alloc::{AllocError, Global};
 use std::net::SocketAddr;
 
-/// The line of a connection of this peer that ended so, whose bytes are in the file, where there is one.
+/// The line of a connection of this peer that ended in this way. Its bytes are in the file, if
+/// there is one.
 pub fn connection_line(
     alloc: Global,
     peer: SocketAddr,
@@ -30,8 +32,9 @@ pub fn connection_line(
     Ok(text)
 }
 
-/// The line of a call on a connection of this peer: its stream and method, what it was fed, the messages and bytes that came in and went
-/// out, how many items were given and sent, and how it ended.
+/// The line of a call on a connection of this peer: its stream and method, what it was fed, the
+/// messages and bytes that came in and went out, how many items were given and sent, and how it
+/// ended.
 pub fn call_line(
     alloc: Global,
     peer: SocketAddr,
@@ -52,7 +55,7 @@ pub fn call_line(
     Ok(text)
 }
 
-/// Tells how many bytes of its DATA the call was fed, and how its client's half was shut.
+/// Writes how many bytes of its DATA the call was fed, and how its client's half was shut.
 fn tell_half(text: &mut String, call: &CallAccount) -> Result<(), AllocError> {
     let fed = call.input.fed;
     match call.input.shut {
@@ -62,7 +65,7 @@ fn tell_half(text: &mut String, call: &CallAccount) -> Result<(), AllocError> {
     }
 }
 
-/// Tells the messages and bytes that came in and went out.
+/// Writes the messages and bytes that came in and went out.
 fn tell_traffic(text: &mut String, call: &CallAccount) -> Result<(), AllocError> {
     let (messages, bytes) = (call.input.taken, call.traffic.bytes);
     let (replies, reply_bytes) = (call.traffic.replies, call.traffic.reply_bytes);
@@ -72,7 +75,8 @@ fn tell_traffic(text: &mut String, call: &CallAccount) -> Result<(), AllocError>
     )
 }
 
-/// Tells how many items the call was answered with, how many of them were sent, and how far its trailers came.
+/// Writes how many items the call was given, how many of them were sent, and how far its trailers
+/// came.
 fn tell_sent(text: &mut String, call: &CallAccount) -> Result<(), AllocError> {
     let (given, sent) = items_of(call);
     let trailers = trailers_of(call);
@@ -82,7 +86,7 @@ fn tell_sent(text: &mut String, call: &CallAccount) -> Result<(), AllocError> {
     )
 }
 
-/// The same of a connection in an object of JSON. Its time is a JSON value.
+/// The report of a connection as a JSON object. Its time is a JSON value.
 pub fn connection_object(
     alloc: Global,
     time: &str,
@@ -106,7 +110,7 @@ pub fn connection_object(
     Ok(text)
 }
 
-/// The same of a call on the connection of this number.
+/// The report of a call on the connection of this number as a JSON object.
 pub fn call_object(
     alloc: Global,
     time: &str,
@@ -136,7 +140,7 @@ pub fn call_object(
     Ok(text)
 }
 
-/// The members that tell what the call was fed, and how its client's half was shut.
+/// The members for what the call was fed, and how its client's half was shut.
 fn write_half(alloc: Global, text: &mut String, call: &CallAccount) -> Result<(), AllocError> {
     json::number(text, "fed", call.input.fed)?;
     match call.input.shut {
@@ -149,7 +153,7 @@ fn write_half(alloc: Global, text: &mut String, call: &CallAccount) -> Result<()
     }
 }
 
-/// The members that tell what came in and went out.
+/// The members for what came in and went out.
 fn write_traffic(alloc: Global, text: &mut String, call: &CallAccount) -> Result<(), AllocError> {
     let (given, sent) = items_of(call);
     json::number(text, "in", call.input.taken)?;
@@ -169,8 +173,8 @@ fn path_of<'m>(methods: &'m Methods, call: &CallAccount) -> &'m str {
     }
 }
 
-/// How many items the call was answered with, and how many of them were sent. Where no trailers were given, the last item is the word that
-/// the call was left, which isn't told.
+/// How many items the call was given, and how many of them were sent. Without trailers the last
+/// item is that the call was left, which doesn't count.
 fn items_of(call: &CallAccount) -> (u64, u64)
     ensures all { call.now.output.trailers_given ≡ true
         → result ≡ (call.now.output.given, call.now.output.sent) }

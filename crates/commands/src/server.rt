@@ -1,4 +1,5 @@
-//! The commands `serve`, the interop test server, and `self`, the test cases against it in the same process.
+//! The commands `serve`, the interop test server, and `self`, the test cases against it in the same
+//! process.
 
 ghost use Rattle.std.specs.Prelude.{◌≡◌, ℕ, List, map, IfOk};
 ghost use Rattle.std.specs.Io.KnownBytes.{Appends};
@@ -35,11 +36,12 @@ use words::{LOOPBACK, LogForm, ServeWords};
 /// How long standard input isn't read once it has said something, in milliseconds.
 const PAUSE: u64 = 100;
 
-/// Listens where the words say, says where that is, and serves `grpc.testing.TestService`: on all connections that come, by
-/// threads that take one after another, or on as many as the words say, each in a thread of its own. It fails where the port
-/// can't be had, and where log or report can't be written, of which a line on standard error tells. It returns where the server has stopped:
-/// behind so many connections, or once standard input has ended, where the words say so. It answers whether no connection was left then;
-/// a line on standard error names each.
+/// Listens where the words say, prints where that is, and serves `grpc.testing.TestService`: on all
+/// connections that come, by threads that take one after another, or on as many as the words say,
+/// each in a thread of its own. It fails if the port can't be had, or if log or report can't be
+/// written; a line on standard error says so. It returns once the server has stopped: after the
+/// number of connections in the words, or once standard input has ended, if the words say so. It
+/// answers whether no connection was left then; a line on standard error names each that was.
 pub fn serve<R>(rt: R, methods: Arc<Methods>, words: ServeWords<'_>) -> io::Result<bool>
 where
     R: Net<Stream = TcpStream, Listener = TcpListener> + Input<Reader = StdinLock<'static>>,
@@ -89,7 +91,7 @@ fn times_of(rt: &impl Clock, words: ServeWords<'_>) -> Option<Times> {
     }
 }
 
-/// Another one of the same log, where there is one and it is wanted.
+/// A second handle of the log, if there is one and it is wanted.
 fn where_wanted(is_wanted: bool, log: &Option<Arc<Log>>) -> io::Result<Option<Arc<Log>>> {
     match log {
         Some(log) if is_wanted => Ok(Some(Arc::try_clone(log)?)),
@@ -97,7 +99,7 @@ fn where_wanted(is_wanted: bool, log: &Option<Arc<Log>>) -> io::Result<Option<Ar
     }
 }
 
-/// Where it is written what passes, if the words say so.
+/// The recorder of what passes, if the words ask for one.
 fn recorder_of<R>(rt: &R, alloc: Global, words: ServeWords<'_>) -> io::Result<Option<Arc<Recorder>>>
 where
     R: Files<File = File> + Eprint,
@@ -109,7 +111,7 @@ where
     }
 }
 
-/// Another one of the same recorder.
+/// A second handle of the recorder.
 fn again(recorder: &Option<Arc<Recorder>>) -> io::Result<Option<Arc<Recorder>>> {
     match recorder {
         Some(recorder) => Ok(Some(Arc::try_clone(recorder)?)),
@@ -121,7 +123,7 @@ fn unwritten() -> io::Error {
     io::Error::new(ErrorKind::Other, "what passes can't be written")
 }
 
-/// The server has stopped. It fails where it couldn't be written what passed.
+/// The server has stopped. It fails if what passed couldn't be written.
 fn end(
     rt: &(impl Wait + Eprint),
     recorder: &Option<Arc<Recorder>>,
@@ -161,7 +163,8 @@ fn say_listening(
     }
 }
 
-/// Names the connections that are left once a server has waited so many seconds. Whether there is none.
+/// Names the connections that are left once a server has waited this many seconds. Answers whether
+/// there is none.
 fn name_left(rt: &impl Eprint, seconds: u16, left: &[Connection]) -> bool {
     for connection in left {
         let Connection { number, peer } = *connection;
@@ -172,7 +175,8 @@ fn name_left(rt: &impl Eprint, seconds: u16, left: &[Connection]) -> bool {
     left.is_empty()
 }
 
-/// How a server of these words stops, if it does. One with a log or a report stops if that can't be written.
+/// How a server of these words stops, if it does. One with a log or a report stops if that can't be
+/// written.
 fn stop_of<R>(rt: R, alloc: Global, words: ServeWords<'_>) -> io::Result<Option<Arc<Stop>>>
 where
     R: Input<Reader = StdinLock<'static>>
@@ -200,8 +204,8 @@ where
     Ok(Some(stop))
 }
 
-/// Reads standard input to its end. One that can't be read has ended. One that says something is read slowly, since nothing is made
-/// of it.
+/// Reads standard input to its end. One that can't be read has ended. One with content is read
+/// slowly, since the content isn't used.
 fn read_out<R: Input<Reader = StdinLock<'static>> + Clock>(rt: &R) {
     let mut input = Marked::new(rt.reader());
     let mut piece = [0u8; 65_536];
@@ -215,8 +219,8 @@ fn read_out<R: Input<Reader = StdinLock<'static>> + Clock>(rt: &R) {
     }
 }
 
-/// Serves connections that come, while a thread of its own prints the lines of their log and their report. Where one can't be written, the
-/// server stops, and a line on standard error says which.
+/// Serves connections that come, while a thread of its own prints the lines of their log and their
+/// report. If one can't be written, the server stops, and a line on standard error says which.
 fn serve_logged<R>(
     rt: R,
     alloc: Global,
@@ -255,8 +259,9 @@ where
     Ok(left)
 }
 
-/// Serves the port that is listened on in a thread of its own, runs the fourteen cases against it, prints a line of each and one
-/// that sums up, and answers whether none failed. The server's thread goes on until the program ends.
+/// Listens on a port and serves it in a thread of its own, runs the fourteen cases against it,
+/// prints a line of each and one that sums up, and answers whether none failed. The server's thread
+/// goes on until the program ends.
 pub fn run_self<R, W>(
     rt: R,
     methods: Arc<Methods>,

@@ -1,7 +1,8 @@
 //! How a server stops while its connections live: each is drained (RFC 9113, section 6.8).
 //!
-//! A connection has a thread of its own that waits for that, since a `Drainer` has the type of its connection: so no list can hold
-//! them, and the threads' signals stand in one. Where a client falls silent once its calls have ended, that thread ends what is read.
+//! A connection has a thread of its own that waits for that. A `Drainer` has the type of its
+//! connection, so no list can hold drainers, but a list has the threads' signals. If a client falls
+//! silent once its calls have ended, that thread ends the connection's input.
 
 ghost use Rattle.std.specs.Prelude.{◌≡◌, ◌+◌, ◌≤◌, false, true, not, IfOk, OnOk, vec_len};
 
@@ -20,11 +21,12 @@ use std::{mem, thread};
 /// How long a thread sleeps at most before it looks again at what it waits for, in seconds.
 pub const LOOK: u64 = 3600;
 
-/// How long it is between two looks whether a connection that is drained has calls, in milliseconds.
+/// How long it is between two looks whether a connection that is drained has calls, in
+/// milliseconds.
 const STEP: u64 = 50;
 
-/// At how many looks nothing was written before it ends: so long has a client to acknowledge the warning, by which it is told its last
-/// call (RFC 9113, section 6.8).
+/// At how many looks nothing was written before the connection ends. That long a client has to
+/// acknowledge the warning that comes before the GOAWAY with its last call (RFC 9113, section 6.8).
 const GRACE: u32 = 10;
 
 /// A connection that was taken.
@@ -41,10 +43,10 @@ pub struct Connection {
 pub struct Stop {
     /// How many connections it takes before it stops by itself, if it does.
     pub connections: Option<u16>,
-    /// How long connections that are drained are waited for.
+    /// How long the server waits for connections that are drained.
     patience: Duration,
     state: Mutex<State>,
-    /// Rung where the server stops, where a connection was drained, and where one has ended.
+    /// Rung when the server stops, when a connection was drained, and when one has ended.
     changed: Bell,
 }
 
@@ -53,11 +55,11 @@ struct State {
     is_stopping: bool,
     /// The connections that live.
     live: Vec<Connection>,
-    /// Of those that weren't drained.
+    /// The signals of those that weren't drained.
     signals: Vec<Arc<Signal>>,
 }
 
-/// Has one thread go on that waits for it.
+/// Lets one thread go on that waits for it.
 #[derive(Drop)]
 struct Signal {
     is_given: AtomicBool,
@@ -74,8 +76,8 @@ pub struct Standby {
 }
 
 impl Stop {
-    /// A server that stops where it is told to, or once the last of so many connections has ended.
-    /// It waits so many seconds for connections that it drains.
+    /// A server that stops when it is told to, or once the last of `connections` has ended. It
+    /// waits `patience` seconds for connections that it drains.
     pub fn new(alloc: Global, connections: Option<u16>, patience: u16) -> Stop {
         Stop {
             connections,
@@ -89,7 +91,8 @@ impl Stop {
         }
     }
 
-    /// A connection has come. Whether it is served, and waited for: not where the server stops already.
+    /// A connection has come. Answers whether it is served and waited for, which it isn't if the
+    /// server stops already.
     pub fn take(&self, rt: &impl Wait, connection: Connection) -> Result<bool, AllocError> {
         self.state.lock(rt).take(connection)
     }
@@ -100,7 +103,8 @@ impl Stop {
         self.changed.ring();
     }
 
-    /// The server stops: no more connections are taken, and all that live are drained. It returns once they are.
+    /// The server stops: no more connections are taken, and all that live are drained. It returns
+    /// once they are.
     pub fn begin(&self, rt: &impl Wait) {
         self.state.lock(rt).begin();
         self.changed.ring();
@@ -113,7 +117,8 @@ impl Stop {
         }
     }
 
-    /// Waits until the server has stopped: no connection lives for which it waits, or it has no more patience. Those that are left.
+    /// Waits until the server has stopped: no connection lives for which it waits, or its patience
+    /// has ended. Answers the connections that are left.
     pub fn wait(&self, rt: &(impl Wait + Clock), alloc: Global) -> Vec<Connection> {
         let mut began = None;
         for _ in rt.forever() {
@@ -134,7 +139,7 @@ impl Stop {
         unreachable!()
     }
 
-    /// How long it still waits, where it has stopped then.
+    /// How long it still waits, if it stopped at that moment.
     fn left(&self, rt: &impl Clock, began: Option<Instant>) -> Duration {
         let Some(began) = began else {
             return Duration::from_secs(LOOK);
@@ -145,7 +150,7 @@ impl Stop {
         }
     }
 
-    /// Adds a signal, and gives it where the server stops already. Whether it does.
+    /// Adds a signal, and gives it if the server stops already. Answers whether it does.
     fn add(&self, rt: &impl Wait, signal: Arc<Signal>) -> Result<bool, AllocError> {
         self.state.lock(rt).add(signal)
     }
@@ -157,7 +162,8 @@ impl Stop {
     }
 }
 
-/// Has a thread of its own drain a connection once the server stops; where it stops already, it is drained before this returns.
+/// Starts a thread that drains a connection once the server stops. If it stops already, the
+/// connection is drained before this returns.
 pub fn stand_by<A, B, C, R>(
     rt: R,
     alloc: Global,
@@ -194,8 +200,9 @@ where
     }
 }
 
-/// Behind a drain: has the connection end once no call is live, and nothing was written for a while, so that its client has had time to
-/// read it, and to acknowledge the warning. What comes of a client that says something ends it before.
+/// After a drain: ends the connection's input once no call is live and nothing was written for a
+/// while, so that the client had time to read all, and to acknowledge the warning. A client that
+/// says something may end the connection before.
 fn end_idle<A, B, C>(rt: &impl Wait, signal: &Signal, drainer: &Drainer<A, B, C>, link: &Link)
 where
     A: Ledger,

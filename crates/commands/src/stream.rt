@@ -24,16 +24,18 @@ use std::time::{Clock, Duration, Instant};
 use std::{io, thread};
 use tap::Tapped;
 
-/// How long a connection that was drained is read on at most, so that its client reads what was written, in milliseconds.
+/// How long a connection that was drained is read on at most, so that its client reads what was
+/// written, in milliseconds.
 const PARTING: u64 = 1_000;
 
-/// The same where it can't be seen whether its client has ended it.
+/// How long such a connection is read on at most if its client's end can't be seen, in
+/// milliseconds.
 const PARTING_BLIND: u64 = 200;
 
 /// How long it is between two reads then.
 const STEP: u64 = 20;
 
-/// A connection to a port. Who reads and who writes share its one descriptor.
+/// A connection to a port. Its reader and its writer share one descriptor.
 #[derive(Drop)]
 pub struct Link {
     stream: TcpStream,
@@ -54,7 +56,7 @@ impl Link {
         }
     }
 
-    /// How many writes there were, where none goes on.
+    /// How many writes there were, if none goes on.
     pub fn writes(&self) -> Option<u64> {
         if self.is_writing.load(Ordering::SeqCst) {
             None
@@ -63,12 +65,12 @@ impl Link {
         }
     }
 
-    /// Shuts it down. Where its peer has ended it, that is refused, and nothing is left to do.
+    /// Shuts it down. If its peer has ended it, that is refused, and nothing is left to do.
     fn shut(&self) {
         let _ = self.stream.shutdown(Shutdown::Both);
     }
 
-    /// Whoever reads it sees the end of the input. What is written goes on.
+    /// Its reader sees the end of the input. Its writer goes on.
     pub fn shut_reading(&self) {
         self.is_shut.store(true, Ordering::SeqCst);
         let _ = self.stream.shutdown(Shutdown::Read);
@@ -82,8 +84,8 @@ impl Link {
         }
     }
 
-    /// A connection that was drained is read on for a moment: a client that still sends would else have a TCP reset, which takes from it
-    /// what it hasn't read.
+    /// Reads a connection that was drained on for a moment. Otherwise a client that still sends
+    /// would get a TCP reset, which drops what it hasn't read.
     // (kept out of its caller, whose frame is on the stack of each connection that lives)
     #[inline(never)]
     pub fn part(&self, rt: &impl Clock) {
@@ -127,7 +129,8 @@ fn is_silence(error: &io::Error) -> bool {
     )
 }
 
-/// The gate of a connection to a port: each call goes on at once, and is reported on once it was settled, where that is wanted.
+/// The gate of a connection to a port: each call goes on at once, and is reported on once it was
+/// settled, if that is wanted.
 #[derive(Drop)]
 struct Door<R, P> {
     rt: R,
@@ -137,7 +140,7 @@ struct Door<R, P> {
 }
 
 impl<R: Drop, P: Report> Door<R, P> {
-    /// Of this connection, whose calls are reported on there.
+    /// The gate of this connection, with the place for reports on its calls.
     fn open(
         rt: R,
         alloc: Global,
@@ -177,7 +180,7 @@ impl<R: Wait + Clock, P: Report> Gate for Door<R, P> {
     }
 }
 
-/// What is read of a connection, and shown to its log where it has one.
+/// Reads a connection, and shows what it read to the log, if there is one.
 #[derive(Drop)]
 struct LinkInput<R> {
     rt: R,
@@ -196,7 +199,7 @@ impl<R: Wait + Clock> Read for LinkInput<R> {
     }
 }
 
-/// What is written to a connection, and shown to its log where it has one.
+/// Writes a connection, and shows what it wrote to the log, if there is one.
 #[derive(Drop)]
 struct LinkOutput<R> {
     rt: R,
@@ -248,8 +251,9 @@ struct Ends<R: Wait + Clock + Eprint + Drop, P> {
     gate: Arc<Door<R, P>>,
 }
 
-/// Serves a connection to its end, shows it to its log and to whoever looks at it, has its calls reported on, and has it drained where the server
-/// stops. It answers its link too where it was drained, which is to finish and to part. It fails where nothing was read of it.
+/// Serves a connection to its end. It shows the connection to the log and the witness, reports on
+/// its calls, and drains it if the server stops. If it was drained, it also answers its link, which
+/// is to finish and to part. It fails if nothing was read.
 pub fn serve_stream<R, P>(
     rt: R,
     alloc: Global,
@@ -281,7 +285,7 @@ where
     Ok((Ended::of(&report), None))
 }
 
-/// The same, over these ledgers, until the server stops.
+/// Serves a connection over these ledgers, until the server stops.
 fn serve_until<A, B, C, R, P>(
     rt: R,
     alloc: Global,
@@ -320,7 +324,7 @@ where
     Ok((Ended::of(&report), drained))
 }
 
-/// Who reads a connection, who writes it, and its gate.
+/// The reader of a connection, its writer, and its gate.
 fn ends_of<R, P>(
     rt: R,
     alloc: Global,
@@ -356,7 +360,7 @@ where
     })
 }
 
-/// Another one of the same connection.
+/// A second handle of this connection.
 fn again(logged: &Option<Logged>) -> Result<Option<Logged>, AllocError> {
     match logged {
         Some(logged) => Ok(Some(logged.try_clone()?)),

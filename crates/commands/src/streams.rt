@@ -1,4 +1,4 @@
-//! What was written on a connection, told stream by stream.
+//! What was written on a connection, as text, stream by stream.
 
 use h2frame::{Flags, Frame, FrameKind, StreamId};
 use hpack_codec::Decoder;
@@ -35,7 +35,7 @@ impl Streams {
         }
     }
 
-    /// Tells a frame, but for WINDOW_UPDATE.
+    /// Writes a frame as text, but for WINDOW_UPDATE.
     pub fn tell(&mut self, frame: &Frame) -> Result<(), AllocError> {
         match frame.head.kind {
             FrameKind::WindowUpdate => Ok(()),
@@ -59,7 +59,7 @@ impl Streams {
         Ok(text)
     }
 
-    /// The text of a stream, to which its next frame but DATA is to be told.
+    /// The text of a stream, to which its next frame other than DATA is to be added.
     fn stream(&mut self, id: StreamId) -> Result<&mut String, AllocError> {
         let stream = self.entry(id)?;
         stream.tell_data()?;
@@ -109,7 +109,7 @@ impl Streams {
 }
 
 impl StreamText {
-    /// Tells the DATA that came since the last other frame.
+    /// Writes the DATA that came since the last other frame.
     fn tell_data(&mut self) -> Result<(), AllocError> {
         if self.data.is_empty() {
             return Ok(());
@@ -121,7 +121,7 @@ impl StreamText {
     }
 }
 
-/// Tells a frame without DATA or a header block.
+/// Writes a frame without DATA or a header block.
 fn tell_other(text: &mut String, frame: &Frame) -> Result<(), AllocError> {
     let content = frame.content.as_slice();
     let ack = frame.head.flags.contains(Flags::ACK);
@@ -145,7 +145,7 @@ fn tell_other(text: &mut String, frame: &Frame) -> Result<(), AllocError> {
     text.push('\n')
 }
 
-/// Tells the parameters of SETTINGS, by their numbers.
+/// Writes the parameters of SETTINGS, by their numbers.
 fn tell_settings(text: &mut String, content: &[u8]) -> Result<(), AllocError> {
     text.push_str("settings")?;
     for parameter in content.chunks_exact(6) {

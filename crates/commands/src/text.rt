@@ -11,7 +11,7 @@ use std::alloc::Global;
 pub enum HexFault {
     /// It has an odd number of digits, or something that is neither a digit nor blank.
     NotHex,
-    /// No memory was to be had.
+    /// There is no memory.
     OutOfMemory,
 }
 

@@ -15,9 +15,9 @@ const DAY: u64 = 86_400;
 pub struct Times {
     pub form: LogForm,
     time: Option<TimeForm>,
-    /// Where no clock can be read, nothing has a time.
+    /// If no clock can be read, nothing has a time.
     start: Option<Instant>,
-    /// The same by the system's clock, in microseconds since 1970.
+    /// When it began by the system's clock, in microseconds since 1970.
     began: Option<u64>,
 }
 
@@ -45,7 +45,7 @@ impl Times {
         u64::try_from(elapsed.as_micros()).ok()
     }
 
-    /// The time as a value of JSON, or as it stands in front of a line of text, where it does.
+    /// The time as a JSON value, or as the front of a line of text, if that has one.
     pub fn text(&self, alloc: Global, moment: Moment) -> Result<Option<String>, AllocError> {
         let Some(form) = self.time else {
             return Ok(None);
@@ -62,7 +62,7 @@ impl Times {
         }))
     }
 
-    /// By the clock, with six digits behind the second (RFC 3339).
+    /// By the clock, with six digits after the second (RFC 3339).
     fn utc(&self, alloc: Global, moment: Moment) -> Result<Option<String>, AllocError> {
         let (Some(began), Some(moment)) = (self.began, moment) else {
             return Ok(None);
@@ -85,8 +85,8 @@ struct Date {
 }
 
 impl Date {
-    /// The day that so many days follow 1970-01-01. Years are counted from March on, so that a leap day is the last of its year, in
-    /// cycles of 400 years, which have 146,097 days.
+    /// The day that comes `days` days after 1970-01-01. Years are counted from March on, so that a
+    /// leap day is the last of its year, in cycles of 400 years, which have 146,097 days.
     fn of_day(days: u64) -> Date {
         let days = days.saturating_add(719_468);
         let (cycle, day) = (days / 146_097, days % 146_097);
@@ -109,7 +109,7 @@ impl Date {
     }
 }
 
-/// The seconds, with six digits behind the point.
+/// The seconds, with six digits after the point.
 fn seconds(alloc: Global, moment: Moment) -> Result<Option<String>, AllocError> {
     let Some(moment) = moment else {
         return Ok(None);

@@ -65,7 +65,7 @@ pub struct Waiting {
     batches: Vec<Batch>,
     /// How many lines they have.
     lines: usize,
-    /// How many lines were dropped behind them.
+    /// How many lines were dropped after them.
     dropped: usize,
     ghost counted: { lines ≡ lines_of batches.items },
     ghost few: { lines ≤ 16384 },
@@ -101,7 +101,7 @@ impl Waiting {
         self.dropped = self.dropped.saturating_add(count);
     }
 
-    /// Adds lines, if there is room for them. Behind lines that were dropped there is none.
+    /// Adds lines, if there is room for them. After lines that were dropped there is none.
     fn add(&mut self, batch: Batch) -> Result<(), AllocError>
         ensures kept { OnOk result (Keeps batch self.old self.new) }
         ensures same { OnErr result ((self.new.batches.items ≡ self.old.batches.items)
@@ -116,7 +116,7 @@ impl Waiting {
         Ok(())
     }
 
-    /// Takes all of it, and how many lines were dropped behind it; None where that is nothing.
+    /// Takes all lines, and how many were dropped after them. None if there is neither.
     pub fn take(&mut self, alloc: Global) -> Option<(Vec<Batch>, usize)>
         ensures taken { IfSome result (λ it. (it.0.items ≡ self.old.batches.items)
             × (it.1 ≡ self.old.dropped)) }

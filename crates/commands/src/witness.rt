@@ -1,4 +1,4 @@
-//! Who sees the connections of a server: its log, and whoever writes down what passes.
+//! What sees the connections of a server: its log, and its recorder.
 
 ghost use Rattle.std.specs.Prelude.{IfOk, IsNone};
 
@@ -15,10 +15,10 @@ use std::rt::Files;
 use std::sync::{Arc, Wait};
 use std::time::Clock;
 
-/// Who sees connections. Who serves them takes it as a type parameter: that threads may share it is then shown once, and not again
-/// together with all else that they share.
+/// Sees connections. The code that serves them has the type as a parameter: so it is shown once
+/// that threads may share it, and not again with all else that they share.
 pub trait Witness {
-    /// A connection begins. The log doesn't follow it where there is none, or no memory for that.
+    /// A connection begins. The log doesn't follow it if there is no log, or no memory for that.
     fn begin<R: Wait + Clock>(
         &self,
         rt: &R,
@@ -26,33 +26,33 @@ pub trait Witness {
         connection: Connection,
     ) -> Option<Logged>;
 
-    /// Who looks at what passes on a connection that begins, if anyone does.
+    /// The tap of a connection that begins, if there is one.
     fn look<R>(&self, rt: R, stream: &TcpStream, connection: Connection) -> Option<Eye<R>>
     where
         R: Files<File = File> + Wait + Clock + Eprint + Copy + Drop;
 
-    /// Where a connection that begins is reported on, if that is wanted.
+    /// The place for reports on a connection that begins, if they are wanted.
     fn reporting(
         &self,
         methods: &Arc<Methods>,
         connection: Connection,
     ) -> Result<Option<Reporting>, AllocError>;
 
-    /// The file with what passed on a connection, where there is one.
+    /// The file with what passed on a connection, if there is one.
     fn file_of(&self, connection: Connection) -> Option<String>;
 }
 
-/// The log of a server, the one that reports on connections, and its recorder, where it has them.
+/// The log of a server, the log for reports on connections, and its recorder, if it has them.
 #[derive(Drop)]
 pub struct Witnesses {
     pub log: Option<Arc<Log>>,
-    /// The same log, or one of no other lines.
+    /// The log, or one that has only the reports.
     pub reports: Option<Arc<Log>>,
     pub recorder: Option<Arc<Recorder>>,
 }
 
 impl Witnesses {
-    /// Nobody sees anything.
+    /// No witness.
     pub fn none() -> Witnesses {
         Witnesses {
             log: None,
@@ -61,7 +61,7 @@ impl Witnesses {
         }
     }
 
-    /// Who looks at what passes on a connection, if anyone does.
+    /// The tap of a connection, if there is one.
     fn eye<R>(&self, rt: R, stream: &TcpStream, connection: Connection) -> Option<Eye<R>>
     where
         R: Files<File = File> + Wait + Clock + Eprint + Copy + Drop,

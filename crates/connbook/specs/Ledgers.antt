@@ -1,9 +1,10 @@
--- What ledgers beside a credit book stand on.
+-- What ledgers beside a credit book rest on.
 use Rattle.std.specs.Prelude.{◌≡◌, ℕ, ◌≤◌, Bool, true, length}
 use Rattle.flow.specs.Books.{Books, IsLawful}
 
--- A shared credit book while its lock is free: the law of the book; what came and was announced on the connection is what
--- the ledgers count, and no more calls are live than were admitted; once the writer has stopped, none is.
+-- A shared credit book while its lock is free: the law of the book; what came and was announced on
+-- the connection is what the ledgers count, and no more calls are live than were admitted; once the
+-- writer has stopped, none is.
 pub record IsKept (b : Books) (stopped : Bool) (received admitted announced : ℕ) : Type 0 where
   pub law : IsLawful b
   pub came : b.connection.received ≡ received
@@ -11,7 +12,8 @@ pub record IsKept (b : Books) (stopped : Bool) (received admitted announced : �
   pub few : length b.calls ≤ admitted
   pub over : stopped ≡ true → length b.calls ≡ 0
 
--- from the one book to the other nothing comes, nothing is announced on the connection, and no call is added
+-- from the old book to the new nothing came, nothing was announced on the connection, and no call
+-- was added
 pub record IsQuiet (old new : Books) : Type 0 where
   pub received : new.connection.received ≡ old.connection.received
   pub announced : new.connection.announced ≡ old.connection.announced

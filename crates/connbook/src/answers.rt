@@ -11,18 +11,20 @@ use thiserror::Error;
 pub enum Receipt {
     /// They are to be fed to their call. Their padding is returned.
     Feed,
-    /// Nobody takes them. They are returned.
+    /// No call takes them. They are returned.
     Discard,
-    /// They are past the call's window, an error of its stream (RFC 9113, section 6.9.1). They are returned.
+    /// They are past the call's window, an error of its stream (RFC 9113, section 6.9.1). They are
+    /// returned.
     CallWindow,
-    /// They are past the connection's window, or more than can be counted, an error of the connection. They count nowhere.
+    /// They are past the connection's window, or more than can be counted, an error of the
+    /// connection. They count nowhere.
     Overrun,
 }
 
 /// Why a call isn't admitted.
 #[derive(Clone, Copy, Debug, PartialEq, Eq, Error)]
 pub enum AdmitFault {
-    /// The id isn't odd, or not above that of the call that was admitted last.
+    /// The id isn't odd, or isn't above that of the call that was admitted last.
     #[error("the id isn't that of a new call")]
     NotNew,
     /// No more calls are admitted.
@@ -31,7 +33,7 @@ pub enum AdmitFault {
     /// 64 calls are live.
     #[error("64 calls are live")]
     TooMany,
-    /// No memory was to be had.
+    /// There is no memory.
     #[error("out of memory")]
     OutOfMemory,
 }

@@ -1,9 +1,46 @@
 //! The value under the lock of a connection.
 
-ghost use Rattle.std.specs.Prelude.{◌≡◌, ◌≢◌, ℕ, ◌+◌, ◌<◌, ◌≤◌, true, false, length, slice_get, nat_eq, if◌then◌else◌, IsSome, IsTrue, ◌↔◌, OnOk, OnErr};
+ghost use Rattle.std.specs.Prelude.{
+  ◌≡◌,
+  ◌≢◌,
+  ℕ,
+  ◌+◌,
+  ◌<◌,
+  ◌≤◌,
+  true,
+  false,
+  length,
+  slice_get,
+  nat_eq,
+  if◌then◌else◌,
+  IsSome,
+  IsTrue,
+  ◌↔◌,
+  OnOk,
+  OnErr,
+};
 ghost use Rattle.std.specs.Map.{keys_of};
-ghost use Rattle.flow.specs.Books.{new_book, call_at, Meets, GiveBackCause, after_give_back, after_cut, after_end_remote, after_end_local};
-ghost use Rattle.connbook.specs.Receipts.{receipt_of, after_receipt, counted_of, Admits, after_admission, credit_of, is_credit_due, after_credit, after_stop};
+ghost use Rattle.flow.specs.Books.{
+  new_book,
+  call_at,
+  Meets,
+  GiveBackCause,
+  after_give_back,
+  after_cut,
+  after_end_remote,
+  after_end_local,
+};
+ghost use Rattle.connbook.specs.Receipts.{
+  receipt_of,
+  after_receipt,
+  counted_of,
+  Admits,
+  after_admission,
+  credit_of,
+  is_credit_due,
+  after_credit,
+  after_stop,
+};
 ghost use Rattle.connbook.specs.Ledgers.{IsKept};
 ghost use Rattle.connbook.specs.declared.answers.Receipt.TheVariants as receipt;
 ghost use Rattle.connbook.specs.declared.answers.AdmitFault.TheVariants as refused;
@@ -18,10 +55,11 @@ use std::sync::ledger::{Ledger, Share};
 
 /// The credit book that the threads of a connection share.
 ///
-/// The ledger `A` counts the bytes of DATA that came, `B` the calls that were admitted, and `C` the bytes that were
-/// announced on the connection. The connection's reader holds the shares of the first two, its writer that of the third.
+/// The ledger `A` counts the bytes of DATA that came, `B` the calls that were admitted, and `C` the
+/// bytes that were announced on the connection. The connection's reader holds the shares of the
+/// first two, its writer that of the third.
 ///
-/// What is always true of it is `IsKept`: so it holds whenever the lock is free.
+/// `IsKept` holds whenever the lock is free.
 #[derive(Drop)]
 pub struct ConnBook<A: Ledger, B: Ledger, C: Ledger> {
     book: Book,
@@ -77,8 +115,8 @@ impl<A: Ledger, B: Ledger, C: Ledger> ConnBook<A, B, C> {
         self.stopped
     }
 
-    /// The greatest id that was admitted, 0 for none: what a GOAWAY names (RFC 9113, section 6.8). Its contract says what is
-    /// true of each book.
+    /// The greatest id that was admitted, 0 for none: what a GOAWAY names (RFC 9113, section 6.8).
+    /// Its contract also says what holds of each book.
     pub fn last(&self) -> StreamId
         ensures last { result ≡ self.now.book.last }
         ensures kept { IsKept self.now.book self.now.stopped self.now.received.total
@@ -102,10 +140,11 @@ impl<A: Ledger, B: Ledger, C: Ledger> ConnBook<A, B, C> {
         self.book.closing()
     }
 
-    /// Admits a call, of which neither end is marked, and counts it in the share. Where the writer has stopped, the call is
-    /// admitted and cut in one.
+    /// Admits a call, of which neither end is marked, and counts it in the share. Where the writer
+    /// has stopped, it cuts the call at once. It answers `TooMany` only after 64 calls were
+    /// admitted.
     ///
-    /// The id is tested first, then whether calls are admitted, then how many are live.
+    /// It tests the id first, then whether calls are admitted, then how many are live.
     pub fn admit(&mut self, id: StreamId, mine: &mut Share<B>) -> Result<(), AdmitFault>
         requires whole { mine.old.parts ≡ B.parts }
         requires some { 0 < mine.old.parts }
@@ -135,8 +174,11 @@ impl<A: Ledger, B: Ledger, C: Ledger> ConnBook<A, B, C> {
         Ok(())
     }
 
-    /// Counts DATA of so many bytes that came on a stream, `padding` of them no data (RFC 9113, section 6.9.1), and says what
-    /// becomes of them. Bytes of no call have the id 0.
+    /// Counts `flow` bytes of DATA that came on a stream, `padding` of them no data (RFC 9113,
+    /// section 6.9.1), and says what becomes of them. Bytes of no call have the id 0. Bytes past
+    /// the connection's window count nowhere (`Overrun`); those past a call's window count on the
+    /// connection alone. Either comes only once more than 65,535 bytes came on the connection,
+    /// these among them.
     pub fn receive(&mut self, id: StreamId, flow: u32, padding: u32, mine: &mut Share<A>) -> Receipt
         requires whole { mine.old.parts ≡ A.parts }
         requires some { 0 < mine.old.parts }
@@ -165,7 +207,8 @@ impl<A: Ledger, B: Ledger, C: Ledger> ConnBook<A, B, C> {
         receipt
     }
 
-    /// Counts bytes that were returned, for a live call and the connection, or for the connection alone where the id is 0.
+    /// Counts bytes that were returned, for a live call and the connection, or for the connection
+    /// alone where the id is 0.
     pub fn give_back(&mut self, id: StreamId, n: u32) -> Result<(), BookFault>
         ensures book { OnOk result (self.new.book ≡ after_give_back self.old.book id n) }
         ensures unchanged { OnErr result (self.new.book ≡ self.old.book) }
@@ -175,15 +218,17 @@ impl<A: Ledger, B: Ledger, C: Ledger> ConnBook<A, B, C> {
         self.book.give_back(id, n)
     }
 
-    /// Whether credit is due on the connection: at least as much was returned, and not announced yet, as the peer may still send.
+    /// Whether credit is due on the connection: at least as much was returned, and not announced
+    /// yet, as the peer may still send.
     pub fn is_credit_due(&self) -> bool
         ensures { result ≡ is_credit_due self.now.book 0 }
     {
         self.book.window(0) <= self.book.due(0)
     }
 
-    /// Announces all that was returned on an id, 0 for the connection, and answers how much of it wasn't yet: the increment
-    /// of a WINDOW_UPDATE (RFC 9113, section 6.9), or 0. It is due only where it is at least what the peer may still send.
+    /// Announces all that was returned on an id, 0 for the connection, if credit is due: the new
+    /// part is at least what the peer may still send. Answers that part, the increment of a
+    /// WINDOW_UPDATE (RFC 9113, section 6.9), or 0.
     pub fn announce(&mut self, id: StreamId, mine: &mut Share<C>) -> u32
         requires { 0 < mine.old.parts }
         ensures increment { result ≡ credit_of self.old.book id }
@@ -206,8 +251,8 @@ impl<A: Ledger, B: Ledger, C: Ledger> ConnBook<A, B, C> {
         increment
     }
 
-    /// Marks the remote end of a call: no more DATA comes. With both ends marked it is no longer live. Nothing changes where
-    /// it isn't.
+    /// Marks the remote end of a call: no more DATA comes. With both ends marked it is no longer
+    /// live. Nothing changes if it wasn't live.
     pub fn end_remote(&mut self, id: StreamId)
         ensures book { self.new.book ≡ after_end_remote self.old.book id }
         ensures stopped { self.new.stopped ≡ self.old.stopped }
@@ -215,8 +260,8 @@ impl<A: Ledger, B: Ledger, C: Ledger> ConnBook<A, B, C> {
         steps::end_remote(&mut self.book, id);
     }
 
-    /// Marks the local end of a call: nobody takes its DATA any more. With both ends marked it is no longer live. Nothing
-    /// changes where it isn't.
+    /// Marks the local end of a call: its DATA isn't taken any more. With both ends marked it is no
+    /// longer live. Nothing changes if it wasn't live.
     pub fn end_local(&mut self, id: StreamId)
         ensures book { self.new.book ≡ after_end_local self.old.book id }
         ensures stopped { self.new.stopped ≡ self.old.stopped }
@@ -224,7 +269,8 @@ impl<A: Ledger, B: Ledger, C: Ledger> ConnBook<A, B, C> {
         steps::end_local(&mut self.book, id);
     }
 
-    /// Makes a call no longer live, and returns the rest of its bytes on the connection. Nothing changes where it isn't live.
+    /// Makes a call no longer live, and returns the rest of its bytes on the connection. Nothing
+    /// changes where it isn't live.
     pub fn cut(&mut self, id: StreamId)
         ensures book { self.new.book ≡ after_cut self.old.book id }
         ensures stopped { self.new.stopped ≡ self.old.stopped }
@@ -232,8 +278,8 @@ impl<A: Ledger, B: Ledger, C: Ledger> ConnBook<A, B, C> {
         steps::cut(&mut self.book, id);
     }
 
-    /// The writer stops: no call is live any more, nor is any that is admitted later. It takes a step for each live call, at
-    /// most 64.
+    /// Stops the book, as the writer stops: no call is live any more, nor is any that is admitted
+    /// later. It takes a step for each live call, at most 64.
     pub fn stop(&mut self)
         ensures book { self.new.book ≡ after_stop self.old.book }
         ensures stopped { self.new.stopped ≡ true }
@@ -249,8 +295,8 @@ impl<A: Ledger, B: Ledger, C: Ledger> ConnBook<A, B, C> {
         *stopped = true;
     }
 
-    /// Changes nothing, and tells how the shares of those who count stand to the book, where reader and writer meet again: no
-    /// more was announced on the connection than came on it.
+    /// Changes nothing. Where reader and writer meet again, it shows that the shares are what the
+    /// book has, and that no more was announced on the connection than came on it.
     pub fn audit(&mut self, came: &mut Share<A>, calls: &mut Share<B>, told: &mut Share<C>)
         requires came { came.old.parts ≡ A.parts }
         requires calls { calls.old.parts ≡ B.parts }

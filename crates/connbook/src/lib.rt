@@ -1,13 +1,15 @@
 //! The credit book that the threads of a connection share, under one lock.
 //!
-//! The reader of a connection counts what comes and admits calls, each call's worker gives bytes back, the writer tells the
-//! peer of them and stops the book when it can write no more. `ConnBook` is the value under their lock: the credit book of
-//! `flow`, whether the writer has stopped, and three ledgers. Whoever adds to one of the book's numbers holds the share of
-//! its ledger: the reader those of the bytes that came and of the calls that were admitted, the writer that of the bytes
-//! that were announced. So where they meet again, each share is what stands in the book.
+//! The reader of a connection counts what comes and admits calls. Each call's worker gives bytes
+//! back. The writer announces them to the peer, and stops the book when it can write no more.
+//! `ConnBook` is the value under their lock: the credit book of `flow`, whether the writer has
+//! stopped, and three ledgers. Whichever thread adds to one of the book's numbers holds the share
+//! of its ledger: the reader those of the bytes that came and of the calls that were admitted, the
+//! writer that of the bytes that were announced. So when they meet again, each share is what the
+//! book has.
 //!
-//! - `answers`: what a call of the book answers, `Receipt` and `AdmitFault`.
-//! - `steps`: what is done to the credit book alone.
+//! - `answers`: what the book answers, `Receipt` and `AdmitFault`.
+//! - `steps`: the steps on the credit book alone.
 //! - `conn_book`: the value under the lock.
 //! - `uses::three_threads`: a reader, a worker and a writer over one lock.
 #![tactic(auto)]

@@ -1,15 +1,46 @@
-//! What is done to the credit book alone: each step whatever is live, with what it leaves of the numbers that ledgers count.
+//! The steps on the credit book alone. Each works whatever is live, and says how it changes the
+//! numbers that ledgers count.
 
-ghost use Rattle.std.specs.Prelude.{◌≡◌, ◌+◌, ◌≤◌, length, nat_eq, if◌then◌else◌, IsSome, MatchOption, OnOk, OnErr};
-ghost use Rattle.flow.specs.Books.{IsLawful, call_at, window_of, after_receive, after_give_back, after_admit, after_cut, after_end_remote, after_end_local};
-ghost use Rattle.connbook.specs.Receipts.{receipt_of, after_receipt, after_loose, counted_of, Admits, credit_of, after_credit, after_stop};
+ghost use Rattle.std.specs.Prelude.{
+  ◌≡◌,
+  ◌+◌,
+  ◌≤◌,
+  length,
+  nat_eq,
+  if◌then◌else◌,
+  IsSome,
+  MatchOption,
+  OnOk,
+  OnErr,
+};
+ghost use Rattle.flow.specs.Books.{
+  IsLawful,
+  call_at,
+  window_of,
+  after_receive,
+  after_give_back,
+  after_admit,
+  after_cut,
+  after_end_remote,
+  after_end_local,
+};
+ghost use Rattle.connbook.specs.Receipts.{
+  receipt_of,
+  after_receipt,
+  after_loose,
+  counted_of,
+  Admits,
+  credit_of,
+  after_credit,
+  after_stop,
+};
 ghost use Rattle.connbook.specs.Ledgers.{IsQuiet};
 
 use crate::answers::{AdmitFault, Receipt};
 use flow::{Book, MAX_LIVE};
 use h2frame::StreamId;
 
-/// What DATA of so many bytes come to.
+/// The receipt of `flow` bytes of DATA.
 pub(crate) fn judge(book: &Book, id: StreamId, flow: u32) -> Receipt
     requires { IsLawful book.now }
     ensures { result ≡ receipt_of book.now id flow }
@@ -82,7 +113,7 @@ fn count_live(book: &mut Book, id: StreamId, n: u32)
     let _ = book.receive(id, n);
 }
 
-/// Returns bytes of a live call that hasn't returned so many.
+/// Returns bytes of a live call that has at least as many to return.
 fn return_padding(book: &mut Book, id: StreamId, n: u32)
     requires law { IsLawful book.old }
     requires live { MatchOption (call_at book.old id) ⊥

@@ -11,8 +11,13 @@ use Rattle.connection.specs.Heard.{ReadsTo, ReadsWith}
 use Rattle.connection.specs.Limits.{Tally}
 use Rattle.connection.proofs.Heard.{with-same}
 
-module _ {A B C J M N : Type 0} {book : Naming J} {route : Ghosts N} {known : ℕ → List (List ℕ) → Bool → Answer → Type 0} {names : List ℕ → ℕ → Type 0} where
-  pub with-as : (tally : Tally) (event given : InEvent) (end : Option Ending) (one two : Reading J M book) (old new : Orders A B C J N book route) → event ≡ given
-      → ReadsTo known names (given ∷ []) end one old two new → ReadsWith known names tally tally (event ∷ []) end one old two new
+module _ {A B C J M N : Type 0} {book : Naming J} {route : Ghosts N}
+    {known : ℕ → List (List ℕ) → Bool → Answer → Type 0} {names : List ℕ → ℕ → Type 0} where
+  pub with-as : (tally : Tally) (event given : InEvent) (end : Option Ending)
+      (one two : Reading J M book) (old new : Orders A B C J N book route)
+      → event ≡ given
+      → ReadsTo known names (given ∷ []) end one old two new
+      → ReadsWith known names tally tally (event ∷ []) end one old two new
   with-as tally event given end one two old new is reads =
-      subst (λ (e : InEvent). ReadsWith known names tally tally (e ∷ []) end one old two new) (sym is) (with-same tally (given ∷ []) end one two old new reads)
+      subst (λ (e : InEvent). ReadsWith known names tally tally (e ∷ []) end one old two new)
+      (sym is) (with-same tally (given ∷ []) end one two old new reads)

@@ -1,9 +1,13 @@
+pub mod Backlog
+pub mod Closing
 pub mod CreditSteps
+pub mod Endings
 pub mod Tallies
 pub mod Opens
 pub mod Heard
 pub mod Resting
 pub mod Follow
+pub mod Founded
 pub mod RunOrders
 pub mod OpenedOnce
 pub mod Whole

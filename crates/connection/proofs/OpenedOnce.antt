@@ -1,5 +1,33 @@
--- The orders open or refuse each stream once at most. So an Open that a run took is the first of its stream, and none was refused before.
-use Rattle.std.proofs.Common.{◌≡◌, ◌∙◌, ◌⊎◌, inl, inr, ◌+◌, ◌<◌, ◌≤◌, ℕ, Bool, true, false, nat_eq, List, [], ◌∷◌, ◌++◌, Option, None, Some, ap, arith, eqb-true, refl, suc, sym}
+-- The orders open or refuse each stream once at most. So an Open that a run took is the first of
+-- its stream, and none was refused before.
+use Rattle.std.proofs.Common.{
+  ◌≡◌,
+  ◌∙◌,
+  ◌⊎◌,
+  inl,
+  inr,
+  ◌+◌,
+  ◌<◌,
+  ◌≤◌,
+  ℕ,
+  Bool,
+  true,
+  false,
+  nat_eq,
+  List,
+  [],
+  ◌∷◌,
+  ◌++◌,
+  Option,
+  None,
+  Some,
+  ap,
+  arith,
+  eqb-true,
+  refl,
+  suc,
+  sym,
+}
 use Rattle.std.specs.Prelude.{Contains, ◌==◌, ◌||◌, if◌then◌else◌, length}
 use Rattle.std.specs.List.{list_any}
 use Rattle.std.proofs.lemmas.Bool.{cases_Bool, eq-eqb}
@@ -11,9 +39,25 @@ use Rattle.callparts.specs.declared.report.Ending.{Ending}
 use Rattle.connbook.specs.declared.answers.AdmitFault.TheVariants as refused
 use Rattle.connbook.specs.declared.answers.Receipt.TheVariants.{Feed, Discard, CallWindow, Overrun}
 use Rattle.writerloop.specs.OwnOrders.{own_order}
-use Rattle.h2frame.specs.declared.error_code.ErrorCode.TheVariants.{NoError, InternalError, FlowControlError, Cancel}
+use Rattle.h2frame.specs.declared.error_code.ErrorCode.TheVariants.{
+  NoError,
+  InternalError,
+  FlowControlError,
+  Cancel,
+}
 use Rattle.lists.specs.declared.field.Field.{Field}
-use Rattle.outwriter.specs.declared.control.Control.TheVariants.{Settings, Ping, Probe, Window, Open, Refuse, Reset, Goaway, InputEnded, Close}
+use Rattle.outwriter.specs.declared.control.Control.TheVariants.{
+  Settings,
+  Ping,
+  Probe,
+  Window,
+  Open,
+  Refuse,
+  Reset,
+  Goaway,
+  InputEnded,
+  Close,
+}
 use Rattle.outwriter.specs.Calls.{IsRefused, Refuses, is_fresh, is_served, refuses_stream}
 use Rattle.outwriter.specs.Drains.{draining, warning}
 use Rattle.outwriter.specs.Runs.{is_opened, opens_stream}
@@ -28,9 +72,45 @@ use Rattle.session.specs.Events.{Events}
 use Rattle.session.specs.Openings.{AreRising, RiseFrom, opening_of, openings}
 use Rattle.session.proofs.OpeningOrder.{events_rise}
 use Rattle.readerloop.specs.Calls.{is_admitted}
-use Rattle.readerloop.specs.Orders.{begun, came, came_loose, is_fed, last_stream, named, named_with, news_of, opened, orders_at, orders_by, refused_head, without_head}
+use Rattle.readerloop.specs.Orders.{
+  begun,
+  came,
+  came_loose,
+  is_fed,
+  last_stream,
+  named,
+  named_with,
+  news_of,
+  opened,
+  orders_at,
+  orders_by,
+  refused_head,
+  without_head,
+}
 use Rattle.readerloop.specs.Reports.{AreHeard}
-use Rattle.readerloop.specs.Steps.{Fate, Plain, Admitted, Unserved, NoWorker, Stopped, Unknown, TurnedAway, Received, Missed, Lacking, Step, Told, CutOff, Drains, Lacks, admitted, admitted_by, events_of, is_draining, once}
+use Rattle.readerloop.specs.Steps.{
+  Fate,
+  Plain,
+  Admitted,
+  Unserved,
+  NoWorker,
+  Stopped,
+  Unknown,
+  TurnedAway,
+  Received,
+  Missed,
+  Lacking,
+  Step,
+  Told,
+  CutOff,
+  Drains,
+  Lacks,
+  admitted,
+  admitted_by,
+  events_of,
+  is_draining,
+  once,
+}
 use Rattle.writerloop.specs.Orders.{AreLast, HasTaken, IsAmong, IsAnswer, Obeys, ResetsCall, Warns}
 use Rattle.connection.specs.Heard.{HasPut}
 use Rattle.connection.proofs.Opens.{opens-at, opens_of}
@@ -62,7 +142,8 @@ abbrev many : {A : Type 0} → (A → Bool) → List A → ℕ
 many P [] = 0
 many P (x ∷ xs) = bit (P x) + many P xs
 
-many-append : {A : Type 0} (P : A → Bool) (xs ys : List A) → many P (xs ++ ys) ≡ many P xs + many P ys
+many-append : {A : Type 0} (P : A → Bool) (xs ys : List A)
+    → many P (xs ++ ys) ≡ many P xs + many P ys
 many-append P [] ys = omega arith
 many-append P (x ∷ xs) ys = omega (arith, many-append P xs ys)
 
@@ -98,13 +179,15 @@ once-rising id [] rise = omega arith
 once-rising id (first ∷ ids) rise = once-from id first ids rise
 
 -- a stream begins once at most
-begun-once : (id : ℕ) (came : List ℕ) (given : List InEvent) (told : List Step) → Events came given → IsPrefix (events_of told) given → many (nat_eq id) (openings (events_of told)) ≤ 1
+begun-once : (id : ℕ) (came : List ℕ) (given : List InEvent) (told : List Step) → Events came given
+    → IsPrefix (events_of told) given → many (nat_eq id) (openings (events_of told)) ≤ 1
 begun-once id came given told are front =
     omega (
       arith,
       once-rising id (openings given) (events_rise came given are),
       ap (λ (es : List InEvent). many (nat_eq id) (openings es)) front.1,
-      ap (λ (ids : List ℕ). many (nat_eq id) ids) (flat_map-append opening_of (events_of told) front.0),
+      ap (λ (ids : List ℕ). many (nat_eq id) ids)
+          (flat_map-append opening_of (events_of told) front.0),
       many-append (nat_eq id) (openings (events_of told)) (openings front.0),
     )
 
@@ -114,10 +197,13 @@ begun-once id came given told are front =
 abbrev touches : ℕ → List Order → ℕ
 touches id orders = many (opens_stream id) orders + many (refuses_stream id) orders
 
-touches-append : (id : ℕ) (orders more : List Order) → touches id (orders ++ more) ≡ touches id orders + touches id more
-touches-append id orders more = omega (arith, many-append (opens_stream id) orders more, many-append (refuses_stream id) orders more)
+touches-append : (id : ℕ) (orders more : List Order)
+    → touches id (orders ++ more) ≡ touches id orders + touches id more
+touches-append id orders more = omega
+    (arith, many-append (opens_stream id) orders more, many-append (refuses_stream id) orders more)
 
-last-none : (id stream : ℕ) (drains : Bool) (before : List ℕ) → touches id (last_stream stream drains before) ≡ 0
+last-none : (id stream : ℕ) (drains : Bool) (before : List ℕ)
+    → touches id (last_stream stream drains before) ≡ 0
 last-none id stream true before = refl
 last-none id stream false before = by (length before == 4095)
   where
@@ -125,7 +211,8 @@ last-none id stream false before = by (length before == 4095)
     by true = refl
     by false = refl
 
-opened-once : (id last stream : ℕ) (fate : Fate) → touches id (opened last stream fate) ≤ bit (nat_eq id stream)
+opened-once : (id last stream : ℕ) (fate : Fate)
+    → touches id (opened last stream fate) ≤ bit (nat_eq id stream)
 opened-once id last stream Admitted = omega arith
 opened-once id last stream Unknown = omega arith
 opened-once id last stream (TurnedAway refused.TooMany) = omega arith
@@ -139,11 +226,13 @@ opened-once id last stream Plain = omega arith
 opened-once id last stream (Received receipt) = omega arith
 opened-once id last stream Missed = omega arith
 
-without-once : (id stream : ℕ) (found : Option (List Field)) → touches id (without_head stream found ∷ []) ≤ bit (nat_eq id stream)
+without-once : (id stream : ℕ) (found : Option (List Field))
+    → touches id (without_head stream found ∷ []) ≤ bit (nat_eq id stream)
 without-once id stream None = omega arith
 without-once id stream (Some fields) = omega arith
 
-refused-once : (id last stream : ℕ) (fault : HeadFault) (fate : Fate) → touches id (refused_head last stream fault fate) ≤ bit (nat_eq id stream)
+refused-once : (id last stream : ℕ) (fault : HeadFault) (fate : Fate)
+    → touches id (refused_head last stream fault fate) ≤ bit (nat_eq id stream)
 refused-once id last stream fault Lacking = omega arith
 refused-once id last stream fault Plain = without-once id stream (refusal_of fault)
 refused-once id last stream fault Admitted = without-once id stream (refusal_of fault)
@@ -184,17 +273,20 @@ news-none id (news.Settings settings) = refl
 news-none id (news.Ping bytes) = refl
 news-none id (news.Window stream increment) = refl
 
-cut-none : (id stream : ℕ) (feeding : Bool) → touches id (if feeding then Reset stream Cancel true ∷ [] else []) ≡ 0
+cut-none : (id stream : ℕ) (feeding : Bool)
+    → touches id (if feeding then Reset stream Cancel true ∷ [] else []) ≡ 0
 cut-none id stream true = refl
 cut-none id stream false = refl
 
 -- they open or refuse only the stream that the event begins, and that once
-told-once : (id : ℕ) (before : List Step) (event : InEvent) (fate : Fate) → touches id (orders_at before (Told event fate)) ≤ many (nat_eq id) (openings (event ∷ []))
+told-once : (id : ℕ) (before : List Step) (event : InEvent) (fate : Fate)
+    → touches id (orders_at before (Told event fate)) ≤ many (nat_eq id) (openings (event ∷ []))
 told-once id before (events.Open stream head) fate =
     let last = named_with stream (is_draining before) (named before) in
     omega (
       arith,
-      touches-append id (last_stream stream (is_draining before) (begun before)) (opened last stream fate),
+      touches-append id (last_stream stream (is_draining before) (begun before))
+          (opened last stream fate),
       last-none id stream (is_draining before) (begun before),
       opened-once id last stream fate,
     )
@@ -202,11 +294,13 @@ told-once id before (events.BadHead stream fault) fate =
     let last = named_with stream (is_draining before) (named before) in
     omega (
       arith,
-      touches-append id (last_stream stream (is_draining before) (begun before)) (refused_head last stream fault fate),
+      touches-append id (last_stream stream (is_draining before) (begun before))
+          (refused_head last stream fault fate),
       last-none id stream (is_draining before) (begun before),
       refused-once id last stream fault fate,
     )
-told-once id before (events.Data stream piece counted) fate = omega (arith, came-none id (named before) stream fate)
+told-once id before (events.Data stream piece counted) fate =
+    omega (arith, came-none id (named before) stream fate)
 told-once id before (events.Loose counted) fate = omega (arith, loose-none id (named before) fate)
 told-once id before (events.End stream) fate = omega arith
 told-once id before (events.Reset stream code) fate = omega arith
@@ -215,7 +309,8 @@ told-once id before (events.Control control) fate = omega (arith, news-none id c
 told-once id before events.PeerGoaway fate = omega arith
 told-once id before (events.Fatal cause) fate = omega arith
 
-ordered-once : (id : ℕ) (told : List Step) → touches id (orders_by told) ≤ many (nat_eq id) (openings (events_of told))
+ordered-once : (id : ℕ) (told : List Step)
+    → touches id (orders_by told) ≤ many (nat_eq id) (openings (events_of told))
 ordered-once id [] = omega arith
 ordered-once id (Told event fate ∷ before) =
     omega (
@@ -224,16 +319,25 @@ ordered-once id (Told event fate ∷ before) =
       ordered-once id before,
       told-once id before event fate,
       many-append (nat_eq id) (openings (events_of before)) (openings (event ∷ [])),
-      ap (λ (ids : List ℕ). many (nat_eq id) ids) (flat_map-append opening_of (events_of before) (event ∷ [])),
+      ap (λ (ids : List ℕ). many (nat_eq id) ids)
+          (flat_map-append opening_of (events_of before) (event ∷ [])),
     )
 ordered-once id (CutOff stream ∷ before) =
-    omega (arith, touches-append id (orders_by before) (orders_at before (CutOff stream)), cut-none id stream (is_fed stream before), ordered-once id before)
-ordered-once id (Drains ∷ before) = omega (arith, touches-append id (orders_by before) (orders_at before Drains), ordered-once id before)
-ordered-once id (Lacks ∷ before) = omega (arith, touches-append id (orders_by before) (orders_at before Lacks), ordered-once id before)
+    omega (
+      arith,
+      touches-append id (orders_by before) (orders_at before (CutOff stream)),
+      cut-none id stream (is_fed stream before),
+      ordered-once id before,
+    )
+ordered-once id (Drains ∷ before) = omega
+    (arith, touches-append id (orders_by before) (orders_at before Drains), ordered-once id before)
+ordered-once id (Lacks ∷ before) = omega
+    (arith, touches-append id (orders_by before) (orders_at before Lacks), ordered-once id before)
 
 -- ---- the streams of calls that were admitted
 
-many-opens : (id : ℕ) (orders : List Order) → many (opens_stream id) orders ≡ many (nat_eq id) (opens_of orders)
+many-opens : (id : ℕ) (orders : List Order)
+    → many (opens_stream id) orders ≡ many (nat_eq id) (opens_of orders)
 many-opens id [] = refl
 many-opens id (Open stream sender ∷ orders) = omega (arith, many-opens id orders)
 many-opens id (Settings settings ∷ orders) = omega (arith, many-opens id orders)
@@ -247,7 +351,8 @@ many-opens id (InputEnded ∷ orders) = omega (arith, many-opens id orders)
 many-opens id (Close ∷ orders) = omega (arith, many-opens id orders)
 
 -- a stream is opened as often as its call was admitted
-many-admitted : (id : ℕ) (told : List Step) → many (opens_stream id) (orders_by told) ≡ many (nat_eq id) (admitted told)
+many-admitted : (id : ℕ) (told : List Step)
+    → many (opens_stream id) (orders_by told) ≡ many (nat_eq id) (admitted told)
 many-admitted id [] = refl
 many-admitted id (step ∷ before) =
     omega (
@@ -264,7 +369,8 @@ any-many id [] is = absurd cc
 any-many id (one ∷ ids) is = elim (cases_Bool (nat_eq id one)) [
   | inl same ↦ omega (arith, bit-true (nat_eq id one) same)
   | inr apart ↦
-      let rest = any-many id ids (sym (ap (λ (b : Bool). b || list_any (nat_eq id) ids) apart) ∙ is) in
+      let rest =
+      any-many id ids (sym (ap (λ (b : Bool). b || list_any (nat_eq id) ids) apart) ∙ is) in
       omega (arith, rest)
 ]
 
@@ -293,38 +399,55 @@ module _ (P : Order → Bool) (own : PassesNone P) where
 
   answer-none : (order : Order) (before : List RunStep) → IsAnswer order before → bit (P order) ≡ 0
   answer-none order [] answer = absurd answer
-  answer-none order (Taken blamed ∷ before) answer = none-by order (own_order answer.0 answer.1) answer.2 (own.answers answer.0 answer.1)
+  answer-none order (Taken blamed ∷ before) answer =
+      none-by order (own_order answer.0 answer.1) answer.2 (own.answers answer.0 answer.1)
   answer-none order (Granted id n ∷ before) answer = absurd answer
   answer-none order (Written frame ∷ before) answer = absurd answer
   answer-none order (Returned id items ∷ before) answer = absurd answer
 
-  own-none : (order : Order) (orders : List Order) (before : List RunStep) → IsAnswer order before ⊎ (ResetsCall order orders ⊎ Warns order before) → bit (P order) ≡ 0
+  own-none : (order : Order) (orders : List Order) (before : List RunStep)
+      → IsAnswer order before ⊎ (ResetsCall order orders ⊎ Warns order before) → bit (P order) ≡ 0
   own-none order orders before (inl answer) = answer-none order before answer
-  own-none order orders before (inr (inl resets)) = none-by order (Reset resets.0 InternalError true) resets.1 (own.leaves resets.0)
+  own-none order orders before (inr (inl resets)) =
+      none-by order (Reset resets.0 InternalError true) resets.1 (own.leaves resets.0)
   own-none order orders before (inr (inr (inl warns))) = none-by order warning warns.0 own.warns
-  own-none order orders before (inr (inr (inr warns))) = none-by order (Probe draining) warns.0 own.probes
+  own-none order orders before (inr (inr (inr warns))) =
+      none-by order (Probe draining) warns.0 own.probes
 
-  took-many : (orders : List Order) (run : List RunStep) → HasTaken orders run → many_taken P run ≡ many P orders
+  took-many : (orders : List Order) (run : List RunStep) → HasTaken orders run
+      → many_taken P run ≡ many P orders
   took-many orders [] took = sym (ap (λ (os : List Order). many P os) took)
   took-many orders (Taken order ∷ before) (inl took) =
-      omega (arith, took-many took.0 before took.2, ap (λ (os : List Order). many P os) took.1, many-append P took.0 (order ∷ []))
-  took-many orders (Taken order ∷ before) (inr took) = omega (arith, took-many orders before took.1, own-none order orders before took.0)
+      omega (
+        arith,
+        took-many took.0 before took.2,
+        ap (λ (os : List Order). many P os) took.1,
+        many-append P took.0 (order ∷ []),
+      )
+  took-many orders (Taken order ∷ before) (inr took) =
+      omega (arith, took-many orders before took.1, own-none order orders before took.0)
   took-many orders (Granted id n ∷ before) took = took-many orders before took
   took-many orders (Written frame ∷ before) took = took-many orders before took
   took-many orders (Returned id items ∷ before) took = took-many orders before took
 
-  end-none : (order : Order) (rest : List Order) → ((last : ℕ) × (order ≡ Goaway last reason.Memory)) ⊎ ((order ≡ Close) × IsAmong order rest) → bit (P order) ≡ 0
-  end-none order rest (inl goaway) = none-by order (Goaway goaway.0 reason.Memory) goaway.1 (own.gives_up goaway.0)
+  end-none : (order : Order) (rest : List Order)
+      → ((last : ℕ) × (order ≡ Goaway last reason.Memory)) ⊎ ((order ≡ Close) × IsAmong order rest)
+      → bit (P order) ≡ 0
+  end-none order rest (inl goaway) =
+      none-by order (Goaway goaway.0 reason.Memory) goaway.1 (own.gives_up goaway.0)
   end-none order rest (inr close) = none-by order Close close.0 own.closes
 
-  ends-none : (rest : List Order) (ends steps : List RunStep) → AreLast rest ends → many_taken P (ends ++ steps) ≡ many_taken P steps
+  ends-none : (rest : List Order) (ends steps : List RunStep) → AreLast rest ends
+      → many_taken P (ends ++ steps) ≡ many_taken P steps
   ends-none rest [] steps last = refl
-  ends-none rest (Taken order ∷ before) steps last = omega (arith, end-none order rest last.0, ends-none rest before steps last.1)
+  ends-none rest (Taken order ∷ before) steps last =
+      omega (arith, end-none order rest last.0, ends-none rest before steps last.1)
   ends-none rest (Granted id n ∷ before) steps last = ends-none rest before steps last
   ends-none rest (Written frame ∷ before) steps last = ends-none rest before steps last
   ends-none rest (Returned id items ∷ before) steps last = ends-none rest before steps last
 
-  obeyed-many : (put : List Order) (run : List RunStep) → Obeys true put run → many_taken P run ≤ many P put
+  obeyed-many : (put : List Order) (run : List RunStep) → Obeys true put run
+      → many_taken P run ≤ many P put
   obeyed-many put run obeys =
       omega (
         arith,
@@ -349,8 +472,11 @@ module _ (P : Order → Bool) (own : PassesNone P) where
       )
 
   -- a run takes no more than the steps lead to
-  taken-many : (told : List Step) (put : List Order) (run : List RunStep) → HasPut (orders_by told ++ InputEnded ∷ []) put → Obeys true put run → many_taken P run ≤ many P (orders_by told)
-  taken-many told put run has obeys = omega (arith, obeyed-many put run obeys, put-many (orders_by told) put has)
+  taken-many : (told : List Step) (put : List Order) (run : List RunStep)
+      → HasPut (orders_by told ++ InputEnded ∷ []) put → Obeys true put run
+      → many_taken P run ≤ many P (orders_by told)
+  taken-many told put run has obeys =
+      omega (arith, obeyed-many put run obeys, put-many (orders_by told) put has)
 
 opens-none : (id : ℕ) → PassesNone (opens_stream id)
 opens-none id = record {
@@ -363,7 +489,9 @@ opens-none id = record {
   closes = refl;
 }
   where
-    by : (last one : ℕ) (b : Bool) → opens_stream id (if b then Goaway last reason.Window else Reset one FlowControlError true) ≡ false
+    by : (last one : ℕ) (b : Bool)
+        → opens_stream id (if b then Goaway last reason.Window else Reset one FlowControlError true)
+        ≡ false
     by last one true = refl
     by last one false = refl
 
@@ -378,38 +506,50 @@ refuses-none id = record {
   closes = refl;
 }
   where
-    by : (last one : ℕ) (b : Bool) → refuses_stream id (if b then Goaway last reason.Window else Reset one FlowControlError true) ≡ false
+    by : (last one : ℕ) (b : Bool)
+        → refuses_stream id
+        (if b then Goaway last reason.Window else Reset one FlowControlError true)
+        ≡ false
     by last one true = refl
     by last one false = refl
 
 -- ---- what a run took of a stream
 
-fresh-none : (id : ℕ) (run : List RunStep) → many_taken (opens_stream id) run + many_taken (refuses_stream id) run ≡ 0 → is_fresh id run ≡ true
+fresh-none : (id : ℕ) (run : List RunStep)
+    → many_taken (opens_stream id) run + many_taken (refuses_stream id) run ≡ 0
+    → is_fresh id run ≡ true
 fresh-none id [] none = refl
 fresh-none id (Taken order ∷ before) none =
     let opens = bit-none (opens_stream id order) (omega (arith, none)) in
     let refuses = bit-none (refuses_stream id order) (omega (arith, none)) in
-    ap (λ (b : Bool). if b then false else (if refuses_stream id order then false else is_fresh id before)) opens
-    ∙ (ap (λ (b : Bool). if b then false else is_fresh id before) refuses ∙ fresh-none id before (omega (arith, none)))
+    ap (λ (b : Bool).
+    if b then false else (if refuses_stream id order then false else is_fresh id before)) opens
+    ∙ (ap (λ (b : Bool). if b then false else is_fresh id before) refuses
+    ∙ fresh-none id before (omega (arith, none)))
 fresh-none id (Granted stream n ∷ before) none = fresh-none id before none
 fresh-none id (Written frame ∷ before) none = fresh-none id before none
 fresh-none id (Returned stream items ∷ before) none = fresh-none id before none
 
-served-once : (id : ℕ) (run : List RunStep) → many_taken (opens_stream id) run + many_taken (refuses_stream id) run ≤ 1 → is_opened id run ≡ true → is_served id run ≡ true
+served-once : (id : ℕ) (run : List RunStep)
+    → many_taken (opens_stream id) run + many_taken (refuses_stream id) run ≤ 1
+    → is_opened id run ≡ true → is_served id run ≡ true
 served-once id [] few is = absurd cc
 served-once id (Taken order ∷ before) few is = elim (cases_Bool (opens_stream id order)) [
   | inl opens ↦
       let none = bit-true (opens_stream id order) opens in
-      ap (λ (b : Bool). if b then is_fresh id before else is_served id before) opens ∙ fresh-none id before (omega (arith, few, none))
+      ap (λ (b : Bool). if b then is_fresh id before else is_served id before) opens
+      ∙ fresh-none id before (omega (arith, few, none))
   | inr other ↦
       ap (λ (b : Bool). if b then is_fresh id before else is_served id before) other
-      ∙ served-once id before (omega (arith, few)) (sym (ap (λ (b : Bool). b || is_opened id before) other) ∙ is)
+      ∙ served-once id before (omega (arith, few))
+      (sym (ap (λ (b : Bool). b || is_opened id before) other) ∙ is)
 ]
 served-once id (Granted stream n ∷ before) few is = served-once id before few is
 served-once id (Written frame ∷ before) few is = served-once id before few is
 served-once id (Returned stream items ∷ before) few is = served-once id before few is
 
-refuses-here : (id : ℕ) (fields : List Field) (order : Order) → Refuses id fields order → refuses_stream id order ≡ true
+refuses-here : (id : ℕ) (fields : List Field) (order : Order) → Refuses id fields order
+    → refuses_stream id order ≡ true
 refuses-here id fields (Refuse stream found) same = eq-eqb id stream same.0
 refuses-here id fields (Settings settings) same = absurd same
 refuses-here id fields (Ping bytes) same = absurd same
@@ -421,22 +561,28 @@ refuses-here id fields (Goaway last cause) same = absurd same
 refuses-here id fields InputEnded same = absurd same
 refuses-here id fields Close same = absurd same
 
-some-refused : (id : ℕ) (fields : List Field) (run : List RunStep) → IsRefused id fields run → 1 ≤ many_taken (refuses_stream id) run
+some-refused : (id : ℕ) (fields : List Field) (run : List RunStep) → IsRefused id fields run
+    → 1 ≤ many_taken (refuses_stream id) run
 some-refused id fields [] was = absurd was
-some-refused id fields (Taken order ∷ before) (inl here) = omega (arith, bit-true (refuses_stream id order) (refuses-here id fields order here))
-some-refused id fields (Taken order ∷ before) (inr there) = omega (arith, some-refused id fields before there)
+some-refused id fields (Taken order ∷ before) (inl here) =
+    omega (arith, bit-true (refuses_stream id order) (refuses-here id fields order here))
+some-refused id fields (Taken order ∷ before) (inr there) =
+    omega (arith, some-refused id fields before there)
 some-refused id fields (Granted stream n ∷ before) was = some-refused id fields before was
 some-refused id fields (Written frame ∷ before) was = some-refused id fields before was
 some-refused id fields (Returned stream items ∷ before) was = some-refused id fields before was
 
 -- ---- of orders that were obeyed
 
-served-some : (id : ℕ) (run : List RunStep) → is_served id run ≡ true → 1 ≤ many_taken (opens_stream id) run
+served-some : (id : ℕ) (run : List RunStep) → is_served id run ≡ true
+    → 1 ≤ many_taken (opens_stream id) run
 served-some id [] is = absurd cc
 served-some id (Taken order ∷ before) is = elim (cases_Bool (opens_stream id order)) [
   | inl opens ↦ omega (arith, bit-true (opens_stream id order) opens)
   | inr other ↦
-      let rest = served-some id before (sym (ap (λ (b : Bool). if b then is_fresh id before else is_served id before) other) ∙ is) in
+      let rest =
+      served-some id before
+      (sym (ap (λ (b : Bool). if b then is_fresh id before else is_served id before) other) ∙ is) in
       omega (arith, rest)
 ]
 served-some id (Granted stream n ∷ before) is = served-some id before is
@@ -453,16 +599,24 @@ many-there id (one ∷ ids) some = elim (cases_Bool (nat_eq id one)) [
 ]
 
 -- the stream of a call that a run serves is one that they open
-pub served-among : (id : ℕ) (orders : List Order) (run : List RunStep) → Obeys true orders run → is_served id run ≡ true → Contains (opens_of orders) id
+pub served-among : (id : ℕ) (orders : List Order) (run : List RunStep) → Obeys true orders run
+    → is_served id run ≡ true → Contains (opens_of orders) id
 served-among id orders run obeys is =
-    many-there id (opens_of orders) (omega (arith, served-some id run is, obeyed-many (opens_stream id) (opens-none id) orders run obeys, many-opens id orders))
+    many-there id (opens_of orders) (omega (
+      arith,
+      served-some id run is,
+      obeyed-many (opens_stream id) (opens-none id) orders run obeys,
+      many-opens id orders,
+    ))
 
 -- ---- of what was heard
 
-module _ (end : Ending) (came : List ℕ) (told : List Step) (put : List Order) (run : List RunStep) (given : List InEvent) (heard : AreHeard end came (events_of told)) (are : Events came given)
+module _ (end : Ending) (came : List ℕ) (told : List Step) (put : List Order) (run : List RunStep)
+    (given : List InEvent) (heard : AreHeard end came (events_of told)) (are : Events came given)
     (has : HasPut (orders_by told ++ InputEnded ∷ []) put) (obeys : Obeys true put run) where
   touched-once : (id : ℕ) → touches id (orders_by told) ≤ 1
-  touched-once id = omega (arith, ordered-once id told, begun-once id came given told are (heard.front given are))
+  touched-once id =
+      omega (arith, ordered-once id told, begun-once id came given told are (heard.front given are))
 
   pub once-opened : (id : ℕ) → is_opened id run ≡ true → is_served id run ≡ true
   once-opened id is =
@@ -475,7 +629,8 @@ module _ (end : Ending) (came : List ℕ) (told : List Step) (put : List Order) 
       )) is
 
   -- the stream of a call that was admitted is not refused
-  pub never-refused : (id : ℕ) (fields : List Field) → is_admitted id told ≡ true → IsRefused id fields run → ⊥
+  pub never-refused : (id : ℕ) (fields : List Field) → is_admitted id told ≡ true
+      → IsRefused id fields run → ⊥
   never-refused id fields known was =
       omega (
         arith,

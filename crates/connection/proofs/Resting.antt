@@ -18,19 +18,30 @@ in-rest x first xs there = (suc there.0, omega (arith, there.1), there.2)
 
 module _ {J : Type 0} {book : Naming J} where
   -- the others are among those that there were
-  pub carries-less : (sent : List Sent) (old new : Senders J book) (returning : Returning J book) → HandsOver old new returning → CarriesRest sent old → CarriesRest sent new
+  pub carries-less : (sent : List Sent) (old new : Senders J book) (returning : Returning J book)
+      → HandsOver old new returning → CarriesRest sent old → CarriesRest sent new
   carries-less sent old new returning hands carries other id number call =
       carries other id
-      (Contains-permutation (numbered hands.id returning.sending.value ∷ rest_numbers new) (rest_numbers old) (numbered id other.sending.value) (IsPermutation-sym _ _ hands.number)
-      (in-rest (numbered id other.sending.value) (numbered hands.id returning.sending.value) (rest_numbers new) number))
-      (Contains-permutation ((hands.id, got_of returning.sending.value.sender) ∷ rest_calls new) (rest_calls old) (id, got_of other.sending.value.sender) (IsPermutation-sym _ _ hands.call)
-      (in-rest (id, got_of other.sending.value.sender) (hands.id, got_of returning.sending.value.sender) (rest_calls new) call))
+      (Contains-permutation (numbered hands.id returning.sending.value ∷ rest_numbers new)
+      (rest_numbers old) (numbered id other.sending.value) (IsPermutation-sym _ _ hands.number)
+      (in-rest (numbered id other.sending.value) (numbered hands.id returning.sending.value)
+      (rest_numbers new) number))
+      (Contains-permutation ((hands.id, got_of returning.sending.value.sender) ∷ rest_calls new)
+      (rest_calls old) (id, got_of other.sending.value.sender) (IsPermutation-sym _ _ hands.call)
+      (in-rest (id, got_of other.sending.value.sender)
+      (hands.id, got_of returning.sending.value.sender) (rest_calls new) call))
 
   -- that which is handed over is
-  pub carries-first : (sent : List Sent) (old new : Senders J book) (returning : Returning J book) → HandsOver old new returning → CarriesRest sent old → HasReturned (carried_in sent) returning.sending.value
+  pub carries-first : (sent : List Sent) (old new : Senders J book) (returning : Returning J book)
+      → HandsOver old new returning → CarriesRest sent old
+      → HasReturned (carried_in sent) returning.sending.value
   carries-first sent old new returning hands carries =
       carries returning hands.id
-      (Contains-permutation (numbered hands.id returning.sending.value ∷ rest_numbers new) (rest_numbers old) (numbered hands.id returning.sending.value) (IsPermutation-sym _ _ hands.number)
+      (Contains-permutation (numbered hands.id returning.sending.value ∷ rest_numbers new)
+      (rest_numbers old) (numbered hands.id returning.sending.value)
+      (IsPermutation-sym _ _ hands.number)
       (first-in (numbered hands.id returning.sending.value) (rest_numbers new)))
-      (Contains-permutation ((hands.id, got_of returning.sending.value.sender) ∷ rest_calls new) (rest_calls old) (hands.id, got_of returning.sending.value.sender) (IsPermutation-sym _ _ hands.call)
+      (Contains-permutation ((hands.id, got_of returning.sending.value.sender) ∷ rest_calls new)
+      (rest_calls old) (hands.id, got_of returning.sending.value.sender)
+      (IsPermutation-sym _ _ hands.call)
       (first-in (hands.id, got_of returning.sending.value.sender) (rest_calls new)))

@@ -1,6 +1,7 @@
 pub mod Left
 pub mod Limits
 pub mod Codes
+pub mod Endings
 pub mod Puts
 pub mod Rest
 pub mod Heard

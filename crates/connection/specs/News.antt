@@ -1,5 +1,5 @@
--- What the peer tells the side that writes, in its order: SETTINGS, PING and WINDOW_UPDATE, and what acknowledges it (RFC 9113, sections
--- 6.5.3, 6.7 and 6.9).
+-- The peer's frames for the side that writes, in their order: SETTINGS, PING and WINDOW_UPDATE; and
+-- what acknowledges them (RFC 9113, sections 6.5.3, 6.7 and 6.9).
 use Rattle.std.specs.Prelude.{Bool, true, false, not, ◌&&◌, List, [], ◌∷◌, ◌++◌, filter, flat_map}
 use Rattle.h2frame.specs.declared.frame.Frame.{Frame}
 use Rattle.h2frame.specs.declared.kind.FrameKind.{FrameKind}
@@ -23,7 +23,7 @@ is_news _ = false
 abbrev pub news_in : List Order → List Order
 news_in orders = filter is_news orders
 
--- those that events tell, as orders
+-- those of an event, as orders
 abbrev pub news_at : InEvent → List Order
 news_at (events.Control control) = news_of control ∷ []
 news_at _ = []

@@ -1,5 +1,22 @@
 -- The orders that the reading thread puts.
-use Rattle.std.specs.Prelude.{◌≡◌, ◌⊎◌, Bool, true, false, All, Contains, List, [], ◌∷◌, ◌++◌, map, Option, None, Some, IfSome, IsSomeAnd}
+use Rattle.std.specs.Prelude.{
+  ◌≡◌,
+  ◌⊎◌,
+  true,
+  false,
+  All,
+  Contains,
+  List,
+  [],
+  ◌∷◌,
+  ◌++◌,
+  map,
+  Option,
+  None,
+  Some,
+  IfSome,
+  IsSomeAnd,
+}
 use Rattle.lane.specs.Ring.{put_in}
 use Rattle.callparts.specs.declared.order.Opening.{Opening}
 use Rattle.callparts.specs.declared.register.Naming.{Ghosts as Naming}
@@ -10,48 +27,50 @@ use Rattle.outwriter.specs.Steps.{Order, order_of}
 use Rattle.connection.specs.declared.orders.Orders.{Orders}
 use Rattle.connection.specs.declared.orders.Route.{Ghosts}
 
-module _ {T : Type 0} where
-  -- of the items that were put these were taken, and none is left where it says so
-  abbrev pub AreOf : List T → List T → Bool → Type 0
-  AreOf took put are_all = (left : List T) × (took ++ left ≡ put) × (are_all ≡ true → left ≡ [])
-
-  -- these are the first of those, and all of them where that holds
-  abbrev pub AreFirst : List T → List T → Type 0 → Type 0
-  AreFirst first all P = (left : List T) × (first ++ left ≡ all) × (P → left ≡ [])
-
 module _ {J : Type 0} {book : Naming J} where
-  -- a call that an order opens stands in the register, at the number of its sender, with the order's stream
+  -- a call that an order opens is in the register, at the number of its sender, with the order's
+  -- stream
   abbrev pub IsOwn : Control (Opening J book) → Type 0
   IsOwn (Open id opening) =
-      IsSomeAnd (request_at opening.sending.value.number.seen.log opening.sending.value.number.value) (λ request. request.id ≡ id)
+      IsSomeAnd (request_at opening.sending.value.number.seen.log
+      opening.sending.value.number.value) (λ request. request.id ≡ id)
   IsOwn _ = Unit {0}
 
-  -- an order that isn't put is kept in place of another, or isn't
-  abbrev pub IsKept : Control (Opening J book) → Option (Control (Opening J book)) → Option (Control (Opening J book)) → Type 0
+  -- an order that isn't put may be kept aside, in place of another
+  abbrev pub IsKept : Control (Opening J book) → Option (Control (Opening J book))
+      → Option (Control (Opening J book)) → Type 0
   IsKept order old new = (new ≡ old) ⊎ (new ≡ Some order)
 
 module _ {A B C J N : Type 0} {book : Naming J} {route : Ghosts N} where
+  -- what was put, and the backlog, which is put behind it
   abbrev pub put_of : Orders A B C J N book route → List (Control (Opening J book))
-  put_of orders = put_in orders.outbox.ring
+  put_of orders = put_in orders.outbox.ring ++ orders.backlog.items
 
   abbrev pub put_orders : Orders A B C J N book route → List Order
   put_orders orders = map (λ order. order_of order) (put_of orders)
 
-  -- an order stands behind the others, none of which was dropped; or it is dropped, and may be kept aside
-  abbrev pub Puts : Control (Opening J book) → Orders A B C J N book route → Orders A B C J N book route → Type 0
+  -- an order stands behind the others, none of which was dropped; or it is dropped, for want of
+  -- memory, and may be kept aside
+  abbrev pub Puts : Control (Opening J book) → Orders A B C J N book route
+      → Orders A B C J N book route → Type 0
   Puts order old new =
-      ((put_of new ≡ put_of old ++ order ∷ []) × (old.has_dropped ≡ false) × (new.has_dropped ≡ false) × (new.unput ≡ old.unput))
+      ((put_of new ≡ put_of old ++ order ∷ []) × (old.has_dropped ≡ false)
+      × (new.has_dropped ≡ false) × (new.unput ≡ old.unput))
       ⊎ ((put_of new ≡ put_of old) × (new.has_dropped ≡ true) × IsKept order old.unput new.unput)
 
-  abbrev pub PutsAll : Option (Control (Opening J book)) → Orders A B C J N book route → Orders A B C J N book route → Type 0
+  abbrev pub PutsAll : Option (Control (Opening J book)) → Orders A B C J N book route
+      → Orders A B C J N book route → Type 0
   PutsAll None old new = new ≡ old
   PutsAll (Some order) old new = Puts order old new
 
   -- nothing was put
   abbrev pub IsSame : Orders A B C J N book route → Orders A B C J N book route → Type 0
-  IsSame old new = (new.outbox ≡ old.outbox) × (new.has_dropped ≡ old.has_dropped) × (new.unput ≡ old.unput)
+  IsSame old new =
+      (new.outbox ≡ old.outbox) × (new.has_dropped ≡ old.has_dropped) × (new.unput ≡ old.unput)
+      × (new.backlog ≡ old.backlog) × (new.has_stopped ≡ old.has_stopped)
 
-  -- What was put begins these orders, and is all of them where none was dropped. That which is kept aside is one of those that were dropped.
+  -- What was put begins these orders, and is all of them where none was dropped. The order that is
+  -- kept aside is one of those that were dropped.
   pub record Ordered (all : List Order) (orders : Orders A B C J N book route) : Type 0 where
     pub dropped : List (Control (Opening J book))
     pub parts : map (λ order. order_of order) (put_of orders ++ dropped) ≡ all
@@ -59,7 +78,8 @@ module _ {A B C J N : Type 0} {book : Naming J} {route : Ghosts N} where
     pub kept : IfSome orders.unput (Contains dropped)
     pub whole : orders.has_dropped ≡ false → dropped ≡ []
 
-  -- The same of orders behind which no more come.
+  -- What was put begins these orders, and ends with the order that no more come. Where no order was
+  -- dropped it is all of them.
   pub record Closed (all : List Order) (orders : Orders A B C J N book route) : Type 0 where
     pub front : List (Control (Opening J book))
     pub dropped : List (Control (Opening J book))

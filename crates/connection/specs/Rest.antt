@@ -1,4 +1,5 @@
--- The senders that come back at the end: that of an order which wasn't put, and those that the writer had.
+-- The senders that come back at the end: that of an order which wasn't put, and those that the
+-- writer had.
 use Rattle.std.specs.Prelude.{ℕ, Contains, List}
 use Rattle.callparts.specs.declared.order.Opening.{Opening}
 use Rattle.callparts.specs.declared.order.Returning.{Returning}
@@ -11,12 +12,15 @@ use Rattle.writerloop.specs.Rest.{rest_calls, rest_numbers}
 use Rattle.writerloop.specs.Sent.{got_of, numbered}
 
 module _ {J : Type 0} {book : Naming J} where
-  -- what the sender of an order got that opens a call is carried so
+  -- the sender of an order that opens a call got what is carried of the call
   abbrev pub CarriesOpen : List Sent → Control (Opening J book) → Type 0
   CarriesOpen sent (Open id opening) = HasReturned (carried_in sent) opening.sending.value
   CarriesOpen sent _ = Unit {0}
 
-  -- what each of the senders got that a writer had at its end is carried so
+  -- each of the senders that a writer had at its end got what is carried of its call
   abbrev pub CarriesRest : List Sent → Senders J book → Type 0
-  CarriesRest sent rest = (returning : Returning J book) (id : ℕ) → Contains (rest_numbers rest) (numbered id returning.sending.value)
-      → Contains (rest_calls rest) (id, got_of returning.sending.value.sender) → HasReturned (carried_in sent) returning.sending.value
+  CarriesRest sent rest =
+      (returning : Returning J book) (id : ℕ)
+      → Contains (rest_numbers rest) (numbered id returning.sending.value)
+      → Contains (rest_calls rest) (id, got_of returning.sending.value.sender)
+      → HasReturned (carried_in sent) returning.sending.value

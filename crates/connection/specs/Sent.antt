@@ -10,13 +10,15 @@ use Rattle.outwriter.specs.Parts.{Mark, spelled}
 use Rattle.outwriter.specs.Steps.{Step}
 use Rattle.writerloop.specs.Sent.{IsTold}
 
--- What the frames of a call's stream tell begins what these items spell, which were sent of it, or is a front of that with a reset behind it.
+-- The frames of a call's stream begin what these items, which were sent of it, spell; or they are a
+-- front of that and then a reset.
 abbrev pub CarriesWhatWasSent : List Step → ℕ → List OutItem → Type 0
 CarriesWhatWasSent run id items = IsTold run (id, items)
 
--- What the frames of a stream tell is the whole response to its call: all that was given, which is an outcome of what the method of its
--- index answers to all that was taken, with the status of its account.
-pub record IsWholeResponse (answers : ℕ → List (List ℕ) → Bool → Answer → Type 0) (head : CallHead) (whole : Account) (account : CallAccount) (part : List Mark) : Type 0 where
+-- The frames of a stream are the whole response to its call: all that was given. That is an outcome
+-- of what the method of its index answers to all that was taken, and the account has its status.
+pub record IsWholeResponse (answers : ℕ → List (List ℕ) → Bool → Answer → Type 0) (head : CallHead)
+    (whole : Account) (account : CallAccount) (part : List Mark) : Type 0 where
   -- all that was given was sent
   pub sent : whole.sent ≡ whole.given
   -- the frames spell each item of it, in order, and nothing else
@@ -25,6 +27,8 @@ pub record IsWholeResponse (answers : ℕ → List (List ℕ) → Bool → Answe
   pub overdue : Bool
   pub timed : overdue ≡ true → IsSome head.timeout
   -- whatever the method answers, that is an outcome of it
-  pub outcome : (answer : Answer) → answers account.method whole.taken (is_end whole.told) answer → IsOutcome head overdue whole.told answer whole.given account.status
-  -- and one with trailers, whose status the account has
-  pub status : (answer : Answer) → answers account.method whole.taken (is_end whole.told) answer → IsSome account.status
+  pub outcome : (answer : Answer) → answers account.method whole.taken (is_end whole.told) answer
+      → IsOutcome head overdue whole.told answer whole.given account.status
+  -- the outcome has trailers, with the account's status
+  pub status : (answer : Answer) → answers account.method whole.taken (is_end whole.told) answer
+      → IsSome account.status

@@ -1,4 +1,5 @@
-//! What follows of the credit that is told on a connection, by the fields of its record (`IsServed`). It does nothing.
+//! A law of the credit that the server announces on a connection, by the fields of its record
+//! (`IsServed`). The function does nothing.
 
 ghost use Rattle.std.specs.Prelude.{◌≤◌, ℕ, List};
 ghost use Rattle.callparts.specs.declared.report.Ending.{Ending as Ended};
@@ -12,8 +13,8 @@ ghost use Rattle.session.specs.Framings.{Framed};
 ghost use Rattle.readerloop.specs.Reports.{AreHeard};
 ghost use Rattle.readerloop.specs.Steps.{Step, events_of};
 
-/// The increments of WINDOW_UPDATE on the connection sum to at most the payloads, padding included, of the DATA frames that came
-/// and count (RFC 9113, sections 6.1 and 6.9).
+/// The increments of WINDOW_UPDATE on the connection sum to at most the payloads, padding included,
+/// of the DATA frames that came and count (RFC 9113, sections 6.1 and 6.9).
 pub fn credit_by_frames()
     ensures { (end : Ended) (came : List ℕ) (told : List Step) (run : List RunStep)
         (given : List InEventOf) (entries : List Entry) →

@@ -14,7 +14,8 @@ pub struct Drainer<A: Ledger, B: Ledger, C: Ledger> {
     shared: Arc<Shared<A, B, C>>,
 }
 
-/// What a connection is served with, so that its drainer can end it: what its threads share, and the shares of its credit book.
+/// What `serve_connection` takes so that a drainer can end the connection: what its threads share,
+/// and the shares of its credit book.
 #[derive(Drop)]
 pub struct DrainSeat<A: Ledger, B: Ledger, C: Ledger> {
     pub(crate) shared: Arc<Shared<A, B, C>>,
@@ -24,7 +25,7 @@ pub struct DrainSeat<A: Ledger, B: Ledger, C: Ledger> {
 }
 
 impl<A: Ledger, B: Ledger, C: Ledger> Drainer<A, B, C> {
-    /// The drainer of a connection, and what the connection is served with.
+    /// The drainer of a connection, and the seat with which the connection is served.
     pub fn new(
         alloc: Global,
         blanks: (Blank, Blank, Blank),
@@ -35,7 +36,7 @@ impl<A: Ledger, B: Ledger, C: Ledger> Drainer<A, B, C> {
             × (0 < B.parts) }
         requires announced { (blanks.2.name ≡ C.name) × (blanks.2.parts ≡ C.parts)
             × (0 < C.parts) }
-        // The shares are whole, and nothing was counted in them.
+        // The shares are whole, and have counted nothing.
         ensures came { IfOk result (λ made. (made.1.came.parts ≡ A.parts)
             × (made.1.came.amount ≡ 0)) }
         ensures calls { IfOk result (λ made. (made.1.calls.parts ≡ B.parts)
@@ -56,8 +57,8 @@ impl<A: Ledger, B: Ledger, C: Ledger> Drainer<A, B, C> {
         Ok((Drainer { shared }, seat))
     }
 
-    /// Lets no more calls be admitted. The peer is warned, and told which calls go on; the connection ends behind the last of them.
-    /// A second drain changes nothing.
+    /// Admits no more calls. The writer warns the peer, and GOAWAY names the last call that goes
+    /// on; the connection ends after the last of them. A second drain changes nothing.
     pub fn drain(&self, rt: &impl Wait) {
         self.shared.book.lock(rt).close();
         self.shared.writer.ring();

@@ -11,8 +11,9 @@ use std::marker::Model;
 use std::sync::ledger::{Ledger, Share};
 use std::sync::{Arc, Wait};
 
-/// The credit book, and the shares of the one who counts what comes and admits calls: all parts of their ledgers, so that
-/// they are what the book counts. Its value is the tally of both.
+/// The credit book, and the shares of the reader, which counts what comes and admits calls. They
+/// have all parts of their ledgers, so their amounts are what the book counts. Its value is the
+/// tally of both.
 #[derive(Drop)]
 pub(crate) struct Intake<A: Ledger, B: Ledger, C: Ledger> {
     shared: Arc<Shared<A, B, C>>,
@@ -57,7 +58,7 @@ impl<A: Ledger, B: Ledger, C: Ledger> Intake<A, B, C> {
         shared.book.lock(rt).admit(id, calls)
     }
 
-    /// Counts DATA that came on a stream, `padding` of them no data.
+    /// Counts `flow` bytes of DATA that came on a stream, `padding` of them no data.
     pub(crate) fn receive(
         &mut self,
         rt: &impl Wait,
@@ -74,7 +75,8 @@ impl<A: Ledger, B: Ledger, C: Ledger> Intake<A, B, C> {
         shared.book.lock(rt).receive(id, flow, padding, came)
     }
 
-    /// Where the reader meets the writer, which hands in its share: no more was announced on the connection than came.
+    /// The reader meets the writer, which hands in its share: the writer announced no more on the
+    /// connection than came.
     pub(crate) fn audit(self, rt: &impl Wait, told: Share<C>)
         requires told { told.parts ≡ C.parts }
         ensures within { told.amount ≤ self.came }

@@ -1,8 +1,8 @@
 //! A connection with its threads: bytes come in, calls are answered, bytes go out.
 //!
-//! `serve_connection` reads in the thread of its caller, one more thread writes, and workers answer calls, each one after another.
-//! What the threads share is one lock, with the connection's credit book in it; rings from one thread to another; and bells.
-//! The lanes are each call's own.
+//! `serve_connection` reads in its caller's thread. One more thread writes, and each worker answers
+//! one call after another. The threads share one lock, which holds the connection's credit book,
+//! and rings and bells from one thread to another. Each call has lanes of its own.
 //!
 //! | Ring | from | to | of |
 //! |---|---|---|---|
@@ -11,16 +11,16 @@
 //! | tasks, one a worker | reader | worker | a call, with its taker and its giver |
 //! | done, one a worker | worker | reader | the same of a call that is over |
 //!
-//! What is decided of a stream is decided by machines of the crates below, without threads: `readerloop` for the side that reads,
-//! `callworker` for a worker, `writerloop` for the side that writes. Here they are turned, waited for and rung: the threads, the
-//! lock, and the join.
+//! Machines without threads decide what becomes of a stream: `readerloop` for the side that reads,
+//! `callworker` for a worker, `writerloop` for the side that writes. This crate runs them: it has
+//! the threads, the lock, the bells, and the join.
 //!
 //! - `drain`: how a server ends a connection while its calls go on.
 //! - `intake`: the reader's hold on the credit book, `outlet` the writer's.
 //! - `seats`: new workers. `orders`: the reader's end of the ring of orders.
 //! - `reader`: the reading thread; `writer`: the writing thread.
-//! - `served`: what is told of a connection; `serve`: one connection from its first byte to its last.
-//! - `laws`, `credit`, `sent`: what follows from that.
+//! - `served`: the report of a connection; `serve`: one connection from its first byte to its last.
+//! - `laws`, `credit`, `sent`: laws that follow from the report.
 #![tactic(auto)]
 
 pub mod credit;

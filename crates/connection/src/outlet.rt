@@ -14,8 +14,8 @@ use std::sync::ledger::{Ledger, Share};
 use std::sync::{Arc, Wait};
 use writerloop::Writing;
 
-/// The credit book, and the share of the one who announces credit: all parts of its ledger. Its value is how much was announced on the
-/// connection.
+/// The credit book, and the share of the writer, which announces credit: all parts of its ledger.
+/// Its value is how much was announced on the connection.
 #[derive(Drop)]
 pub(crate) struct Outlet<A: Ledger, B: Ledger, C: Ledger> {
     shared: Arc<Shared<A, B, C>>,
@@ -38,7 +38,7 @@ impl<A: Ledger, B: Ledger, C: Ledger> Outlet<A, B, C> {
         Outlet { shared, told }
     }
 
-    /// The share of the one who announces credit.
+    /// The share in which announced credit counts.
     pub(crate) fn into_share(self) -> Share<C>
         ensures amount { result.amount ≡ self }
         ensures parts { result.parts ≡ C.parts }
@@ -62,8 +62,8 @@ impl<A: Ledger, B: Ledger, C: Ledger> Outlet<A, B, C> {
         self.shared.book.lock(rt).closing()
     }
 
-    /// Has the writer owe the peer all credit that is due. What it owes on the connection by that counts in the share. Whether no
-    /// more calls are admitted.
+    /// Grants the peer all credit that is due, which the writer then owes. What is granted on the
+    /// connection counts in the share. Answers whether no more calls are admitted.
     pub(crate) fn announce<J: Naming, W: ConnWrite + Drop>(
         &mut self,
         rt: &impl Wait,
@@ -84,8 +84,9 @@ impl<A: Ledger, B: Ledger, C: Ledger> Outlet<A, B, C> {
     }
 }
 
-/// Has the writer owe the peer what credit is due on a stream, or on the connection where it is 0. It stays due on a stream that the
-/// writer hasn't opened yet, though the reader has admitted its call and its worker given bytes back: what is granted there wouldn't count.
+/// Grants the peer the credit that is due on a stream, or on the connection where it is 0. On a
+/// stream that the writer hasn't opened yet credit stays due, though the reader has admitted its
+/// call and its worker has given bytes back: a grant there wouldn't count.
 fn announce_on<A, B, C, J, W>(
     book: &mut ConnBook<A, B, C>,
     told: &mut Share<C>,

@@ -1,9 +1,31 @@
-//! The reading thread of a connection: it reads, asks the lock, and does what the reading side decides (the crate `readerloop`).
+//! The reading thread of a connection. It reads, asks the lock, and does what the reading side
+//! decides (the crate `readerloop`).
 
 ghost use mathlib.Core.List.{IsPrefix};
 ghost use Rattle.callhead.specs.declared.head.CallHead.{CallHead as Head};
-ghost use Rattle.std.specs.Prelude.{◌≡◌, ◌<◌, ◌≤◌, ◌++◌, ◌∷◌, ℕ, List, [], None, Some, Ok, IfOk, IfSome, OnErr, OnOk, false, true, length, vec_capacity, vec_len};
-ghost use Rattle.std.specs.Io.KnownBytes.{Consumes};
+ghost use Rattle.std.specs.Prelude.{
+  ◌≡◌,
+  ◌<◌,
+  ◌≤◌,
+  ◌++◌,
+  ◌∷◌,
+  ℕ,
+  List,
+  [],
+  None,
+  Some,
+  Ok,
+  IfOk,
+  IfSome,
+  OnErr,
+  OnOk,
+  false,
+  true,
+  length,
+  vec_capacity,
+  vec_len,
+};
+ghost use Rattle.std.specs.Io.KnownBytes.{Consumes, IsAtEnd};
 ghost use Rattle.lane.specs.Ring.{in_name, out_name, put_in, taken};
 ghost use Rattle.callparts.specs.Blocks.{items_of};
 ghost use Rattle.callparts.specs.Workers.{IsKnown};
@@ -19,8 +41,20 @@ ghost use Rattle.readerloop.specs.Readings.{IsNext, KeepsNext, Reads, goaway_in,
 ghost use Rattle.readerloop.specs.Reports.{AreAccounts};
 ghost use Rattle.readerloop.specs.Seats.{HasPlacesAt};
 ghost use Rattle.readerloop.specs.Steps.{Lacks, Step, events_of, reported};
-ghost use Rattle.connection.specs.Heard.{Acts, AreCarried, Collects, CutsSome, Grows, HasEnded, HasRead, KeptFor, ReadsTo, ReadsWith};
-ghost use Rattle.connection.specs.Limits.{MayTurnAway, Tally, one_more};
+ghost use Rattle.connection.specs.Heard.{
+  Acts,
+  AreCarried,
+  Collects,
+  CutsSome,
+  Grows,
+  HasEnded,
+  HasRead,
+  IsOfInput,
+  KeptFor,
+  ReadsTo,
+  ReadsWith,
+};
+ghost use Rattle.connection.specs.Limits.{Covers, MayTurnAway, Tally, one_more};
 ghost use Rattle.outwriter.specs.declared.control.Control.TheVariants as orders;
 ghost use Rattle.connection.specs.Puts.{IsOwn, IsSame, put_of};
 ghost use Rattle.connection.specs.Rest.{CarriesOpen, CarriesRest};
@@ -36,7 +70,7 @@ use callparts::{
 };
 use callworker::{Gate, Hand, Ways, moment};
 use connbook::{AdmitFault, Receipt};
-use device::ConnRead;
+use device::{ConnRead, ReadFault};
 use h2frame::{ErrorCode, StreamId};
 use handlers::{Method, Methods};
 use lane::{RingIn, RingOut};
@@ -51,29 +85,11 @@ use std::thread::Threads;
 use std::time::{Clock, Duration, Instant};
 use writerloop::Senders;
 
-/// How many bytes are read at a time: the DATA that a window lets through, with the heads of its frames.
-const PIECE: usize = 65_664;
-
-/// How many bytes are read at a time until a read brought so many: a connection that is silent takes no more memory, on its reader's
-/// stack.
-const FIRST_PIECE: usize = 1_024;
-
-/// From how many bytes on the writer isn't rung for what came, where it is DATA that are fed to calls: these ring once they have taken that.
+/// For a read of this many bytes or more the writer isn't rung where all are DATA for calls: the
+/// workers ring once they have taken them.
 const LARGE_PIECE: usize = 8_192;
 
-/// The room for the next read: the first piece, until there is a whole one.
-fn room<'x>(first: &'x mut [u8], whole: &'x mut [u8]) -> &'x mut [u8] {
-    if whole.is_empty() { first } else { whole }
-}
-
-/// Behind a read of so many bytes that filled the first piece, makes the whole one. Without memory it goes on with the first.
-fn grow(whole: &mut Vec<u8>, count: usize) {
-    if count == FIRST_PIECE && whole.is_empty() {
-        let _ = whole.resize(PIECE, 0);
-    }
-}
-
-/// The order that tells the client to open no streams behind this one, where there is one.
+/// The GOAWAY that asks the client to open no streams after this one, if there is one.
 fn goaway_of<J: Naming>(goaway: Option<StreamId>) -> Option<Order<J>>
     ensures order { order_in result ≡ goaway_in goaway }
     ensures own { IfSome result IsOwn }
@@ -101,11 +117,12 @@ pub(crate) struct Reader<
     pub(crate) reading: Reading<J, M>,
     /// The threads of the workers.
     hands: Vec<Hand<J, M>>,
-    /// How the reader's bell stood when it was looked for what came back. None where a half was shut since.
+    /// How the reader's bell stood when the reader last looked for what came back. None where a
+    /// half was shut since.
     looked: Option<u64>,
     gate: Arc<G>,
-    /// When the connection began.
-    start: Instant,
+    /// When the connection began; nothing where the clock didn't tell.
+    start: Option<Instant>,
 }
 
 impl<A, B, C, J, M, N, R, G> Reader<A, B, C, J, M, N, R, G>
@@ -127,7 +144,7 @@ where
         front: Front<J>,
         home: RingOut<Returning<J>>,
         gate: Arc<G>,
-        start: Instant,
+        start: Option<Instant>,
     ) -> Reader<A, B, C, J, M, N, R, G>
         ensures reads { (sent : List Sent)
             → Reads M.known M.names (carried_in sent) [] result.reading }
@@ -146,7 +163,7 @@ where
         }
     }
 
-    /// Reads to the end, and says how the connection ended as far as the reader sees.
+    /// Reads to the end. Answers how the connection ended as far as the reader sees.
     #[inline(never)]
     pub(crate) fn read<I: ConnRead>(
         &mut self,
@@ -159,59 +176,62 @@ where
         requires named { AreNames
             (IsFirstWith (λ m. (⟦<dyn Method as Method>⟧ m.vtable).name m.value)
             (listed methods.now.value)) M.names }
+        requires unnamed { AreNames M.names
+            (IsFirstWith (λ m. (⟦<dyn Method as Method>⟧ m.vtable).name m.value)
+            (listed methods.now.value)) }
         requires uncounted { (intake.old.calls ≡ 0) × (intake.old.came ≡ 0) }
         ensures grows { Grows self.old.reading self.new.reading }
         ensures heard { (sent : List Sent) → AreCarried sent (taken self.new.reading.home)
             → KeptFor M.known M.names sent [] self.old.reading self.old.orders
             → (came : List ℕ) × Consumes (I.remaining input.old) (I.remaining input.new) came
             × ((told : List Step) × HasRead M.known M.names sent result came told
-            self.new.reading self.new.orders
-            × (intake.new.came ≤ counted_told (events_of told))) }
+            self.new.reading self.new.orders × Covers told intake.new) }
         ensures failed { (sent : List Sent) → AreCarried sent (taken self.new.reading.home)
             → KeptFor M.known M.names sent [] self.old.reading self.old.orders
             → result ≡ ending.ReadFailed → I.failed input.new ≡ true }
+        ensures over { (sent : List Sent) → AreCarried sent (taken self.new.reading.home)
+            → KeptFor M.known M.names sent [] self.old.reading self.old.orders
+            → IsOfInput result → self.new.orders.has_stopped ≡ false
+            → IsAtEnd (I.remaining input.new) }
     {
         let mut core = InCore::new(self.alloc);
-        let mut first_piece = [0u8; FIRST_PIECE];
-        let mut whole_piece = Vec::new(self.alloc);
         let rt = self.rt;
         'pieces: for _ in rt.forever() {
             if self.orders.shared.has_stopped() {
+                // (the writer says how the connection ended)
+                self.orders.has_stopped = true;
                 return self.reading.ending();
             }
-            let piece = room(&mut first_piece, &mut whole_piece);
-            let Ok(count) = input.read(piece) else {
-                return Ending::ReadFailed;
+            let (count, events) = match core.read_from(input) {
+                Ok(given) => given,
+                Err(ReadFault::Device) => return Ending::ReadFailed,
+                Err(ReadFault::OutOfMemory) => {
+                    self.lack();
+                    self.stop();
+                    return Ending::OutOfMemory;
+                }
             };
             if count == 0 {
                 self.heed_drain();
                 return self.reading.ending();
             }
             self.collect();
-            match self.take(intake, &mut core, &piece[..count], methods) {
-                Ok(None) => {}
-                Ok(Some(ending)) => {
-                    self.stop();
-                    return ending;
-                }
-                Err(AllocError) => {
-                    self.lack();
-                    self.stop();
-                    return Ending::OutOfMemory;
-                }
+            if let Some(ending) = self.take(intake, count, events, methods) {
+                self.stop();
+                return ending;
             }
             if self.heed_drain() {
                 return self.reading.ending();
             }
-            grow(&mut whole_piece, count);
         }
         unreachable!()
     }
 
-    /// Behind the last event: ends all halves and workers, and lets the writer end.
+    /// After the last event: ends all halves and workers, and lets the writer end.
     #[inline(never)]
     pub(crate) fn end(&mut self)
         ensures grows { Grows self.old.reading self.new.reading }
+        ensures none_left { self.new.orders.backlog.items ≡ [] }
         ensures ended { (sent : List Sent) (told : List Step)
             → AreCarried sent (taken self.new.reading.home)
             → Reads M.known M.names (carried_in sent) told self.old.reading
@@ -242,10 +262,13 @@ where
         }
     }
 
-    /// Puts the last order, and waits where there is no room. Meanwhile it takes what comes home: the writer may wait for a place there.
+    /// Puts the last order, and waits where there is no room. Meanwhile it takes the senders that
+    /// come back, since the writer may wait for a place for one.
     fn close(&mut self)
         ensures collects { Collects M.known M.names self.old.reading self.new.reading }
         ensures put { put_of self.new.orders ≡ put_of self.old.orders ++ orders.Close ∷ [] }
+        ensures none_left { self.new.orders.backlog.items ≡ [] }
+        ensures stopped { self.new.orders.has_stopped ≡ self.old.orders.has_stopped }
         ensures dropped { self.new.orders.has_dropped ≡ self.old.orders.has_dropped }
         ensures unput { self.new.orders.unput ≡ self.old.orders.unput }
     {
@@ -264,7 +287,8 @@ where
         unreachable!()
     }
 
-    /// Where the writer has ended, and handed these senders back: settles all calls. The accounts of all, and what was ordered.
+    /// Settles all calls once the writer has ended and handed these senders back. Answers the
+    /// accounts of all, and the orders.
     #[inline(never)]
     pub(crate) fn meet(self, rest: Senders<J>) -> (Accounts, Orders<A, B, C, J, N>)
         requires way { out_name self.reading.home ≡ in_name rest.sends.home }
@@ -276,6 +300,8 @@ where
             → AreAccounts M.known M.names (carried_in sent) told (reported told)
             (items_of result.0.full result.0.last) }
         ensures outbox { result.1.outbox ≡ self.orders.outbox }
+        ensures backlog { result.1.backlog ≡ self.orders.backlog }
+        ensures stopped { result.1.has_stopped ≡ self.orders.has_stopped }
         ensures dropped { result.1.has_dropped ≡ self.orders.has_dropped }
     {
         let mut reader = self;
@@ -300,6 +326,8 @@ where
             → Reads M.known M.names (carried_in sent) told self.old.reading
             → Reads M.known M.names (carried_in sent) told self.new.reading }
         ensures outbox { self.new.orders.outbox ≡ self.old.orders.outbox }
+        ensures backlog { self.new.orders.backlog ≡ self.old.orders.backlog }
+        ensures stopped { self.new.orders.has_stopped ≡ self.old.orders.has_stopped }
         ensures dropped { self.new.orders.has_dropped ≡ self.old.orders.has_dropped }
     {
         if let Some(Control::Open(_, opening)) = self.orders.unput.take() {
@@ -308,7 +336,8 @@ where
         }
     }
 
-    /// Takes the senders back that the writer had at its end. Its end of the way home.
+    /// Takes the senders back that the writer had at its end. Answers the writer's end of the ring
+    /// of senders.
     fn take_rest(&mut self, rest: Senders<J>) -> RingIn<Returning<J>>
         ensures way { result ≡ rest.sends.home }
         ensures home { self.new.reading.home ≡ self.old.reading.home }
@@ -328,7 +357,7 @@ where
         unreachable!()
     }
 
-    /// Settles all calls, once all has come back of them.
+    /// Settles all calls, once all their ends have come back.
     fn settle_rest(&mut self)
         ensures collects { Collects M.known M.names self.old.reading self.new.reading }
         ensures none { unsettled self.new.reading.calls ≡ [] }
@@ -344,8 +373,8 @@ where
         unreachable!()
     }
 
-    /// Where something may have come back of calls since it was looked, takes that, and settles the calls that are over. Workers and the
-    /// writer ring for it.
+    /// Takes what came back of calls since the last look, if workers or the writer rang, and
+    /// settles the calls that are over.
     fn collect(&mut self)
         ensures collects { Collects M.known M.names self.old.reading self.new.reading }
         ensures orders { self.new.orders ≡ self.old.orders }
@@ -375,7 +404,7 @@ where
         }
     }
 
-    /// Behind the last event: the calls that their clients neither ended nor reset are cut.
+    /// After the last event: cuts the calls whose halves the client neither ended nor reset.
     fn cut_all(&mut self)
         ensures cuts { CutsSome M.known M.names true self.old.reading self.old.orders
             self.new.reading self.new.orders }
@@ -385,7 +414,7 @@ where
         }
     }
 
-    /// The same for the call at this place.
+    /// Cuts the call at this place, if its client neither ended nor reset its half.
     fn cut_at(&mut self, place: usize)
         ensures cuts { CutsSome M.known M.names true self.old.reading self.old.orders
             self.new.reading self.new.orders }
@@ -395,7 +424,8 @@ where
         }
     }
 
-    /// Looks whether the server is to stop, and has the peer told where it is. Whether no call is live then: the connection ends.
+    /// Looks whether the server drains, and if so orders the GOAWAY for it. Answers whether no call
+    /// is live then: the connection ends.
     fn heed_drain(&mut self) -> bool
         ensures cuts { CutsSome M.known M.names false self.old.reading self.old.orders
             self.new.reading self.new.orders }
@@ -415,7 +445,8 @@ where
         (book.closing(), book.live_id(0).is_some())
     }
 
-    /// The server is to stop: the peer is told which calls go on, unless it was.
+    /// The server drains: orders the GOAWAY that names the last call which goes on, unless it was
+    /// ordered.
     fn drain(&mut self)
         ensures cuts { CutsSome M.known M.names false self.old.reading self.old.orders
             self.new.reading self.new.orders }
@@ -445,39 +476,36 @@ where
         self.orders.shared.book.lock(&self.rt).stop();
     }
 
-    /// What bytes that came lead to; how the connection ends, if it does.
+    /// Does what `count` bytes that came, with these events, lead to. Answers how the connection
+    /// ends, if it does.
     fn take(
         &mut self,
         intake: &mut Intake<A, B, C>,
-        core: &mut InCore,
-        piece: &[u8],
+        count: usize,
+        events: Vec<InEvent>,
         methods: &Arc<Methods>,
-    ) -> Result<Option<Ending>, AllocError>
+    ) -> Option<Ending>
         requires known { IsKnown M.known (λ m. answers (m.vtable, m.value))
             (listed methods.now.value) }
         requires named { AreNames
             (IsFirstWith (λ m. (⟦<dyn Method as Method>⟧ m.vtable).name m.value)
             (listed methods.now.value)) M.names }
-        ensures grows { Grows self.old.reading self.new.reading }
-        ensures on { IfOk result (λ end. (bytes : List ℕ) (before : List Event)
-            → Reached bytes before core.old
-            → (given : List Event) × Reached (bytes ++ piece.now) (before ++ given) core.new
-            × ReadsWith M.known M.names intake.old intake.new given end
-            self.old.reading self.old.orders self.new.reading self.new.orders) }
-        ensures uncounted { OnErr result (intake.new.came ≡ intake.old.came) }
-        ensures same { OnErr result ((self.new.reading ≡ self.old.reading)
-            × (self.new.orders ≡ self.old.orders)) }
+        requires unnamed { AreNames M.names
+            (IsFirstWith (λ m. (⟦<dyn Method as Method>⟧ m.vtable).name m.value)
+            (listed methods.now.value)) }
+        ensures reads { ReadsWith M.known M.names intake.old intake.new events.items result
+            self.old.reading self.old.orders self.new.reading self.new.orders }
     {
-        let events = core.feed(piece)?;
         let end = self.heed(intake, events, methods);
         if end.is_none() {
-            self.ring(piece.len());
+            self.ring(count);
         }
-        Ok(end)
+        end
     }
 
-    /// Rings for so many bytes that came. The writer wakes while the calls are answered. It is rung where an order waits, where few
-    /// bytes came, which may be returned at once, and where credit is due: what came may have made it so, and no worker rings for that.
+    /// Rings for `count` bytes that came. It rings the writer where an order waits, where few bytes
+    /// came, which may be returned at once, and where credit is due, since no worker rings for
+    /// credit that the bytes themselves made due. The writer wakes while the calls are answered.
     fn ring(&mut self, count: usize)
         ensures reading { self.new.reading
             ≡ record self.old.reading { seats = self.new.reading.seats } }
@@ -494,7 +522,7 @@ where
         self.orders.shared.book.lock(&self.rt).is_credit_due()
     }
 
-    /// What events lead to, one after another; how the connection ends, if it does.
+    /// Does what events lead to, one after another. Answers how the connection ends, if it does.
     fn heed(
         &mut self,
         intake: &mut Intake<A, B, C>,
@@ -506,6 +534,9 @@ where
         requires named { AreNames
             (IsFirstWith (λ m. (⟦<dyn Method as Method>⟧ m.vtable).name m.value)
             (listed methods.now.value)) M.names }
+        requires unnamed { AreNames M.names
+            (IsFirstWith (λ m. (⟦<dyn Method as Method>⟧ m.vtable).name m.value)
+            (listed methods.now.value)) }
         ensures reads { ReadsWith M.known M.names intake.old intake.new events.items result
             self.old.reading self.old.orders self.new.reading self.new.orders }
     {
@@ -518,7 +549,7 @@ where
         None
     }
 
-    /// What one event leads to; how the connection ends, if it does.
+    /// Does what one event leads to. Answers how the connection ends, if it does.
     fn follow(
         &mut self,
         intake: &mut Intake<A, B, C>,
@@ -530,6 +561,9 @@ where
         requires named { AreNames
             (IsFirstWith (λ m. (⟦<dyn Method as Method>⟧ m.vtable).name m.value)
             (listed methods.now.value)) M.names }
+        requires unnamed { AreNames M.names
+            (IsFirstWith (λ m. (⟦<dyn Method as Method>⟧ m.vtable).name m.value)
+            (listed methods.now.value)) }
         ensures reads { ReadsWith M.known M.names intake.old intake.new (event ∷ []) result
             self.old.reading self.old.orders self.new.reading self.new.orders }
     {
@@ -574,7 +608,7 @@ where
         self.act(decided)
     }
 
-    /// What the peer tells the side that writes.
+    /// Passes on to the writer what the peer says to it.
     fn pass_on(&mut self, news: session::Control) -> Option<Ending>
         ensures reads { ReadsTo M.known M.names (events.Control news ∷ []) result
             self.old.reading self.old.orders self.new.reading self.new.orders }
@@ -601,7 +635,8 @@ where
         None
     }
 
-    /// Does what was decided: what is ordered first, then the half that is to be shut. How the connection ends, if it does.
+    /// Does what was decided: puts the orders, then shuts the half that is to be shut. Answers how
+    /// the connection ends, if it does.
     fn act(&mut self, decided: Decided<J>) -> Option<Ending>
         ensures acts { Acts M.known M.names decided self.old.reading self.old.orders
             self.new.reading self.new.orders }
@@ -626,7 +661,8 @@ where
         ends
     }
 
-    /// A stream begins with the head of a call. A call of a method is to be admitted by the lock.
+    /// A stream begins with the head of a call. If its path names a method, the lock is to admit
+    /// it.
     // (kept out of its caller, whose frame is on the stack of each connection that lives)
     #[inline(never)]
     fn open(
@@ -641,6 +677,9 @@ where
         requires named { AreNames
             (IsFirstWith (λ m. (⟦<dyn Method as Method>⟧ m.vtable).name m.value)
             (listed methods.now.value)) M.names }
+        requires unnamed { AreNames M.names
+            (IsFirstWith (λ m. (⟦<dyn Method as Method>⟧ m.vtable).name m.value)
+            (listed methods.now.value)) }
         ensures reads { ReadsWith M.known M.names intake.old intake.new
             (events.Open id head ∷ []) result
             self.old.reading self.old.orders self.new.reading self.new.orders }
@@ -679,7 +718,7 @@ where
         }
     }
 
-    /// A call isn't admitted. Where that is since the server is to stop, the peer is told of it before.
+    /// A call isn't admitted. If that is because the server drains, GOAWAY is ordered first.
     fn turn_away(&mut self, id: StreamId, fault: AdmitFault) -> Option<Ending>
         ensures reads { (head : Head) (tally : Tally) → MayTurnAway tally.calls true fault
             → ReadsWith M.known M.names tally tally (events.Open id head ∷ []) result
@@ -691,7 +730,7 @@ where
         }
     }
 
-    /// A call isn't admitted since the server is to stop, of which the peer is told before.
+    /// A call isn't admitted because the server drains. GOAWAY is ordered first.
     fn turn_away_drained(&mut self, id: StreamId) -> Option<Ending>
         ensures reads { (head : Head) (tally : Tally)
             → ReadsWith M.known M.names tally tally (events.Open id head ∷ []) result
@@ -712,8 +751,9 @@ where
         self.act(decided)
     }
 
-    /// Has a worker answer a call that was admitted: one that is free, or a new one. Where there are as many as calls may be live, one of
-    /// them is at a call that is no longer live, and soon is free. Once orders were dropped no call begins: the writer has stopped.
+    /// Has a worker answer a call that was admitted: one that is free, or a new one. Where there
+    /// are as many as calls may be live, one of them is at a call that is no longer live, and soon
+    /// is free. Once the writer was seen to have stopped no call begins.
     fn start(&mut self, request: Request, methods: &Arc<Methods>) -> Option<Ending>
         requires known { IsKnown M.known (λ m. answers (m.vtable, m.value))
             (listed methods.now.value) }
@@ -725,7 +765,7 @@ where
     {
         let rt = self.rt;
         let (id, method) = (request.id, request.index);
-        if self.orders.has_dropped {
+        if self.orders.has_stopped {
             return self.pass_over(id, method);
         }
         'looks: for _ in rt.forever() {
@@ -738,6 +778,7 @@ where
                     return self.lose(id, method);
                 }
             } else if self.orders.shared.has_stopped() {
+                self.orders.has_stopped = true;
                 return self.pass_over(id, method);
             } else {
                 self.wait(mark);
@@ -775,7 +816,8 @@ where
             .wait_past(&self.rt, mark, Duration::from_millis(STEP));
     }
 
-    /// Has the worker of this number answer a call. Where there is no memory for its lanes the connection ends.
+    /// Hands a call to the worker of this number. Where there is no memory for its lanes the
+    /// connection ends.
     fn engage(&mut self, number: usize, request: Request) -> Option<Ending>
         requires named { M.names request.head.path request.index }
         requires next { IsNext request.id self.old.reading }
@@ -791,7 +833,7 @@ where
         }
     }
 
-    /// Has one worker more.
+    /// Starts one more worker.
     fn hire(&mut self, methods: &Arc<Methods>) -> Result<(), AllocError>
         requires known { IsKnown M.known (λ m. answers (m.vtable, m.value))
             (listed methods.now.value) }
@@ -808,7 +850,8 @@ where
         Ok(())
     }
 
-    /// There is no memory, or no thread, for a call of this method, which was admitted: the connection ends.
+    /// A call of this method was admitted, and there is no memory or no thread for it: the
+    /// connection ends.
     fn lose(&mut self, id: StreamId, method: usize) -> Option<Ending>
         requires next { IsNext id self.old.reading }
         ensures reads { (head : Head) (tally : Tally) → M.names head.path method
@@ -820,9 +863,10 @@ where
         self.act(decided)
     }
 
-    /// A call of this method was admitted, and the writer has stopped.
+    /// A call of this method was admitted, and the writer was seen to have stopped.
     fn pass_over(&mut self, id: StreamId, method: usize) -> Option<Ending>
         requires next { IsNext id self.old.reading }
+        requires stopped { self.old.orders.has_stopped ≡ true }
         ensures reads { (head : Head) (tally : Tally) → M.names head.path method
             → ReadsWith M.known M.names tally (one_more tally) (events.Open id head ∷ []) result
             self.old.reading self.old.orders self.new.reading self.new.orders }
@@ -832,7 +876,7 @@ where
         self.act(decided)
     }
 
-    /// DATA came on a stream, so many bytes of it by flow control.
+    /// DATA came on a stream: `flow` bytes of it count for flow control.
     fn data(
         &mut self,
         intake: &mut Intake<A, B, C>,

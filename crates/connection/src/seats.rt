@@ -15,14 +15,14 @@ use std::sync::{Arc, Wait};
 use std::thread::Threads;
 use std::time::{Clock, Instant};
 
-/// A worker in a thread of its own, and that thread. That none can be made counts as want of memory.
+/// Starts a worker in a thread of its own. If no thread can be made, it answers want of memory.
 pub(crate) fn open_seat<A, B, C, G, J, M, R>(
     rt: R,
     alloc: Global,
     shared: &Arc<Shared<A, B, C>>,
     gate: &Arc<G>,
     methods: &Arc<Methods>,
-    start: Instant,
+    start: Option<Instant>,
 ) -> Result<(Seat<J, M>, Hand<J, M>), AllocError>
 where
     A: Ledger + Send + Sync + 'static,

@@ -1,4 +1,5 @@
-//! What follows of what was sent of a call, by the accounts of the record of a connection (`IsServed`). None of it does anything.
+//! Laws of what was sent of a call, by the accounts in the record of a connection (`IsServed`). The
+//! functions do nothing.
 
 ghost use Rattle.std.specs.Prelude.{◌≡◌, ◌∷◌, ◌++◌, ℕ, List, [], true};
 ghost use Rattle.callparts.specs.declared.call_account.CallAccount.{CallAccount};
@@ -19,8 +20,8 @@ ghost use Rattle.connection.specs.Sent.{CarriesWhatWasSent, IsWholeResponse};
 
 use callparts::Answering;
 
-/// An Open that the writer took is the only one of its stream, and no Refuse of the stream was taken before it: the numbers of the
-/// streams that begin rise (RFC 9113, section 5.1.1).
+/// An Open that the writer took is the only one of its stream, and no Refuse of the stream was
+/// taken before it: the numbers of the streams that begin rise (RFC 9113, section 5.1.1).
 pub fn opened_once()
     ensures { (end : Ended) (came : List ℕ) (told : List Step) (put : List Order)
         (run : List RunStep) (given : List InEventOf) →
@@ -29,8 +30,9 @@ pub fn opened_once()
         → (id : ℕ) → is_opened id run ≡ true → is_served id run ≡ true }
 {}
 
-/// Where END_STREAM was written on the stream of an admitted call (RFC 9113, section 8.1), its frames spell the whole response: the
-/// answer of the call's method to all that was taken, or replies of it and a status of the server's own, and its account has the status.
+/// Where END_STREAM was written on the stream of an admitted call (RFC 9113, section 8.1), its
+/// frames spell the whole response: the answer of the call's method to all that was taken, or
+/// replies of it and a status of the server's own, and its account has the status.
 pub fn whole_response<M: Answering>()
     ensures { (end : Ended) (came : List ℕ) (told : List Step) (put : List Order)
         (run : List RunStep) (given : List InEventOf) →

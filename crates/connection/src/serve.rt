@@ -1,21 +1,39 @@
 //! One connection from its first byte to its last.
 
 ghost use mathlib.Core.List.{IsPrefix};
-ghost use Rattle.std.specs.Prelude.{◌≡◌, ◌≢◌, ◌⊎◌, ◌<◌, ◌≤◌, ◌++◌, ℕ, Bool, List, [], Option, Some, IfErr, IfOk, IfSome, false, true};
-ghost use Rattle.std.specs.Io.KnownBytes.{Consumes};
+ghost use Rattle.std.specs.Prelude.{
+  ◌≡◌,
+  ◌<◌,
+  ◌≤◌,
+  ◌++◌,
+  ℕ,
+  Bool,
+  List,
+  [],
+  Option,
+  None,
+  Some,
+  IfErr,
+  IfOk,
+  IfSome,
+  false,
+  length,
+  true,
+};
+ghost use Rattle.std.specs.Io.KnownBytes.{Consumes, IsAtEnd};
 ghost use Rattle.callparts.specs.Blocks.{items_of};
 ghost use Rattle.callparts.specs.Workers.{IsWithin, answers_by};
 ghost use Rattle.callparts.specs.declared.report.Ending.TheVariants as ending;
 ghost use Rattle.handlers.specs.Listed.{listed};
-ghost use Rattle.h2frame.specs.declared.error_code.ErrorCode.{ErrorCode as Code};
 ghost use Rattle.lane.specs.Ring.{in_name, out_name, put_in, taken};
-ghost use Rattle.session.specs.FlowBytes.{counted_told};
 ghost use Rattle.readerloop.specs.Calls.{AreNames, IsFirstWith, Sent, carried_in};
 ghost use Rattle.readerloop.specs.Readings.{Reads};
-ghost use Rattle.readerloop.specs.Reports.{AreAccounts, is_heard_out};
-ghost use Rattle.readerloop.specs.Steps.{Step, events_of, reported};
-ghost use Rattle.connection.specs.Heard.{AreCarried, HasRead, Hears, KeptFor};
-ghost use Rattle.connection.specs.Puts.{AreFirst};
+ghost use Rattle.readerloop.specs.Reports.{AreAccounts};
+ghost use Rattle.readerloop.specs.Steps.{Step, reported};
+ghost use Rattle.connection.specs.Endings.{ended_by, unless_lacked};
+ghost use Rattle.connection.specs.Heard.{AreCarried, HasRead, Hears, IsOfInput, KeptFor};
+ghost use Rattle.connection.specs.Limits.{Covers};
+ghost use Rattle.connection.specs.Puts.{put_of};
 ghost use Rattle.connection.specs.Rest.{CarriesOpen, CarriesRest};
 ghost use Rattle.connection.specs.Served.{IsServed};
 
@@ -38,15 +56,18 @@ use std::alloc::{AllocError, Global};
 use std::marker::Brand;
 use std::sync::ledger::{Blank, Ledger};
 use std::sync::{Arc, Wait};
+use std::thread;
 use std::thread::Threads;
-use std::time::{Clock, Instant};
-use writerloop::Written;
+use std::time::{Clock, Duration, Instant};
+use writerloop::{WriterEnding, Written};
 
-/// Serves one connection, and says what became of it. The caller's thread reads; one more writes, and up to 64 answer calls. It
-/// returns once the input has ended, or the connection was ended with an error or drained, and all that could be written was.
+/// Serves one connection, and answers what became of it. The caller's thread reads, one more thread
+/// writes, and up to 64 answer calls. It returns once the input has ended, or the connection ended
+/// with an error or was drained, and all that could be written was.
 ///
-/// Calls are answered by these methods, and go on when this gate lets them. A peer that neither reads nor closes is waited for.
-/// The drainer of the seat ends the connection while calls go on.
+/// These methods answer the calls, which go on when this gate lets them. The function waits for a
+/// peer that neither reads nor closes. The drainer of the seat ends the connection while calls go
+/// on.
 pub fn serve_connection<A, B, C, I, O, G, R>(
     rt: R,
     alloc: Global,
@@ -73,8 +94,8 @@ where
         (answers_by (λ method. answers (method.vtable, method.value)) (listed methods.value))
         (IsFirstWith (λ method. (⟦<dyn Method as Method>⟧ method.vtable).name method.value)
         (listed methods.value))
-        came (O.contents output) (I.failed input.new) result.report.ending result.report.calls
-        result.output }
+        came (I.remaining input.new) (O.contents output) (I.failed input.new)
+        result.report.ending result.report.calls result.output }
 {
     let register = NewRegister::new();
     serve_named::<A, B, C, Brand, Brand, I, O, G, R>(
@@ -82,7 +103,7 @@ where
     )
 }
 
-/// The same of a connection that nobody drains.
+/// Serves a connection that nobody drains.
 pub fn serve_undrained<I, O, G, R>(
     rt: R,
     alloc: Global,
@@ -101,14 +122,14 @@ where
         (answers_by (λ method. answers (method.vtable, method.value)) (listed methods.value))
         (IsFirstWith (λ method. (⟦<dyn Method as Method>⟧ method.vtable).name method.value)
         (listed methods.value))
-        came (O.contents output) (I.failed input.new) result.report.ending result.report.calls
-        result.output }
+        came (I.remaining input.new) (O.contents output) (I.failed input.new)
+        result.report.ending result.report.calls result.output }
 {
     let blanks = (Blank::new(1), Blank::new(1), Blank::new(1));
     serve_seated::<Brand, Brand, Brand, I, O, G, R>(rt, alloc, blanks, input, output, methods, gate)
 }
 
-/// The same, over these ledgers.
+/// Serves a connection over the ledgers of its seat.
 fn serve_seated<A, B, C, I, O, G, R>(
     rt: R,
     alloc: Global,
@@ -134,8 +155,8 @@ where
         (answers_by (λ method. answers (method.vtable, method.value)) (listed methods.value))
         (IsFirstWith (λ method. (⟦<dyn Method as Method>⟧ method.vtable).name method.value)
         (listed methods.value))
-        came (O.contents output) (I.failed input.new) result.report.ending result.report.calls
-        result.output }
+        came (I.remaining input.new) (O.contents output) (I.failed input.new)
+        result.report.ending result.report.calls result.output }
 {
     let Ok((_drainer, seat)) = Drainer::<A, B, C>::new(alloc, blanks) else {
         return unserved(alloc, output);
@@ -161,7 +182,7 @@ fn unserved<O: Drop>(alloc: Global, output: O) -> Served<O>
 /// The rings between a connection's reader and its writer.
 #[derive(Drop)]
 struct Rings<J: Naming> {
-    /// What the reader has the writer do.
+    /// The reader's orders to the writer.
     orders: (RingIn<Order<J>>, RingOut<Order<J>>),
     /// The senders that go back.
     senders: (RingIn<Returning<J>>, RingOut<Returning<J>>),
@@ -184,18 +205,19 @@ impl<J: Naming> Rings<J> {
     }
 }
 
-/// What the parts of a connection are begun with, and when it began.
+/// What the parts of a connection are begun with, and when it began, where the clock told that.
 #[derive(Drop)]
 struct Common<A: Ledger, B: Ledger, C: Ledger, G: Drop> {
     for_reader: Arc<Shared<A, B, C>>,
     for_orders: Arc<Shared<A, B, C>>,
     for_writer: Arc<Shared<A, B, C>>,
     gate: Arc<G>,
-    start: Instant,
+    start: Option<Instant>,
 }
 
 impl<A: Ledger, B: Ledger, C: Ledger, G: Drop> Common<A, B, C, G> {
-    /// Over what the threads share. A clock that can't be read counts as want of memory.
+    /// Over what the threads share. Where the clock can't be read, the connection goes on without
+    /// deadlines.
     fn new(
         rt: &impl Clock,
         shared: Arc<Shared<A, B, C>>,
@@ -206,12 +228,15 @@ impl<A: Ledger, B: Ledger, C: Ledger, G: Drop> Common<A, B, C, G> {
             for_writer: Arc::try_clone(&shared)?,
             for_reader: shared,
             gate: Arc::try_clone(gate)?,
-            start: Instant::now(rt).map_err(|_| AllocError)?,
+            start: match Instant::now(rt) {
+                Ok(start) => Some(start),
+                Err(_) => None,
+            },
         })
     }
 }
 
-/// The same, with an empty register.
+/// Serves a connection with an empty register of calls.
 fn serve_named<A, B, C, J, M, I, O, G, R>(
     rt: R,
     alloc: Global,
@@ -240,11 +265,14 @@ where
     requires named { AreNames
         (IsFirstWith (λ method. (⟦<dyn Method as Method>⟧ method.vtable).name method.value)
         (listed methods.value)) M.names }
+    requires unnamed { AreNames M.names
+        (IsFirstWith (λ method. (⟦<dyn Method as Method>⟧ method.vtable).name method.value)
+        (listed methods.value)) }
     requires book { register.seen.book ≡ J.book }
     ensures served { (came : List ℕ) × Consumes (I.remaining input.old) (I.remaining input.new) came
         × IsServed (λ calls. items_of calls.full calls.last) O.contents O.failed M.known M.names
-        came (O.contents output) (I.failed input.new) result.report.ending result.report.calls
-        result.output }
+        came (I.remaining input.new) (O.contents output) (I.failed input.new)
+        result.report.ending result.report.calls result.output }
 {
     let Ok(rings) = Rings::open(alloc) else {
         let _ends = register.named::<J>();
@@ -255,7 +283,7 @@ where
     )
 }
 
-/// The same, with the rings between its threads.
+/// Serves a connection over the rings between its threads.
 fn serve_over<A, B, C, J, M, N, I, O, G, R>(
     rt: R,
     alloc: Global,
@@ -286,6 +314,9 @@ where
     requires named { AreNames
         (IsFirstWith (λ method. (⟦<dyn Method as Method>⟧ method.vtable).name method.value)
         (listed methods.value)) M.names }
+    requires unnamed { AreNames M.names
+        (IsFirstWith (λ method. (⟦<dyn Method as Method>⟧ method.vtable).name method.value)
+        (listed methods.value)) }
     requires rings { (N.ring ≡ Some (in_name rings.orders.0))
         × (in_name rings.orders.0 ≡ out_name rings.orders.1)
         × (in_name rings.senders.0 ≡ out_name rings.senders.1) }
@@ -294,8 +325,8 @@ where
     requires book { register.seen.book ≡ J.book }
     ensures served { (came : List ℕ) × Consumes (I.remaining input.old) (I.remaining input.new) came
         × IsServed (λ calls. items_of calls.full calls.last) O.contents O.failed M.known M.names
-        came (O.contents output) (I.failed input.new) result.report.ending result.report.calls
-        result.output }
+        came (I.remaining input.new) (O.contents output) (I.failed input.new)
+        result.report.ending result.report.calls result.output }
 {
     let begun = match begin::<A, B, C, J, M, N, O, G, R>(
         rt, alloc, seat, rings, register, output, gate,
@@ -312,7 +343,8 @@ where
     end(rt, reader, intake, writing, read)
 }
 
-/// A connection that was begun: its reader, the reader's hold on the credit book, and the thread that writes.
+/// A connection that was begun: its reader, the reader's hold on the credit book, and the thread
+/// that writes.
 #[derive(Drop)]
 struct Begun<
     A: Ledger,
@@ -330,7 +362,7 @@ struct Begun<
     writing: WriterHand<C, J, O>,
 }
 
-/// Begins a connection, or serves it to its end where there is no memory for that.
+/// Begins a connection. Without memory for that, it serves the connection to its end.
 // (kept out of its caller, whose frame is on the stack of each connection that lives)
 #[inline(never)]
 fn begin<A, B, C, J, M, N, O, G, R>(
@@ -372,9 +404,10 @@ where
         ≡ Some (out_name begun.writing.promise.orders.value)) }
     ensures way { IfOk result (λ begun. out_name begun.reader.reading.home
         ≡ in_name begun.writing.promise.home.value) }
-    ensures served { IfErr result (λ served. (read_failed : Bool) → IsServed
+    ensures served { IfErr result (λ served. (rest : Option (List ℕ)) (read_failed : Bool)
+        → IsServed
         (λ calls. items_of calls.full calls.last) O.contents O.failed M.known M.names
-        [] (O.contents output) read_failed served.report.ending served.report.calls
+        [] rest (O.contents output) read_failed served.report.ending served.report.calls
         served.output) }
 {
     let (register, front) = register.named::<J>();
@@ -392,7 +425,7 @@ where
     let (giving, home) = senders;
     let outlet = Outlet::new(common.for_writer, told);
     let intake = Intake::new(common.for_reader, came, calls);
-    let mut orders: Orders<A, B, C, J, N> = Orders::new(putting, common.for_orders);
+    let mut orders: Orders<A, B, C, J, N> = Orders::new(alloc, putting, common.for_orders);
     match writer::start(
         rt,
         alloc,
@@ -416,17 +449,16 @@ where
                 ending,
                 device,
                 orders: rx,
-                is_faultless,
                 ..
             } = written;
             let calls = Accounts::new(alloc);
             let read = Ending::OutOfMemory;
-            Err(meet(read, ending, calls, orders, rx, is_faultless, device))
+            Err(meet(&rt, read, ending, calls, orders, rx, device))
         }
     }
 }
 
-/// Ends a connection that was read so.
+/// Ends a connection after its reader has read to the end.
 #[inline(never)]
 fn end<A, B, C, J, M, N, O, G, R>(
     rt: R,
@@ -448,25 +480,30 @@ where
     requires route { N.ring ≡ Some (out_name writing.promise.orders.value) }
     requires way { out_name reader.reading.home ≡ in_name writing.promise.home.value }
     requires heard { Hears M.known M.names reader.reading reader.orders }
-    // For what was sent, as far as it came home by then, whatever was heard: so it is served.
+    // The connection is served, whatever was heard, for the senders that came back by then. The
+    // report has an account for each call that was admitted.
     ensures served { (sent : List Sent) × AreCarried sent (taken reader.reading.home)
-        × ((came : List ℕ) (told : List Step) (read_failed : Bool)
+        × ((came : List ℕ) (rest : Option (List ℕ)) (told : List Step) (read_failed : Bool)
         → HasRead M.known M.names sent read came told reader.reading reader.orders
-        → intake.came ≤ counted_told (events_of told)
+        → Covers told intake
         → (read ≡ ending.ReadFailed → read_failed ≡ true)
+        → (IsOfInput read → reader.orders.has_stopped ≡ false → IsAtEnd rest)
         → IsServed (λ calls. items_of calls.full calls.last) O.contents O.failed M.known M.names
-        came (O.contents writing.promise.device.value) read_failed result.report.ending
-        result.report.calls result.output) }
+        came rest (O.contents writing.promise.device.value) read_failed result.report.ending
+        result.report.calls result.output
+        × (intake.calls ≤ length (items_of result.report.calls.full result.report.calls.last))) }
 {
     let mut reader = reader;
     reader.end();
     let Parted { written, told } = writing.join(&rt);
     intake.audit(&rt, told);
-    meet_writer(reader, written, read)
+    meet_writer(rt, reader, written, read)
 }
 
-/// What became of a connection, where its reader meets its writer, and takes the senders back that this had.
+/// What became of a connection: its reader meets its writer, and takes back the senders that the
+/// writer had.
 fn meet_writer<A, B, C, J, M, N, O, G, R>(
+    rt: R,
     reader: Reader<A, B, C, J, M, N, R, G>,
     written: Written<J, O>,
     read: Ending,
@@ -483,9 +520,8 @@ where
     R: Threads + Wait + Clock + Copy + Send + Sync + Drop + 'static,
     requires route { N.ring ≡ Some (out_name written.orders) }
     requires way { out_name reader.reading.home ≡ in_name written.rest.sends.home }
-    ensures obeyed { AreFirst (taken written.orders) (put_in reader.orders.outbox.ring)
-        ((result.report.ending ≢ ending.OutOfMemory)
-        × (result.report.ending ≢ ending.WriteFailed)) }
+    requires none_left { reader.orders.backlog.items ≡ [] }
+    ensures obeyed { IsPrefix (taken written.orders) (put_of reader.orders) }
     ensures came { IsPrefix (taken reader.reading.home) (put_in written.rest.sends.home) }
     ensures accounts { (sent : List Sent) (told : List Step)
         → AreCarried sent (put_in written.rest.sends.home) → CarriesRest sent written.rest
@@ -494,42 +530,29 @@ where
         → AreAccounts M.known M.names (carried_in sent) told (reported told)
         (items_of result.report.calls.full result.report.calls.last) }
     ensures output { result.output ≡ written.device }
-    ensures memory { written.ending ≡ Some ending.OutOfMemory
-        → result.report.ending ≡ ending.OutOfMemory }
-    ensures broken { written.ending ≡ Some ending.WriteFailed
-        → result.report.ending ≢ ending.OutOfMemory
-        → result.report.ending ≡ ending.WriteFailed }
-    ensures marked { result.report.ending ≡ ending.WriteFailed
-        → written.ending ≡ Some ending.WriteFailed }
-    ensures dropped { result.report.ending ≢ ending.OutOfMemory
-        → result.report.ending ≢ ending.WriteFailed
-        → ((code : Code) → result.report.ending ≢ ending.ProtocolError code)
-        → reader.orders.has_dropped ≡ false }
-    ensures faultless { result.report.ending ≡ ending.Drained → written.is_faultless ≡ true }
-    ensures input { is_heard_out result.report.ending ≡ true → result.report.ending ≡ read }
-    ensures blamed { (code : Code) → result.report.ending ≡ ending.ProtocolError code
-        → (read ≡ ending.ProtocolError code)
-        ⊎ (written.ending ≡ Some (ending.ProtocolError code)) }
+    ensures ending { result.report.ending
+        ≡ ended_by read written.ending reader.orders.has_dropped }
+    ensures halted { reader.orders.has_stopped ≡ true → written.ending ≡ None
+        → reader.orders.has_dropped ≡ true }
 {
     let Written {
         ending,
         device,
         orders: rx,
-        is_faultless,
         rest,
     } = written;
     let (calls, orders) = reader.meet(rest);
-    meet(read, ending, calls, orders, rx, is_faultless, device)
+    meet(&rt, read, ending, calls, orders, rx, device)
 }
 
-/// The same by what either saw.
-fn meet<A, B, C, J, N, O>(
+/// What became of a connection, by what its reader and its writer each saw.
+fn meet<A, B, C, J, N, O, R>(
+    rt: &R,
     read: Ending,
-    written: Option<Ending>,
+    written: Option<WriterEnding>,
     calls: Accounts,
     orders: Orders<A, B, C, J, N>,
     rx: RingOut<Order<J>>,
-    is_faultless: bool,
     output: O,
 ) -> Served<O>
 where
@@ -539,81 +562,65 @@ where
     J: Naming,
     N: Route,
     O: ConnWrite + Send + Drop + 'static,
+    R: Wait + Clock,
     requires route { N.ring ≡ Some (out_name rx) }
-    // The orders that the run obeyed begin those that were put; and where the ending doesn't tell why not, they are all of them.
-    ensures obeyed { AreFirst (taken rx) (put_in orders.outbox.ring)
-        ((result.report.ending ≢ ending.OutOfMemory)
-        × (result.report.ending ≢ ending.WriteFailed)) }
+    requires none_left { orders.backlog.items ≡ [] }
+    // The orders that the run obeyed begin those that were put.
+    ensures obeyed { IsPrefix (taken rx) (put_of orders) }
     ensures output { result.output ≡ output }
     ensures calls { result.report.calls ≡ calls }
-    ensures memory { written ≡ Some ending.OutOfMemory
-        → result.report.ending ≡ ending.OutOfMemory }
-    ensures broken { written ≡ Some ending.WriteFailed
-        → result.report.ending ≢ ending.OutOfMemory
-        → result.report.ending ≡ ending.WriteFailed }
-    ensures marked { result.report.ending ≡ ending.WriteFailed
-        → written ≡ Some ending.WriteFailed }
-    // None was dropped, unless the ending tells why.
-    ensures dropped { result.report.ending ≢ ending.OutOfMemory
-        → result.report.ending ≢ ending.WriteFailed
-        → ((code : Code) → result.report.ending ≢ ending.ProtocolError code)
-        → orders.has_dropped ≡ false }
-    // None with an error was told, where the connection drained.
-    ensures faultless { result.report.ending ≡ ending.Drained → is_faultless ≡ true }
-    ensures input { is_heard_out result.report.ending ≡ true → result.report.ending ≡ read }
-    ensures blamed { (code : Code) → result.report.ending ≡ ending.ProtocolError code
-        → (read ≡ ending.ProtocolError code) ⊎ (written ≡ Some (ending.ProtocolError code)) }
-    ensures lacked { read ≡ ending.OutOfMemory → result.report.ending ≡ ending.OutOfMemory }
+    ensures ending { result.report.ending ≡ ended_by read written orders.has_dropped }
+    ensures halted { orders.has_stopped ≡ true → written ≡ None → orders.has_dropped ≡ true }
 {
-    let has_dropped = orders.has_dropped;
-    let are_all = orders.meet(rx);
-    let ending = by_orders(of_both(read, written), are_all, has_dropped, is_faultless);
+    let (has_dropped, has_stopped) = (orders.has_dropped, orders.has_stopped);
+    orders.meet(rx);
+    if has_stopped && !has_dropped && written.is_none() {
+        wait_for_ever(rt);
+    }
+    let ending = of_both(read, written, has_dropped);
     Served {
         report: ConnReport { calls, ending },
         output,
     }
 }
 
-/// How a connection ended, by what the reader and the writer see. What a writer, or a reader, doesn't end with
-/// counts as want of memory.
-fn of_both(read: Ending, written: Option<Ending>) -> Ending
-    ensures memory { written ≡ Some ending.OutOfMemory → result ≡ ending.OutOfMemory }
-    ensures failed { written ≡ Some ending.WriteFailed → result ≢ ending.OutOfMemory
-        → result ≡ ending.WriteFailed }
-    ensures marked { result ≡ ending.WriteFailed → written ≡ Some ending.WriteFailed }
-    ensures blamed { (code : Code) → result ≡ ending.ProtocolError code
-        → (read ≡ ending.ProtocolError code) ⊎ (written ≡ Some (ending.ProtocolError code)) }
-    ensures input { is_heard_out result ≡ true → result ≡ read }
-    ensures lacked { read ≡ ending.OutOfMemory → result ≡ ending.OutOfMemory }
+/// Waits for ever: the reader saw that the writer had stopped, and the writer didn't say why. That
+/// doesn't come, since a writer that stops says why; and no ending would be true.
+fn wait_for_ever<R: Wait + Clock>(rt: &R)
+    ensures never { ⊥ }
 {
-    match (read, written) {
-        (Ending::OutOfMemory, _) => Ending::OutOfMemory,
-        (_, Some(Ending::OutOfMemory)) => Ending::OutOfMemory,
-        (_, Some(Ending::ProtocolError(code))) => Ending::ProtocolError(code),
-        (_, Some(Ending::WriteFailed)) => Ending::WriteFailed,
-        (_, Some(_)) | (Ending::WriteFailed, None) => Ending::OutOfMemory,
-        (ending, None) => ending,
+    'waits: for _ in rt.forever() {
+        thread::sleep(rt, Duration::from_secs(1));
+    }
+    unreachable!()
+}
+
+/// How a connection ended, by what its reader saw, how its writer ended, and whether orders were
+/// dropped for want of memory.
+fn of_both(read: Ending, written: Option<WriterEnding>, has_dropped: bool) -> Ending
+    ensures { result ≡ ended_by read written has_dropped }
+{
+    if has_dropped {
+        return Ending::OutOfMemory;
+    }
+    match written {
+        None => read,
+        Some(end) => by_writer(read, end.ending()),
     }
 }
 
-/// The same by whether the writer took all orders that were put, whether others were dropped, and whether it told no error. Where no
-/// ending tells why, it counts as want of memory; but that doesn't come.
-fn by_orders(seen: Ending, are_all: bool, has_dropped: bool, is_faultless: bool) -> Ending
-    ensures memory { seen ≡ ending.OutOfMemory → result ≡ ending.OutOfMemory }
-    ensures failed { seen ≡ ending.WriteFailed → result ≡ ending.WriteFailed }
-    ensures marked { result ≡ ending.WriteFailed → seen ≡ ending.WriteFailed }
-    ensures seen { (result ≡ seen) ⊎ (result ≡ ending.OutOfMemory) }
-    ensures all { result ≢ ending.OutOfMemory → result ≢ ending.WriteFailed → are_all ≡ true }
-    ensures dropped { result ≢ ending.OutOfMemory → result ≢ ending.WriteFailed
-        → ((code : Code) → result ≢ ending.ProtocolError code) → has_dropped ≡ false }
-    ensures faultless { result ≡ ending.Drained → is_faultless ≡ true }
+/// How a connection ended whose writer ended so, and no order was dropped: want of memory comes
+/// first.
+fn by_writer(read: Ending, end: Ending) -> Ending
+    ensures { result ≡ unless_lacked read end }
 {
-    match seen {
-        Ending::OutOfMemory | Ending::WriteFailed => seen,
-        _ if !are_all => Ending::OutOfMemory,
-        Ending::ProtocolError(_) => seen,
-        _ if has_dropped => Ending::OutOfMemory,
-        Ending::Drained if !is_faultless => Ending::OutOfMemory,
-        _ => seen,
+    match read {
+        Ending::InputEnded => end,
+        Ending::PeerGoaway => end,
+        Ending::ProtocolError(_) => end,
+        Ending::ReadFailed => end,
+        Ending::WriteFailed => end,
+        Ending::OutOfMemory => Ending::OutOfMemory,
+        Ending::Drained => end,
     }
 }

@@ -1,4 +1,4 @@
-//! What is told of a connection that was served.
+//! The report of a connection that was served.
 
 use callparts::ConnReport;
 
@@ -6,6 +6,6 @@ use callparts::ConnReport;
 #[derive(Drop)]
 pub struct Served<O: Drop> {
     pub report: ConnReport,
-    /// What was written to.
+    /// The device that was written to.
     pub output: O,
 }

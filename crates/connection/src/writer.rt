@@ -1,11 +1,33 @@
-//! The writing thread of a connection: it turns a `Writing`, takes the lock for it, rings and waits.
+//! The writing thread of a connection. It runs a `Writing`, takes the lock for it, rings and waits.
 
-ghost use Rattle.std.specs.Prelude.{◌≡◌, ◌⊎◌, ℕ, List, [], ◌∷◌, Option, IfErr, IfOk, OnErr, OnOk, true};
+ghost use Rattle.std.specs.Prelude.{
+  ◌≡◌,
+  ◌⊎◌,
+  ℕ,
+  List,
+  [],
+  ◌∷◌,
+  Option,
+  IfErr,
+  IfOk,
+  OnErr,
+  OnOk,
+  true,
+};
 ghost use Rattle.lane.specs.Ring.{in_name, out_name, put_in, taken};
 ghost use Rattle.writerloop.specs.declared.filled.Filled.TheVariants as filling;
 ghost use Rattle.outwriter.specs.declared.control.Control.TheVariants as controls;
-ghost use Rattle.writerloop.specs.Orders.{orders_of};
-ghost use Rattle.writerloop.specs.Written.{HasSent, HasWritten, IsFlushed, Led, LedOut, LeadsOn, LeadsOutTo, LeadsTo, Stays};
+ghost use Rattle.writerloop.specs.Endings.{ending_told};
+ghost use Rattle.writerloop.specs.Written.{
+  HasSent,
+  IsFlushed,
+  Led,
+  LedOut,
+  LeadsOn,
+  LeadsOutTo,
+  LeadsTo,
+  Stays,
+};
 ghost use Rattle.connection.specs.Puts.{Closed, Ordered};
 
 use crate::orders::{Orders, Route};
@@ -27,7 +49,8 @@ use writerloop::{Filled, Rest, Took, Waiting, Writing, Written};
 /// How long the writer waits at most before it looks again, in milliseconds.
 const STEP: u64 = 1000;
 
-/// How many turns that write something come at most before it looks for calls that were left, which looks at each call.
+/// How many turns that write something come between two looks for calls that were left. Such a look
+/// goes over each call.
 const TURNS: u32 = 16;
 
 /// What the writing thread of a connection has.
@@ -36,7 +59,7 @@ struct Writer<A: Ledger, B: Ledger, C: Ledger, J: Naming, W: ConnWrite, G: Drop>
     outlet: Outlet<A, B, C>,
     gate: Arc<G>,
     writing: Writing<J, W>,
-    /// How many more turns that write something come before it looks for calls that were left.
+    /// How many more turns that write something come before the next look for calls that were left.
     turns: u32,
 }
 
@@ -51,12 +74,12 @@ where
 {
     /// Writes until no more is to be written.
     fn write(self, rt: &impl Wait) -> Parted<C, J, W>
-        // The run granted on the connection what the share counts.
+        // The run granted as much credit on the connection as the share counts.
         ensures sent { (before : Option (List ℕ))
             → Led W.contents W.failed before self.outlet self.writing
             → HasSent W.contents W.failed before result.told.amount
-            (taken result.written.orders) result.written.rest result.written.ending
-            result.written.is_faultless result.written.device }
+            (taken result.written.orders) result.written.rest
+            (ending_told result.written.ending) result.written.device }
         ensures name { out_name result.written.orders ≡ out_name self.writing.inbox.ring }
         ensures way { in_name result.written.rest.sends.home ≡ in_name self.writing.sends.home }
         ensures parts { result.told.parts ≡ C.parts }
@@ -78,8 +101,8 @@ where
         ensures sent { (before : Option (List ℕ)) (credit : ℕ)
             → LedOut W.contents W.failed before credit self.writing
             → HasSent W.contents W.failed before credit
-            (taken result.written.orders) result.written.rest result.written.ending
-            result.written.is_faultless result.written.device }
+            (taken result.written.orders) result.written.rest
+            (ending_told result.written.ending) result.written.device }
         ensures name { out_name result.written.orders ≡ out_name self.writing.inbox.ring }
         ensures way { in_name result.written.rest.sends.home ≡ in_name self.writing.sends.home }
         ensures amount { result.told.amount ≡ self.outlet }
@@ -96,7 +119,8 @@ where
         }
     }
 
-    /// Writes what can be written, and waits where that is nothing. Whether no more is to be written.
+    /// Writes what can be written, and waits where that is nothing. Answers whether no more is to
+    /// be written.
     fn turn(&mut self, rt: &impl Wait) -> bool
         ensures leads { LeadsTo W.contents W.failed self.old.outlet self.old.writing
             self.new.outlet self.new.writing }
@@ -132,7 +156,7 @@ where
         false
     }
 
-    /// Has the calls reset that were left without trailers. Where there is none it waits.
+    /// Resets the calls that were left without trailers. Where there is none it waits.
     fn reset_left(&mut self, rt: &impl Wait, mark: u64)
         ensures outlet { self.new.outlet ≡ self.old.outlet }
         ensures leads { LeadsOn W.contents W.failed self.old.writing self.new.writing }
@@ -143,8 +167,8 @@ where
         self.wait(rt, mark);
     }
 
-    /// Behind a turn that wrote something: once in some turns takes the orders that wait, and has the calls reset that were left without
-    /// trailers.
+    /// After a turn that wrote something: once in `TURNS` such turns takes the orders that wait,
+    /// and resets the calls that were left without trailers.
     fn reset_between(&mut self, rt: &impl Wait)
         ensures outlet { self.new.outlet ≡ self.old.outlet }
         ensures leads { LeadsOn W.contents W.failed self.old.writing self.new.writing }
@@ -167,7 +191,8 @@ where
             .wait_past(rt, mark, Duration::from_millis(STEP));
     }
 
-    /// Takes what orders wait, and writes a buffer's worth of frames. Why there aren't more, and whether there was none.
+    /// Takes the orders that wait, and writes a buffer's worth of frames. Answers why there aren't
+    /// more, and whether there was none.
     fn write_once(&mut self, rt: &impl Wait) -> (Filled, bool)
         ensures leads { LeadsTo W.contents W.failed self.old.outlet self.old.writing
             self.new.outlet self.new.writing }
@@ -207,7 +232,8 @@ where
         }
     }
 
-    /// Orders were taken: there is room for others. A call that was opened by one of them after the writer had stopped is woken.
+    /// Orders were taken: there is room for others. Wakes the call that one of them opened after
+    /// the writer had stopped.
     fn tell_taken(&self) {
         self.outlet.shared().reader.ring();
         if self.outlet.shared().has_stopped() {
@@ -215,7 +241,7 @@ where
         }
     }
 
-    /// Takes the next order. None may be taken where none waits, or where one is set aside.
+    /// Takes the next order. It may take none where none waits, or where one is set aside.
     fn take_next(&mut self, rt: &impl Wait) -> bool
         ensures outlet { self.new.outlet ≡ self.old.outlet }
         ensures leads { LeadsOn W.contents W.failed self.old.writing self.new.writing }
@@ -237,7 +263,8 @@ where
         true
     }
 
-    /// Looks at the next order, where one waits: what a GOAWAY of the writer's own tells, if one comes of it.
+    /// Looks at the next order, where one waits. Answers the stream that a GOAWAY of the writer's
+    /// own would name, if the order may lead to one.
     fn look(&mut self, rt: &impl Wait) -> Option<StreamId>
         ensures outlet { self.new.outlet ≡ self.old.outlet }
         ensures leads { LeadsOn W.contents W.failed self.old.writing self.new.writing }
@@ -253,7 +280,7 @@ where
         }
     }
 
-    /// Warns the peer before it is told which calls go on, where the server is to stop.
+    /// Warns the peer, where the server drains, before the GOAWAY that names the last call.
     fn warn(&mut self, rt: &impl Wait)
         ensures outlet { self.new.outlet ≡ self.old.outlet }
         ensures leads { LeadsOn W.contents W.failed self.old.writing self.new.writing }
@@ -263,7 +290,8 @@ where
         }
     }
 
-    /// The writer has ended a stream: its call is cut, and its worker woken only then, so that it sees that.
+    /// The writer has ended a stream. Cuts its call, and only then wakes its worker, which so sees
+    /// the cut.
     fn cut(&self, rt: &impl Wait, id: StreamId) {
         self.outlet.shared().book.lock(rt).cut(id);
         self.writing.wake(id);
@@ -280,7 +308,7 @@ where
         self.stop(rt);
     }
 
-    /// Owes the peer what credit is due, and warns it where the server is to stop.
+    /// Grants the peer the credit that is due, and warns the peer where the server drains.
     fn announce(&mut self, rt: &impl Wait)
         ensures leads { LeadsTo W.contents W.failed self.old.outlet self.old.writing
             self.new.outlet self.new.writing }
@@ -295,7 +323,7 @@ where
         }
     }
 
-    /// Tells the peer that no more frames come, where there was no memory for one.
+    /// Writes the last word of a writer that had no memory for a frame.
     fn say_last(&mut self, rt: &impl Wait, filled: Filled)
         ensures outlet { self.new.outlet ≡ self.old.outlet }
         ensures stays { Stays W.contents W.failed self.old.writing self.new.writing }
@@ -307,7 +335,7 @@ where
         self.writing.say_last(last);
     }
 
-    /// Lets go of the senders of calls that are through.
+    /// Hands back the senders of calls that are through.
     fn release_all(&mut self)
         ensures outlet { self.new.outlet ≡ self.old.outlet }
         ensures stays { Stays W.contents W.failed self.old.writing self.new.writing }
@@ -339,15 +367,16 @@ where
         }
     }
 
-    /// Tells the gate of the streams whose last frame was in the buffer.
+    /// Reports to the gate the streams whose last frame was in the buffer.
     fn tell_gate(&self) {
         for id in self.writing.left() {
             self.gate.trailers_written(*id);
         }
     }
 
-    /// Nothing can be written now. Once the input has ended no window opens, so the calls that wait for one are cut. Where the writer has
-    /// ended the connection, all that it writes is written.
+    /// Nothing can be written now. Once the input has ended no window opens, so the calls that wait
+    /// for one are cut. Where the writer has ended the connection, it reports to the gate that all
+    /// is written.
     fn idle(&self, rt: &impl Wait) {
         if self.outlet.shared().has_stopped() {
             self.gate.writing_ended();
@@ -365,7 +394,8 @@ where
         }
     }
 
-    /// Nothing more is written: no call is live, and the workers that wait for room are woken to see that.
+    /// Nothing more is written: no call is live, and the workers that wait for room are woken to
+    /// see that.
     fn stop(&self, rt: &impl Wait) {
         self.outlet.shared().book.lock(rt).stop();
         self.outlet.shared().stop();
@@ -373,15 +403,16 @@ where
     }
 }
 
-/// What a writing thread comes to: what it hands back, and the share of the one who announced credit.
+/// What a writing thread hands back at its end, with the share in which announced credit counts.
 #[derive(Drop)]
 pub(crate) struct Parted<C: Ledger, J: Naming, W: ConnWrite + Drop> {
     pub(crate) written: Written<J, W>,
     pub(crate) told: Share<C>,
 }
 
-/// What a writer writes to, takes its orders from, and hands senders back by, as it was before. It promises that behind what was written stand
-/// the frames of a lawful run, which obeyed the orders that it took, and granted on the connection what its share counts; and that no sender is lost.
+/// The device and the rings of a writer, as they were before. The writer's promise by them: it
+/// wrote the frames of a lawful run, which obeyed the orders that it took and granted as much
+/// credit on the connection as its share counts; and no sender is lost.
 #[derive(Drop)]
 pub(crate) struct Begun<J: Naming, W: ConnWrite> {
     pub(crate) device: Snapshot<W>,
@@ -393,16 +424,17 @@ impl<C: Ledger, J: Naming, W: ConnWrite + Drop> Promise<Parted<C, J, W>> for Beg
     ghost kept_by = { λ begun r. (out_name r.written.orders ≡ out_name begun.orders.value)
         × (in_name r.written.rest.sends.home ≡ in_name begun.home.value)
         × HasSent W.contents W.failed (W.contents begun.device.value) r.told.amount
-        (taken r.written.orders) r.written.rest r.written.ending r.written.is_faultless
+        (taken r.written.orders) r.written.rest (ending_told r.written.ending)
         r.written.device
         × (r.told.parts ≡ C.parts) };
 }
 
-/// The thread that writes, and what it comes to.
+/// The thread that writes, with its promise.
 pub(crate) type WriterHand<C, J, W> = PromisedHandle<Parted<C, J, W>, Begun<J, W>>;
 
-/// Starts the thread that writes. Where it can't be made, it is ordered that the input has ended, and no more: this thread writes what is to
-/// be written then. So Close isn't the first order, for which there may be no memory.
+/// Starts the thread that writes. If it can't be made, the one order is that the input has ended,
+/// and the caller's thread writes what is to be written then. So Close, for which there may be no
+/// memory, isn't the first order.
 // (kept out of its caller, whose frame is on the stack of each connection that lives)
 #[inline(never)]
 pub(crate) fn start<A, B, C, J, N, W, G, R>(
@@ -434,10 +466,11 @@ where
     ensures same { OnOk result (orders.new ≡ orders.old) }
     ensures put { OnErr result (Ordered [] orders.old
         → Closed (controls.InputEnded ∷ []) orders.new) }
+    ensures none_left { OnErr result (orders.new.backlog.items ≡ []) }
     ensures name { IfErr result (λ parted. out_name parted.written.orders ≡ out_name taking) }
-    ensures written { IfErr result (λ parted. HasWritten W.contents W.failed (W.contents device)
-        parted.told.amount (orders_of (taken parted.written.orders)) parted.written.ending
-        parted.written.is_faultless parted.written.device) }
+    ensures sent { IfErr result (λ parted. HasSent W.contents W.failed (W.contents device)
+        parted.told.amount (taken parted.written.orders) parted.written.rest
+        (ending_told parted.written.ending) parted.written.device) }
     ensures parts { IfErr result (λ parted. parted.told.parts ≡ C.parts) }
 {
     let begun = Begun {
@@ -458,8 +491,8 @@ where
         ensures sent { (before : Option (List ℕ))
             → Led W.contents W.failed before writer.outlet writer.writing
             → HasSent W.contents W.failed before result.told.amount
-            (taken result.written.orders) result.written.rest result.written.ending
-            result.written.is_faultless result.written.device }
+            (taken result.written.orders) result.written.rest
+            (ending_told result.written.ending) result.written.device }
         ensures parts { result.told.parts ≡ C.parts }
     { writer.write(&rt) };
     match Builder::new()

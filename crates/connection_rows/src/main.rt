@@ -1,13 +1,15 @@
-//! What the bytes of connections come to, by the files in `data/`; `data/README.md` says how these are written.
+//! What the bytes of connections mean, by the files in `data/`; `data/README.md` says how these are
+//! written.
 //!
-//! - `reading`: rows of a connection that a client writes, and the events that the reading core has to give, however the
-//!   bytes are cut.
-//! - `writing`: rows of what a connection's writer is told, and the frames that its peer has to read.
-//! - `recordings`: connections that gRPC clients wrote. Their frames and events are printed; `stdout` has those that
-//!   another implementation of HTTP/2 read in them.
+//! - `reading`: rows of a connection that a client writes, and the events that the reading core has
+//!   to give, however the bytes are cut.
+//! - `writing`: rows of the controls of a connection's writer, and the frames that its peer has to
+//!   read.
+//! - `recordings`: connections that gRPC clients wrote. Their frames and events are printed;
+//!   `stdout` has those that another implementation of HTTP/2 read in them.
 //!
-//! A row that differs is printed, with the line it stands on, and for each file the number of its rows; where a row
-//! differs, the program fails.
+//! A row that differs is printed, with the line it stands on, and for each file the number of its
+//! rows; where a row differs, the program fails.
 #![tactic(auto)]
 
 use anyhow::{Result, ensure};

@@ -1,8 +1,9 @@
-//! Rows of connections and the events that they come to.
+//! Rows of connections and their events.
 //!
-//! `rows` reads a file: the rows of its lines, and the names that it gives to what begins many of them. `part` is what
-//! stands on a line: bytes and their events. `feeding` reads the bytes of a row by the reading core, cut in many ways, and
-//! compares their events; `events` writes events as the rows have them.
+//! `rows` reads a file: the rows of its lines, and the names that it gives to what begins many of
+//! them. `part` is what stands on a line: bytes and their events. `feeding` reads the bytes of a
+//! row by the reading core, cut in many ways, and compares their events; `events` writes events as
+//! the rows have them.
 
 use crate::Tally;
 use anyhow::Result;

@@ -1,6 +1,7 @@
-//! The frames and the events of recorded connections, as `data/recordings/` has them from the preface on: of a frame its
-//! type, flags, stream and payload's length, with the block of HEADERS and the payload of what is neither HEADERS nor DATA;
-//! of the events a line each. Each connection is read whole and in small pieces, which have to give the same.
+//! The frames and the events of recorded connections, as `data/recordings/` has them from the
+//! preface on. A frame has its type, flags, stream and payload's length, with the block of HEADERS
+//! and the payload of frames other than HEADERS and DATA; an event has a line. Each connection is
+//! read whole and in small pieces, with equal results.
 
 use crate::reading::events::{push_bytes, push_event};
 use crate::reading::feeding::events_in_pieces;
@@ -138,7 +139,7 @@ fn bytes_of(rt: &(impl Files + AllocGlobal), name: &str) -> Result<Vec<u8>> {
     hex::decode(rt.alloc(), digits.trim()).context("the file's hexadecimal digits")
 }
 
-/// The lines of a connection, the same in pieces of each size.
+/// The lines of a connection, which have to be equal for pieces of each size.
 fn lines_in_any_pieces(alloc: Global, name: &str, bytes: &[u8]) -> Result<String> {
     let lines = lines_of(alloc, bytes, bytes.len())?;
     for size in SIZES {

@@ -1,7 +1,7 @@
 //! Rows of what a connection's writer does, each act against what its peer has to read.
 //!
-//! `rows` runs a file; `acts` has the words of an act and what it does to the writer's core; `calls` the calls that it
-//! opens; `peer` reads frames and tells them.
+//! `rows` runs a file; `acts` has the words of an act and what it does to the writer's core;
+//! `calls` the calls that it opens; `peer` reads frames and writes them as text.
 
 mod acts;
 mod calls;

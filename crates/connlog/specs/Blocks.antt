@@ -1,15 +1,28 @@
 -- Header blocks that change no table (RFC 7541, sections 5.2, 6.1 and 6.2.2).
-use Rattle.std.specs.Prelude.{ℕ, ◌-◌, ◌%◌, ◌==◌, nat_lt, Bool, true, false, ◌&&◌, if◌then◌else◌, List, fold}
+use Rattle.std.specs.Prelude.{
+  ℕ,
+  ◌-◌,
+  ◌%◌,
+  ◌==◌,
+  nat_lt,
+  Bool,
+  true,
+  false,
+  ◌&&◌,
+  if◌then◌else◌,
+  List,
+  fold,
+}
 use Rattle.connlog.specs.declared.tables.Expected.{Expected}
 use Rattle.connlog.specs.declared.tables.Expected.TheVariants.{Field, Length, Value, Other}
 
--- behind the first byte of a field: of an indexed one, or of a literal without indexing that has its name by index, where
--- the index isn't spelled in further bytes
+-- after the first byte of a field: of an indexed one, or of a literal without indexing that has its
+-- name by index, where the index isn't spelled in further bytes
 abbrev pub behind_first : ℕ → Expected
 behind_first byte = if nat_lt 127 byte && nat_lt byte 255 then Field
     else (if nat_lt 0 byte && nat_lt byte 15 then Length else Other)
 
--- where so many bytes of a value are to come; 127 says that its length is spelled in further bytes
+-- a value of this many bytes is to come; 127 says that its length is spelled in further bytes
 abbrev pub value_of : ℕ → Expected
 value_of length = if length == 0 then Field else (if length == 127 then Other else Value length)
 
@@ -26,6 +39,6 @@ is_field Length = false
 is_field (Value left) = false
 is_field Other = false
 
--- it has such fields alone
+-- a block has only such fields
 abbrev pub keeps_tables : List ℕ → Bool
 keeps_tables block = is_field (fold behind Field block)

@@ -11,7 +11,7 @@ use callhead::{first_value, read_timeout};
 use lists::Field;
 use std::alloc::{AllocError, Global};
 
-/// What the paths of the methods begin with.
+/// The beginning of the methods' paths.
 const SERVICE: &[u8] = b"/grpc.testing.TestService/";
 
 /// How much memory for requests is kept between two of them, in bytes.
@@ -86,9 +86,9 @@ impl MethodName {
 /// A stream that the client began.
 #[derive(Drop)]
 pub struct Call {
-    /// Its method, where it is a call of one.
+    /// Its method, if it is a call of one.
     pub method: Option<MethodName>,
-    /// Why it is refused, where it is.
+    /// Why it is refused, if it is.
     pub refusal: Option<HeadCause>,
     pub requests: Messages,
     pub replies: Messages,
@@ -103,7 +103,8 @@ pub struct Call {
     pub heard: u64,
     encoding: Option<String>,
     timeout: Option<String>,
-    /// How many seconds after its begin the call ends, if it does, rounded up; until a line says that they have passed.
+    /// How many seconds after its begin the call ends, if it does, rounded up; until a line says
+    /// that they have passed.
     pub deadline: Option<u64>,
     /// At which tick it began.
     begun: u64,
@@ -114,7 +115,8 @@ pub struct Call {
 }
 
 impl Call {
-    /// What the fields that open a stream begin, where they are a request. They are judged in the server's order.
+    /// The call that the fields which open a stream begin, if they are a request. They are judged
+    /// in the server's order.
     pub fn begin(alloc: Global, fields: &[Field], now: u64) -> Result<Call, AllocError> {
         let path = first_value(fields, b":path").unwrap_or(b"".as_slice());
         let method = MethodName::of(path);
@@ -132,12 +134,12 @@ impl Call {
         })
     }
 
-    /// What the head of a call begins that says no more than its method.
+    /// The call that a head begins which says no more than its method.
     pub fn plain(alloc: Global, method: MethodName, now: u64) -> Call {
         Call::new(alloc, Some(method), now)
     }
 
-    /// The method, where the head said no more.
+    /// The method, if the head said no more.
     pub fn plain_method(&self) -> Option<MethodName> {
         if self.encoding.is_some() || self.timeout.is_some() {
             return None;
@@ -199,7 +201,7 @@ impl Call {
         Ok(())
     }
 
-    /// Whether its deadline has passed by this tick, of which a line is due. It is told once.
+    /// Whether its deadline has passed by this tick, so that a line is due. It answers so once.
     pub fn has_passed(&mut self, now: u64) -> bool {
         let Some(deadline) = self.deadline else {
             return false;
@@ -211,7 +213,7 @@ impl Call {
         has_passed
     }
 
-    /// Why it ends, by its status's text. It is told once.
+    /// Why it ends, by its status's text. It answers this once.
     pub fn why(&mut self, text: &str) -> Option<Cause> {
         if let Some(refusal) = self.refusal.take() {
             return Some(Cause::Head(refusal));

@@ -1,5 +1,6 @@
-//! Why the server ended a stream or the connection, or answered a call with an error: each rule of HTTP/2 and of gRPC over HTTP/2
-//! that a client can break, with what it sent, and what else ends them.
+//! Why the server ended a stream or the connection, or answered a call with an error: each rule of
+//! HTTP/2 and of gRPC over HTTP/2 that a client can break, with what it sent, and what else ends
+//! them.
 
 use crate::fields::FieldFault;
 use crate::malformed::Malformed;
@@ -29,9 +30,9 @@ pub enum Cause {
 pub enum FrameCause {
     /// The bytes depart from the preface with this one.
     Preface { at: usize, byte: u8 },
-    /// Another frame than SETTINGS came first.
+    /// A frame other than SETTINGS came first.
     First(FrameHead),
-    /// The frame can't be read. So many bytes of it are padding.
+    /// The frame can't be read. The number is its bytes of padding.
     Fault(FrameHead, FrameFault, u8),
     /// A parameter of SETTINGS has a value that it may not have.
     Setting { id: u16, value: u32 },
@@ -45,9 +46,9 @@ pub enum BlockCause {
     Lone(StreamId),
     /// Another frame inside the block of this stream.
     Interrupted(StreamId, FrameHead),
-    /// The frames of a block have so many bytes.
+    /// The frames of a block have too many bytes, by their number.
     TooLong(StreamId, usize),
-    /// A block of so many bytes isn't HPACK, or its fields are too large.
+    /// A block isn't HPACK, or its fields are too large.
     Hpack {
         stream: StreamId,
         length: usize,
@@ -76,11 +77,11 @@ pub enum StreamCause {
 /// A rule on windows.
 #[derive(Clone, Copy)]
 pub enum WindowCause {
-    /// DATA on a stream, of so many bytes, where so many may be sent on it.
+    /// DATA on a stream, and how many bytes may be sent on it.
     Stream(FrameHead, i64),
-    /// The same of the connection.
+    /// DATA, and how many bytes may be sent on the connection.
     Connection(FrameHead, i64),
-    /// So much credit on a window of this size; 0 is the connection.
+    /// Credit on a window of this size; stream 0 is the connection.
     Credit {
         stream: StreamId,
         increment: u32,
@@ -111,7 +112,7 @@ pub enum CallCause {
     Cut(Cut),
     /// A prefix has a fault; and `grpc-encoding`.
     Prefix(PrefixFault, Option<String>),
-    /// So many messages came, where one was wanted.
+    /// This many messages came, where one was wanted.
     Count(u64),
     /// `grpc-timeout` has this value.
     Deadline(String),
@@ -124,7 +125,7 @@ pub enum CallCause {
 pub enum ServerCause {
     /// It stops while calls go on.
     Drain,
-    /// So many calls are live.
+    /// As many calls are live as may be.
     LiveCalls,
     /// All streams were begun that a connection may have.
     AllStreams,
@@ -275,7 +276,7 @@ fn write_place<W: fmt::Write>(
     }
 }
 
-/// Which rule of HPACK a block breaks, with the number that stands there.
+/// Which rule of HPACK a block breaks, with the number at that place.
 fn write_hpack<W: fmt::Write>(
     f: &mut fmt::Formatter<W>,
     fault: HpackFault,

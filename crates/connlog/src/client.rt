@@ -39,7 +39,7 @@ impl Seen {
         }
     }
 
-    /// Whether a frame may not stand where it does; then the connection ends.
+    /// Whether a frame may not come where it does; then the connection ends.
     fn is_misplaced(&mut self, head: &FrameHead) -> Result<bool, AllocError> {
         let cause = if !self.has_settings && head.kind != FrameKind::Settings {
             Cause::Frame(FrameCause::First(*head))
@@ -237,7 +237,7 @@ impl Seen {
         if self.is_over {
             return Ok(());
         }
-        // The server's credit may be shown behind what it let come.
+        // The server's credit may be shown after what it let come.
         let (left, length) = (self.came, i64::from(head.length));
         self.came = left.saturating_sub(length);
         if length > left {
@@ -413,7 +413,8 @@ impl Seen {
         Ok(())
     }
 
-    /// The windows of streams begin with this size from here on, and those that are there move with it.
+    /// The windows of streams begin with this size from here on, and those that are there move with
+    /// it.
     fn resize(&mut self, size: u32) -> Result<(), AllocError> {
         self.initial = i64::from(size);
         let most = self

@@ -9,7 +9,7 @@ use std::fmt;
 
 const PSEUDO_HEADERS: [&[u8]; 4] = [b":method", b":scheme", b":path", b":authority"];
 
-/// Those that each request has.
+/// The pseudo-headers that each request has.
 const REQUIRED: [&[u8]; 3] = [b":method", b":scheme", b":path"];
 
 /// A rule on the fields of a request.
@@ -22,7 +22,7 @@ pub enum RequestRule {
     /// A pseudo-header that no request has.
     Unknown,
     EmptyPath,
-    /// A pseudo-header that stands twice.
+    /// A pseudo-header that comes twice.
     Repeated,
     /// A pseudo-header that is missing.
     Missing,
@@ -36,7 +36,7 @@ pub struct FieldFault {
     pub value: String,
 }
 
-/// Which rule the fields that open a stream break, where they are no request.
+/// Which rule the fields that open a stream break, if they aren't a request's.
 pub fn request_fault(alloc: Global, fields: &[Field]) -> Result<Option<FieldFault>, AllocError> {
     let mut is_behind = false;
     for field in fields {
@@ -66,7 +66,7 @@ pub fn request_fault(alloc: Global, fields: &[Field]) -> Result<Option<FieldFaul
     Ok(None)
 }
 
-/// Which rule the trailers of a request break, where they are none.
+/// Which rule the trailers of a request break, if they break one.
 pub fn trailers_fault(alloc: Global, fields: &[Field]) -> Result<Option<FieldFault>, AllocError> {
     for field in fields {
         let rule = match rule_of(field) {
@@ -109,7 +109,7 @@ fn of_name(alloc: Global, rule: RequestRule, name: &[u8]) -> Result<FieldFault, 
     })
 }
 
-/// The rule that a field breaks by itself, wherever it stands.
+/// The rule that a field breaks by itself.
 fn rule_of(field: &Field) -> Option<RequestRule> {
     match field_rule(field) {
         Some(rule) => Some(RequestRule::Field(rule)),

@@ -40,7 +40,8 @@ pub fn string(alloc: Global, text: &mut String, name: &str, value: &str) -> Resu
     push_text(alloc, text, value)
 }
 
-/// A text as a string of JSON (RFC 8259, section 7): the shortest that `serde_json` knows, which is read again as this text.
+/// A text as a string of JSON (RFC 8259, section 7): the shortest that `serde_json` knows, which is
+/// read back as this text.
 fn push_text(alloc: Global, text: &mut String, value: &str) -> Result<(), AllocError>
     ensures { OnOk result (string_bytes text.new
         ≡ string_bytes text.old ++ compact_text (spells.string value.now)) }

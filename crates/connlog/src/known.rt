@@ -1,6 +1,7 @@
-//! A header block that was read before, so that the same bytes needn't be read again.
+//! A header block that was read before, so that its bytes needn't be read again.
 //!
-//! The bytes of a block that changes no table mean the same as long as no other block was read between.
+//! A block that changes no table means what it meant before, as long as no other block was read
+//! between.
 
 ghost use Rattle.std.specs.Prelude.{◌≡◌, true, false, Some, None, IfSome, OnOk};
 ghost use Rattle.connlog.specs.Blocks.{keeps_tables};
@@ -24,7 +25,7 @@ impl<T: Copy + Drop> Known<T> {
         }
     }
 
-    /// What the block means, where it is known.
+    /// What the block means, if that is known.
     pub fn get(&self, block: &[u8]) -> Option<T>
         ensures same { IfSome result (λ _. self.now.block.items ≡ block.now) }
         ensures meaning { IfSome result (λ meaning. self.now.meaning ≡ Some meaning) }
@@ -36,7 +37,7 @@ impl<T: Copy + Drop> Known<T> {
         }
     }
 
-    /// This block was read. It has this meaning, or none that is worth to be known.
+    /// This block was read. It has this meaning, or none that is worth keeping.
     pub fn learn(&mut self, block: &[u8], meaning: Option<T>) -> Result<(), AllocError>
         ensures changed { OnOk result
             (keeps_tables block.now ≡ false → self.new.meaning ≡ None) }

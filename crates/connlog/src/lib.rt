@@ -1,14 +1,17 @@
-//! What happens on a connection, and why: the lines of `interop serve --log`.
+//! The lines of `serve --log`, which say what happens on a connection and why.
 //!
-//! An `Observer` is shown the bytes that a server reads of a connection and those that it writes, in any pieces. It changes nothing of
-//! them, and decides nothing: it follows the client's frames by the server's rules, notes each that breaks one with its figures, and
-//! names it once the server acts on it. So where it errs a line names no cause or another, and the server goes on as it would.
+//! An `Observer` is shown the bytes that a server reads of a connection and those that it writes,
+//! in any pieces. It changes nothing of them, and decides nothing: it follows the client's frames
+//! by the server's rules, notes each frame that breaks one, with its figures, and names it once the
+//! server acts on it. So if it errs, a line names a wrong cause or none, and the server goes on as
+//! before.
 //!
-//! Read `walk`, the frames of one direction, and `messages`, those of a call's DATA; `cause`, each rule with its figures and its text;
-//! `fields` and `place`, which field and which byte of a header block it is; `malformed`, what
-//! is wrong with a message; `text`, bytes that are told; `call`, what is known of one; `tables` and `known`, blocks
-//! that were read before; `json`, objects; `line`, what a line says; then `seen` with `client` and `server`, what the frames of both sides come to, and
-//! `observer`.
+//! Read `walk`, the frames of one direction, and `messages`, those of a call's DATA; `cause`, each
+//! rule with its figures and its text; `fields` and `place`, which field and which byte of a header
+//! block a cause is about; `malformed`, what is wrong with a message; `text`, bytes as a line shows
+//! them; `call`, what is known of a call; `tables` and `known`, blocks that were read before;
+//! `json`, objects; `line`, what a line says; then `seen` with `client` and `server`, what the
+//! frames of both sides mean, and `observer`.
 #![tactic(auto)]
 
 mod call;

@@ -35,19 +35,21 @@ pub enum Event {
     Reset(u32),
     /// The server ended the connection, with this error and this last stream.
     GoAway(u32, StreamId),
-    /// The client begins no more calls: the error, the last stream and the debug data of its GOAWAY.
+    /// The client begins no more calls: the error, the last stream and the debug data of its
+    /// GOAWAY.
     ClientGoAway {
         code: u32,
         last: StreamId,
         debug: String,
     },
-    /// Nothing came on the call, and nothing was sent on it, for so many seconds.
+    /// Nothing came on the call, and nothing was sent on it, for this many seconds.
     Waits(MethodName, u64, Waiting),
     /// The deadline of the call has passed while its replies wait for a window.
     Overdue(MethodName, Waiting),
     /// The connection ended before the call.
     Left(MethodName, Traffic),
-    /// The connection has ended so, with so many calls. It was followed to its end, or memory ran out before.
+    /// The connection has ended in this way, with this many calls. It was followed to its end, or
+    /// memory ran out before.
     Ended {
         how: Ended,
         calls: u64,
@@ -86,7 +88,7 @@ pub struct Traffic {
 /// What a call waits for.
 #[derive(Clone, Copy, Debug, PartialEq, Eq)]
 pub enum Waiting {
-    /// The client's end of the stream; so many messages came.
+    /// The client's end of the stream, and how many messages came.
     End(u64),
     /// Credit on the stream, whose window is this.
     Stream(i64),
@@ -160,7 +162,7 @@ impl fmt::Display for Waiting {
 }
 
 impl Line {
-    /// Writes it as a line of text, behind its time where that is told.
+    /// Writes it as a line of text, after its time if that is given.
     pub fn write_text(
         &self,
         text: &mut String,

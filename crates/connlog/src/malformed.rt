@@ -1,4 +1,4 @@
-//! Why the bytes of a request are no message of its type (Protocol Buffers, the encoding guide).
+//! Why the bytes of a request aren't a message of its type (Protocol Buffers, the encoding guide).
 
 use crate::call::MethodName;
 use pbwire::{FieldValue, Fields, WireFault};
@@ -12,7 +12,7 @@ pub struct Malformed {
     pub message: u64,
     /// The field of an embedded message in which it is; 0 is the message itself.
     pub inside: u32,
-    /// So many whole fields stand before it there.
+    /// How many whole fields come before it there.
     pub before: u32,
     pub fault: MessageFault,
 }
@@ -41,7 +41,7 @@ enum Kind {
 }
 
 impl Kind {
-    /// What the field of this number is, where it has bytes.
+    /// What the field of this number is, if it has bytes.
     fn of_field(self, number: u32) -> Kind {
         match (self, number) {
             (Kind::SimpleRequest, 3 | 6 | 8) => Kind::Plain,
@@ -69,7 +69,7 @@ impl Kind {
     }
 }
 
-/// Bytes that are to be looked at: what they are, and the field that they stand in.
+/// Bytes that are to be looked at: what they are, and the field in which they are.
 #[derive(Clone, Copy)]
 struct Task<'a> {
     kind: Kind,
@@ -107,7 +107,8 @@ pub fn fault_of_request(
     Ok(None)
 }
 
-/// Looks at the fields of a message: what is wrong with them, behind how many. What they have in them is left to be looked at.
+/// Looks at the fields of a message: what is wrong with them, after how many. What is in them is
+/// left to be looked at.
 fn look<'a>(
     tasks: &mut Vec<Task<'a>>,
     task: Task<'a>,

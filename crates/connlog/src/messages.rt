@@ -1,10 +1,10 @@
-//! The length-prefixed messages in the DATA of one side of a call (gRPC over HTTP/2, "Length-Prefixed-Message"): how many came, and
-//! which rule the first bad prefix breaks.
+//! The length-prefixed messages in the DATA of one side of a call (gRPC over HTTP/2,
+//! "Length-Prefixed-Message"): how many came, and which rule the first bad prefix breaks.
 
 /// The bytes of a prefix.
 const PREFIX: usize = 5;
 
-/// The longest message that is taken.
+/// The most bytes of a message that the server takes.
 const MOST: u32 = 4_194_304;
 
 /// What is wrong with a prefix.
@@ -14,16 +14,16 @@ pub enum PrefixFault {
     Compressed,
     /// The flag is this byte.
     Flag(u8),
-    /// The prefix says so many bytes.
+    /// The prefix says this many bytes.
     TooLong(u32),
 }
 
 /// How a stream ended inside a message.
 #[derive(Clone, Copy, Debug, PartialEq, Eq)]
 pub enum Cut {
-    /// Behind so many bytes of the prefix.
+    /// After this many bytes of the prefix.
     InPrefix(usize),
-    /// The prefix said one length, and so many bytes came.
+    /// The prefix said one length, and another number of bytes came.
     InMessage { said: u32, came: u32 },
 }
 
@@ -55,7 +55,7 @@ impl Messages {
         left: 0,
     };
 
-    /// Bytes come. Behind a fault none is looked at.
+    /// Bytes come. After a fault none is looked at.
     pub fn feed(&mut self, bytes: &[u8]) {
         let mut rest = bytes;
         for _ in 0..bytes.len() {
@@ -67,8 +67,8 @@ impl Messages {
         }
     }
 
-    /// Takes a byte of a prefix off the front of bytes that come, or what they have of a message, and answers the latter, and what is
-    /// behind. Behind a fault that is nothing.
+    /// Takes a byte of a prefix off the front of bytes that come, or what they have of a message,
+    /// and answers the latter, and what follows. After a fault that is nothing.
     pub fn step<'a>(&mut self, bytes: &'a [u8]) -> (&'a [u8], &'a [u8]) {
         let none = b"".as_slice();
         let Some((first, behind)) = bytes.split_first() else {
@@ -91,7 +91,7 @@ impl Messages {
         self.bytes.saturating_sub(self.count.saturating_mul(5))
     }
 
-    /// So many bytes of a message come.
+    /// `count` bytes of a message come.
     fn take(&mut self, count: u32) {
         self.left = self.left.saturating_sub(count);
         if self.left == 0 {

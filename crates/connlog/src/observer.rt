@@ -1,4 +1,5 @@
-//! A connection that is looked at from its sides: the bytes that its client sends, and those that its server does.
+//! A connection that is looked at from its sides: the bytes that its client sends, and those that
+//! its server does.
 
 use crate::cause::{Cause, FrameCause};
 use crate::line::{Ended, Event, Line};
@@ -11,7 +12,7 @@ use std::mem;
 /// What a client's bytes begin with (RFC 9113, section 3.4).
 const PREFACE: &[u8] = b"PRI * HTTP/2.0\r\n\r\nSM\r\n\r\n";
 
-/// Follows a connection, and tells what happens on it. Where memory runs out, it follows it no more.
+/// Follows a connection, and reports what happens on it. If memory runs out, it stops following.
 #[derive(Drop)]
 pub struct Observer {
     client: Walk,
@@ -117,7 +118,7 @@ impl Observer {
         Ok(())
     }
 
-    /// What is behind the preface.
+    /// What follows the preface.
     fn behind_preface<'a>(&mut self, bytes: &'a [u8]) -> Result<&'a [u8], AllocError> {
         let due = PREFACE.get(self.preface..).unwrap_or(b"".as_slice());
         if due.is_empty() {

@@ -1,11 +1,13 @@
-//! Where a fault stands in a header block (RFC 7541, sections 5 and 6).
+//! The place of a fault in a header block (RFC 7541, sections 5 and 6).
 //!
-//! The decoder says which fault is the first. Here the block is walked over once more, field by field, for where that is.
+//! The decoder says which fault is the first. This module goes over the block once more, field by
+//! field, to find its place.
 
 use hpack_codec::{Decoder, HpackFault};
 use std::alloc::Global;
 
-/// The greatest index of the static table, and the most entries that a dynamic one of 4,096 bytes has.
+/// The greatest index of the static table, and the most entries that a dynamic one of 4,096 bytes
+/// has.
 const STATIC: u64 = 61;
 
 const MOST_ENTRIES: u64 = 128;
@@ -16,7 +18,8 @@ const MOST_SIZE: u64 = 4_096;
 /// The most bytes of an integer, with that of its prefix.
 const MOST_BYTES: usize = 6;
 
-/// Where a fault stands: at this byte of the block, which begins a field or a size update with this number.
+/// The place of a fault: this byte of the block, which begins a field or a size update with this
+/// number.
 #[derive(Clone, Copy, Debug, PartialEq, Eq)]
 pub struct Place {
     pub at: usize,
@@ -24,7 +27,7 @@ pub struct Place {
     pub number: u64,
 }
 
-/// What stands at one place of a block.
+/// What is at one place of a block.
 #[derive(Clone, Copy, Debug, PartialEq, Eq)]
 enum Shape {
     Indexed,
@@ -40,7 +43,7 @@ struct Item {
     length: usize,
 }
 
-/// Where this fault, the first of the block, stands.
+/// The place of this fault, the first of the block.
 pub fn place_of(alloc: Global, block: &[u8], fault: HpackFault) -> Option<Place> {
     let mut rest = block;
     let mut is_behind = false;
@@ -81,7 +84,7 @@ fn is_greater(item: &Item, place: Option<Place>) -> bool {
     item.shape != Shape::SizeUpdate && item.number > greatest
 }
 
-/// Whether the fault stands in the item at the front of these bytes.
+/// Whether the fault is in the item at the front of these bytes.
 fn has_fault(alloc: Global, fault: HpackFault, item: &Item, is_behind: bool, bytes: &[u8]) -> bool {
     match (fault, item.shape) {
         (HpackFault::Index, Shape::Indexed) if item.number == 0 => true,
@@ -97,7 +100,7 @@ fn has_fault(alloc: Global, fault: HpackFault, item: &Item, is_behind: bool, byt
     }
 }
 
-/// What stands at the front, where it is whole and its integers are none too large.
+/// What is at the front, if it is whole and none of its integers is too large.
 fn item_at(bytes: &[u8]) -> Option<Item> {
     let first = *bytes.first()?;
     let (shape, prefix) = match first {
@@ -119,13 +122,13 @@ fn item_at(bytes: &[u8]) -> Option<Item> {
     })
 }
 
-/// What is behind the text at the front.
+/// What follows the text at the front.
 fn behind_text(bytes: &[u8]) -> Option<&[u8]> {
     let (length, rest) = integer(7, bytes)?;
     rest.get(length as usize..)
 }
 
-/// The integer behind the first bits of these bytes, and what is behind it.
+/// The integer after the first bits of these bytes, and what follows it.
 fn integer(prefix: u32, bytes: &[u8]) -> Option<(u64, &[u8])> {
     let (first, mut rest) = bytes.split_first()?;
     let most = match prefix {

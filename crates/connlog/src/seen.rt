@@ -1,4 +1,4 @@
-//! What is known of a connection by the frames of both sides, and the lines that tell of it.
+//! What is known of a connection by the frames of both sides, and the lines about it.
 
 ghost use Rattle.std.specs.Prelude.{◌≡◌, ◌<◌, ◌≤◌, ◌%◌, OnOk};
 ghost use Rattle.std.specs.List.{IsAmong};
@@ -17,7 +17,8 @@ use std::alloc::{AllocError, Global};
 /// How many seconds a call waits before a line says so.
 const PATIENCE: u64 = 5;
 
-/// The last stream of a GOAWAY that says no more than that more will follow (RFC 9113, section 6.8).
+/// The last stream of a GOAWAY that says no more than that more will follow (RFC 9113, section
+/// 6.8).
 const GREATEST_STREAM: StreamId = 2_147_483_647;
 
 /// How many causes wait at most for what the server does about them.
@@ -31,7 +32,7 @@ pub struct Block {
     pub bytes: Vec<u8>,
 }
 
-/// A cause, and what is to follow of it: the error of a stream, or at 0 of the connection.
+/// A cause, and what is to follow from it: the error of a stream, or at 0 of the connection.
 #[derive(Drop)]
 struct Blame {
     stream: StreamId,
@@ -45,7 +46,8 @@ pub struct Seen {
     pub alloc: Global,
     pub requests: Decoder,
     pub responses: Decoder,
-    /// Blocks that were read before: of requests that say no more than their method, and of trailers that have no more than a code.
+    /// Blocks that were read before: of requests that say no more than their method, and of
+    /// trailers that have no more than a code.
     pub plain_requests: Known<MethodName>,
     pub plain_trailers: Known<u32>,
     /// The blocks that the client and the server have begun.
@@ -124,7 +126,8 @@ impl Seen {
         Ok(())
     }
 
-    /// Notes why the connection ends with this error. Nothing that the client sends behind that is looked at.
+    /// Notes why the connection ends with this error. Nothing that the client sends after that is
+    /// looked at.
     pub fn fail(&mut self, error: ErrorCode, cause: Cause) -> Result<(), AllocError>
         ensures noted { OnOk result (IsAmong self.new.blames.items
             (record { stream = 0; error = error; cause = cause })) }
@@ -133,7 +136,8 @@ impl Seen {
         self.blame(0, error, cause)
     }
 
-    /// Why a stream, or at 0 the connection, has ended with this error: the first cause that was noted.
+    /// Why a stream, or at 0 the connection, has ended with this error: the first cause that was
+    /// noted.
     pub fn cause_of(&mut self, stream: StreamId, error: ErrorCode) -> Option<Cause> {
         let at = self
             .blames
@@ -146,7 +150,8 @@ impl Seen {
         None
     }
 
-    /// The server won't end a stream, or at 0 the connection, with this error for what was noted so far.
+    /// The server won't end a stream, or at 0 the connection, with this error for what was noted so
+    /// far.
     pub fn excuse(&mut self, stream: StreamId, error: ErrorCode) {
         if !self.blames.is_empty() {
             self.blames
@@ -269,7 +274,7 @@ impl Seen {
         let _call = self.calls.swap_remove(&stream);
     }
 
-    /// A second has gone by: a line of each call that has waited for so many.
+    /// A second has gone by: a line for each call that has waited long enough.
     pub fn tick(&mut self) -> Result<(), AllocError> {
         self.now = self.now.saturating_add(1);
         for (stream, call) in self.calls.iter_mut() {
@@ -341,7 +346,8 @@ pub fn traffic_of(call: &Call) -> Traffic {
     }
 }
 
-/// What the server resets a stream for where its client broke no rule, and where it stops or not.
+/// Why the server resets a stream whose client broke no rule. `is_draining` says whether the server
+/// stops.
 fn own_cause(error: ErrorCode, is_draining: bool) -> Option<Cause> {
     match error {
         ErrorCode::RefusedStream if is_draining => Some(Cause::Server(ServerCause::Drain)),
@@ -353,8 +359,8 @@ fn own_cause(error: ErrorCode, is_draining: bool) -> Option<Cause> {
     }
 }
 
-/// What a call waits for, where the server may send so many bytes on the connection, and at first on each stream. Before the client's
-/// end a full-duplex call alone may have something to send.
+/// What a call waits for, by the bytes that the server may send on the connection, and at first on
+/// each stream. Before the client's end only a full-duplex call may have something to send.
 fn waiting_of(call: &Call, method: MethodName, sends: i64, initial: i64) -> Waiting {
     let window = initial.saturating_add(call.credit);
     let may_send = method == MethodName::FullDuplexCall && call.requests.count > 0;

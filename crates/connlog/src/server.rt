@@ -104,7 +104,7 @@ impl Seen {
         }
     }
 
-    /// The server gives credit for DATA. Where these were shown before it, they were no fault.
+    /// The server gives credit for DATA. If the DATA were shown before it, they weren't a fault.
     fn server_credit(&mut self, head: &FrameHead, increment: i64) {
         let window = if head.stream == 0 {
             self.came = self.came.saturating_add(increment);

@@ -1,5 +1,5 @@
-//! Which header blocks change no table, so that they needn't be decoded again where their bytes are known (RFC 7541, sections 6.1 and
-//! 6.2.2).
+//! Which header blocks change no table, so that they needn't be decoded again if their bytes are
+//! known (RFC 7541, sections 6.1 and 6.2.2).
 
 ghost use Rattle.std.specs.Prelude.{◌≡◌};
 ghost use Rattle.connlog.specs.Blocks.{behind, behind_first, keeps_tables, value_of};
@@ -11,14 +11,14 @@ pub enum Expected {
     Field,
     /// The length of a field's value.
     Length,
-    /// So many bytes of a value.
+    /// This many bytes of a value.
     Value(u8),
     /// What isn't looked at any more.
     Other,
 }
 
-/// Whether the block has nothing but indexed fields, and literals without indexing that have their names by index, each spelled in the
-/// fewest bytes.
+/// Whether the block has nothing but indexed fields, and literals without indexing that have their
+/// names by index, each spelled in the fewest bytes.
 pub fn keeps_tables(block: &[u8]) -> bool
     ensures { result ≡ keeps_tables block.now }
 {

@@ -6,8 +6,9 @@ use std::str;
 /// The most bytes of a name or a value that are shown.
 const SHOWN: usize = 80;
 
-/// The front of a name, a value or a text that was sent, at most 80 bytes of it, as it stands between quotes: `\"`, `\\`, `\n`,
-/// `\r`, `\t`, and `\xNN` for each byte of a control character and each that is no UTF-8.
+/// The front of a name, a value or a text that was sent, at most 80 bytes of it, as it is between
+/// quotes: `\"`, `\\`, `\n`, `\r`, `\t`, and `\xNN` for each byte of a control character and each
+/// that is no UTF-8.
 pub fn escaped(alloc: Global, bytes: &[u8]) -> Result<String, AllocError> {
     let mut text = String::new(alloc);
     let mut rest = bytes.get(..SHOWN).unwrap_or(bytes);
@@ -29,7 +30,7 @@ pub fn escaped(alloc: Global, bytes: &[u8]) -> Result<String, AllocError> {
     Ok(text)
 }
 
-/// The character at the front, where the bytes begin with one in UTF-8.
+/// The character at the front, if the bytes begin with one in UTF-8.
 fn letter_of(bytes: &[u8]) -> Option<char> {
     for length in 1..5 {
         let front = bytes.get(..length)?;

@@ -1,7 +1,8 @@
-//! The frames of one direction of a connection, in whatever pieces their bytes come (RFC 9113, sections 4.1 and 6).
+//! The frames of one direction of a connection, in whatever pieces their bytes come (RFC 9113,
+//! sections 4.1 and 6).
 //!
-//! DATA are handed on as they come, without a copy; of any other frame the payload, once it is whole. A frame that lies
-//! whole in a piece isn't copied either.
+//! DATA are handed on as they come, without a copy. Of any other frame the payload is, once it is
+//! whole. A frame that is whole in one piece isn't copied either.
 
 ghost use Rattle.std.specs.Prelude.{◌≡◌, ◌≤◌, length, IfOk, IfSome};
 
@@ -20,7 +21,7 @@ pub enum Part<'a> {
     Data(FrameHead),
     /// Bytes of the content of DATA, and whether they are the frame's last.
     Content(FrameHead, &'a [u8], bool),
-    /// A frame that can't be read. Where its padding is too long, it is so many bytes.
+    /// A frame that can't be read. If its padding is too long, the number is the padding's bytes.
     Fault(FrameHead, FrameFault, u8),
 }
 
@@ -54,7 +55,8 @@ impl Walk {
         }
     }
 
-    /// Takes bytes off the front of a piece, and answers how many, and the part that ends with them.
+    /// Takes bytes off the front of a piece, and answers how many, and the part that ends with
+    /// them.
     pub fn step<'a>(&'a mut self, piece: &'a [u8]) -> Result<(usize, Option<Part<'a>>), AllocError>
         ensures fits { IfOk result (λ taken. taken.0 ≤ length piece.now) }
     {
@@ -81,7 +83,7 @@ impl Walk {
         self.keep(piece)
     }
 
-    /// What a head tells by itself: a fault, or that DATA begin.
+    /// What a head says by itself: a fault, or that DATA begin.
     fn begin(&mut self, head: FrameHead) -> Part<'static> {
         if let Some(fault) = head.fault() {
             return Part::Fault(head, fault, 0);
@@ -96,7 +98,8 @@ impl Walk {
         Part::Data(head)
     }
 
-    /// Keeps bytes of a frame that isn't whole, and answers how many, and the frame where it is whole by them.
+    /// Keeps bytes of a frame that isn't whole, and answers how many, and the frame if they make it
+    /// whole.
     fn keep<'a>(&'a mut self, piece: &[u8]) -> Result<(usize, Option<Part<'a>>), AllocError>
         ensures fits { IfOk result (λ taken. taken.0 ≤ length piece.now) }
     {
@@ -162,7 +165,7 @@ fn is_told_by_head(head: &FrameHead) -> bool {
     head.kind == FrameKind::Data || head.fault().is_some()
 }
 
-/// What a frame's first nine bytes say of it, where they are there.
+/// What a frame's first nine bytes say of it, if they are there.
 fn head_of(bytes: &[u8]) -> Option<FrameHead>
     ensures there { IfSome result (λ _. 9 ≤ length bytes.now) }
 {
@@ -177,7 +180,8 @@ fn head_of(bytes: &[u8]) -> Option<FrameHead>
     })
 }
 
-/// The content of HEADERS, without padding and priority; how much padding there is where it is too much.
+/// The content of HEADERS, without padding and priority; or how much padding there is, if that is
+/// too much.
 pub fn fragment_of<'a>(head: &FrameHead, payload: &'a [u8]) -> Result<&'a [u8], u8> {
     let mut rest = payload;
     let mut padding = 0;

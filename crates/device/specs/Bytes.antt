@@ -1,4 +1,4 @@
--- What reads and writes in a row do to the bytes that a device tells.
+-- What reads and writes, one after another, do to the bytes of a device.
 use Rattle.std.specs.Prelude.{◌≡◌, ℕ, List, ◌++◌, Option}
 use Rattle.std.specs.Io.KnownBytes.{Appends, Consumes}
 

@@ -1,5 +1,17 @@
-//! What bytes come in from and go out to.
-ghost use Rattle.std.specs.Prelude.{◌≡◌, ◌<◌, ℕ, Bool, true, List, Option, length, IfOk, OnOk, OnErr};
+//! The traits of the devices from which bytes come and to which they go.
+ghost use Rattle.std.specs.Prelude.{
+  ◌≡◌,
+  ◌<◌,
+  ℕ,
+  Bool,
+  true,
+  List,
+  Option,
+  length,
+  IfOk,
+  OnOk,
+  OnErr,
+};
 ghost use Rattle.std.specs.Io.{ReadsAtMost, WritesAtMost};
 ghost use Rattle.std.specs.Io.KnownBytes.{ReadConsumes, WriteAppends};
 

@@ -1,11 +1,15 @@
-//! Devices: what the bytes of a connection, or of a program's input and output, come in from and go out to.
+//! The readers and writers of a connection, each with a mark of failure.
 //!
-//! A device tells no more of a fault than that there was one, and remembers it by a mark that nothing clears. So whoever
-//! answers "the input failed" can be held to it: the mark of that reader is set.
+//! A device says of a fault only that there was one, and remembers it by a mark that nothing
+//! clears. So a contract can demand of an answer "the input failed" that the mark of that reader is
+//! set.
 //!
-//! - `conn`: the traits `ConnRead` and `ConnWrite`. Their contracts tell the bytes, where these are known, and the mark.
-//! - `whole`: `read_all` reads to the end of the input, and `write_all` writes all bytes; after a fault a prefix of them.
-//! - `marked`: `Marked` makes a device of any reader or writer of std. What a signal interrupts is tried again.
+//! - `conn`: the traits `ConnRead` and `ConnWrite`. Their contracts speak of the bytes, where these
+//!   are known, and of the mark.
+//! - `whole`: `read_all` reads to the end of the input, and `write_all` writes all bytes; after a
+//!   fault a prefix of them.
+//! - `marked`: `Marked` makes a device of any reader or writer of std. What a signal interrupts is
+//!   tried again.
 #![tactic(auto)]
 
 mod conn;

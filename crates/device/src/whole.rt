@@ -53,7 +53,7 @@ pub fn read_all<R: ConnRead>(alloc: Global, input: &mut R) -> Result<Vec<u8>, Re
     }
 }
 
-/// Writes all of the bytes. After a fault a prefix of them was written.
+/// Writes all of the bytes. At a fault it has written a prefix of them, which may be empty.
 pub fn write_all<W: ConnWrite>(output: &mut W, bytes: &[u8]) -> Result<(), DeviceFault>
     ensures ok { OnOk result (Appends (W.contents output.old) (W.contents output.new) bytes.now) }
     ensures prefix { OnErr result

@@ -13,6 +13,8 @@ pub enum Pace {
     Still,
     /// A second in each nanosecond.
     Leaping,
+    /// It can't be read.
+    Silent,
 }
 
 /// A runtime whose monotonic clock goes at a pace.
@@ -29,13 +31,14 @@ impl<R: Threads> Threads for Timed<R> {}
 impl<R: Clock> Clock for Timed<R> {
     fn monotonic(&self) -> io::Result<Duration> {
         let time = self.rt.monotonic()?;
-        Ok(match self.pace {
-            Pace::Steady => time,
-            Pace::Still => Duration::ZERO,
-            Pace::Leaping => {
-                Duration::from_secs(u64::try_from(time.as_nanos()).unwrap_or(u64::MAX))
-            }
-        })
+        match self.pace {
+            Pace::Steady => Ok(time),
+            Pace::Still => Ok(Duration::ZERO),
+            Pace::Leaping => Ok(Duration::from_secs(u64::try_from(time.as_nanos()).unwrap_or(
+                u64::MAX,
+            ))),
+            Pace::Silent => Err(io::ErrorKind::Other.into()),
+        }
     }
 
     fn since_1970(&self) -> io::Result<Duration> {

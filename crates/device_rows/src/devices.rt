@@ -9,7 +9,7 @@ use std::sync::ledger::Ledger;
 /// What the calls of a device do.
 #[derive(Clone, Copy)]
 pub struct Limits {
-    /// How many calls go well. Each behind them fails.
+    /// How many calls go well. Each after them fails.
     pub good: u64,
     /// How many bytes a call moves at most. It moves one where this is 0.
     pub most: usize,
@@ -61,13 +61,14 @@ impl ConnRead for Source {
     }
 }
 
-/// A source behind some reads of which its connection is drained, before what they brought is told.
+/// A source. After some of its reads its connection is drained, before what they brought is
+/// answered.
 #[derive(Drop)]
 pub struct DrainedSource<A: Ledger, B: Ledger, C: Ledger, R: Drop> {
     pub rt: R,
     pub source: Source,
     pub drainer: Drainer<A, B, C>,
-    /// Behind how many more reads, if it is.
+    /// After how many more reads, if it is.
     pub left: Option<u64>,
 }
 

@@ -16,8 +16,8 @@ use std::thread;
 use std::thread::Threads;
 use std::time::Clock;
 
-/// Whether each call of a line's connection is answered with status 0, at whichever turn of the gate it is drained, and how many turns
-/// there were.
+/// Whether each call of a line's connection is answered with status 0, at whichever turn of the
+/// gate it is drained, and how many turns there were.
 pub fn drain_at_each_turn<R>(
     rt: R,
     alloc: Global,
@@ -41,7 +41,8 @@ where
     Ok((true, MOST))
 }
 
-/// Whether the connection ended with its input or by the drain, and each call that was admitted is answered.
+/// Whether the connection ended with its input or by the drain, and each call that was admitted is
+/// answered.
 fn are_answered(served: &Served<Sink>) -> bool {
     if !matches!(served.report.ending, Ending::InputEnded | Ending::Drained) {
         return false;
@@ -57,7 +58,8 @@ fn are_answered(served: &Served<Sink>) -> bool {
     true
 }
 
-/// Serves a plan's connection, which another thread drains at the gate's turn, or else behind it.
+/// Serves a plan's connection, which another thread drains at the gate's turn, or else after the
+/// connection.
 fn drain_at<R>(
     rt: R,
     alloc: Global,
@@ -72,7 +74,7 @@ where
     drain_over::<Brand, Brand, Brand, R>(rt, alloc, blanks, methods, plan, gate)
 }
 
-/// The same, over these ledgers.
+/// Serves it over these ledgers.
 fn drain_over<A, B, C, R>(
     rt: R,
     alloc: Global,

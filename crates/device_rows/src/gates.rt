@@ -1,4 +1,5 @@
-//! Gates that hold the first call of a connection back until its second was answered, or that have the connection drained.
+//! Gates that hold the first call of a connection back until its second was answered, or that have
+//! the connection drained.
 
 use connection::Gate;
 use h2frame::StreamId;

@@ -1,19 +1,23 @@
-//! The server's connections over devices that fail, or that move little at a time, and over clocks that stand still or leap.
+//! The server's connections over devices that fail, or that move little at a time, and over clocks
+//! that stand still, leap or can't be read.
 //!
-//! A line of standard input is a run: what the client sends, in hexadecimal digits, behind them words (`plan` reads both). A run serves
-//! it by `serve_connection`, and prints what became of it, line by line:
+//! A line of standard input is a run: what the client sends, in hexadecimal digits, and then words
+//! (`plan` reads both). A run serves it by `serve_connection`, and prints what became of it, line
+//! by line:
 //!
 //! - `written` and what was written, in hexadecimal digits;
-//! - `wrote N`, `read N`, in bytes; behind the number ` failed` where a write or a read failed;
+//! - `wrote N`, `read N`, in bytes; after the number ` failed` where a write or a read failed;
 //! - `ending N`, in the numbers of `Ending::code`;
-//! - `calls N`, and of each its stream, its method by its place in `main`, messages and bytes taken, what was told behind them (`end`, `reset`,
-//!   `fault`, `nothing`), messages and bytes of replies, items given and sent, whether trailers were `sent`, `given` alone or `none`, and its
+//! - `calls N`, and of each its stream, its method by its place in `main`, messages and bytes
+//!   taken, what was told after them (`end`, `reset`, `fault`, `nothing`), messages and bytes of
+//!   replies, items given and sent, whether trailers were `sent`, `given` alone or `none`, and its
 //!   status, or `left`;
 //! - `over`.
 //!
-//! Behind another gate than the open one, where what is written first depends on the schedule, a run prints its calls alone, and before
-//! them `held true` where the gate had no need to give up. One that drains prints `answered` and `turns`, each with `true` where it is
-//! so: each call was answered with status 0 at whichever turn its connection was drained, and there were three turns at least.
+//! With a gate other than the open one, where the schedule decides what is written first, a run
+//! prints only its calls, and before them `held true` if the gate had no need to give up. One that
+//! drains prints `answered` and `turns`, each with `true` where it is so: each call was answered
+//! with status 0 at whichever turn its connection was drained, and there were three turns at least.
 #![tactic(auto)]
 
 ghost use Rattle.std.specs.Prelude.{◌≡◌, ◌<◌};
@@ -44,7 +48,8 @@ use std::sync::{Arc, Wait};
 use std::thread::Threads;
 use std::time::Clock;
 
-/// How many calls a connection has that is drained at each turn: a gate has a turn of each at least.
+/// How many calls a connection has that is drained at each turn: a gate has a turn of each at
+/// least.
 const CALLS: u32 = 3;
 
 /// Runs a line, and prints what became of it.
@@ -78,7 +83,8 @@ where
     }
 }
 
-/// Serves the connection of a plan behind a gate. Answers what was read from, and what became of it.
+/// Serves the connection of a plan through its gate. Answers what was read from, and what became of
+/// it.
 fn serve<R, G>(
     rt: R,
     alloc: Global,
@@ -94,7 +100,7 @@ where
     serve_over::<Brand, Brand, Brand, R, G>(rt, alloc, blanks, methods, plan, gate)
 }
 
-/// The same, over these ledgers.
+/// Serves the connection of a run over these ledgers.
 fn serve_over<A, B, C, R, G>(
     rt: R,
     alloc: Global,

@@ -21,7 +21,8 @@ pub enum Hold {
     Draining,
 }
 
-/// A run: what is read and written, how the clock goes, behind how many reads the connection is drained, if it is, and its gate.
+/// A run: what is read and written, how the clock goes, after how many reads the connection is
+/// drained, if it is, and its gate.
 #[derive(Drop)]
 pub struct Plan {
     pub source: Source,
@@ -32,12 +33,12 @@ pub struct Plan {
 }
 
 impl Plan {
-    /// Reads a line: hexadecimal digits, and behind them words, of which each may be missing:
+    /// Reads a line: hexadecimal digits, and then words, each of which may be missing:
     ///
-    /// - `read-good=K`, `write-good=K`: so many reads or writes go well, and each behind them fails;
-    /// - `read-most=N`, `write-most=N`: one moves at most so many bytes;
+    /// - `read-good=K`, `write-good=K`: K reads or writes go well, and each after them fails;
+    /// - `read-most=N`, `write-most=N`: one moves at most N bytes;
     /// - `cut=N`: no read goes across the N-th byte;
-    /// - `clock=still`, `clock=leaping`;
+    /// - `clock=still`, `clock=leaping`, `clock=silent`;
     /// - `drain=N`: the connection is drained behind so many reads, at 0 before it begins;
     /// - `gate=refusing`, `gate=keeping`, `gate=draining`.
     pub fn read(alloc: Global, line: &str) -> Result<Plan> {
@@ -90,6 +91,7 @@ fn pace_of(value: &str) -> Result<Pace> {
     match value {
         "still" => Ok(Pace::Still),
         "leaping" => Ok(Pace::Leaping),
+        "silent" => Ok(Pace::Silent),
         _ => bail!("an unknown clock"),
     }
 }

@@ -7,7 +7,8 @@ use anyhow::Result;
 use connection::{Accounts, CallAccount, Served, Traffic};
 use std::alloc::Global;
 
-/// Prints what became of a connection that was read from here. Where there is no memory for that it prints nothing.
+/// Prints what became of a connection that was read from here. Where there is no memory for that it
+/// prints nothing.
 pub fn print_served(
     rt: &impl Print,
     alloc: Global,
@@ -22,7 +23,8 @@ pub fn print_served(
     Ok(())
 }
 
-/// Prints whether a gate needn't have given up, which was asked so many times in vain, and what became of the calls behind it.
+/// Prints whether a gate needn't have given up, how often it was asked in vain, and what became of
+/// the calls after it.
 pub fn print_held(rt: &impl Print, times: u32, served: &Served<Sink>) -> Result<()> {
     println!(rt; "held {}", times < MOST)?;
     print_calls(rt, &served.report.calls)?;
@@ -51,8 +53,8 @@ fn failure(has_failed: bool) -> &'static str {
     if has_failed { " failed" } else { "" }
 }
 
-/// How many items the call was answered with, and how many of them were sent. Where no trailers were given, the last item is the word that
-/// the call was left, which isn't told.
+/// How many items the call was given, and how many of them were sent. Without trailers the last
+/// item is that the call was left, which doesn't count.
 fn items_of(call: &CallAccount) -> (u64, u64) {
     let (given, sent) = (call.output.given, call.output.sent);
     if call.output.trailers_given {

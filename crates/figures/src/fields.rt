@@ -1,10 +1,17 @@
-//! Which rule a field breaks that requests and responses share (RFC 9113, sections 8.1 to 8.3), and the text of each.
+//! Which rule a field breaks that requests and responses share (RFC 9113, sections 8.1 to 8.3), and
+//! the text of each.
 //!
-//! Whether a field breaks one decides the crate `callhead`; here is which it is.
+//! The crate `callhead` decides whether a field breaks one; this module says which.
 
 ghost use Rattle.std.specs.Prelude.{◌≡◌, ◌||◌, is_some, true, IfSome};
 ghost use Rattle.std.specs.List.{find};
-ghost use Rattle.callhead.specs.MalformedHeads.{has_bad_name, has_bad_value, is_connection_specific, is_forbidden_in_names, is_forbidden_in_values};
+ghost use Rattle.callhead.specs.MalformedHeads.{
+  has_bad_name,
+  has_bad_value,
+  is_connection_specific,
+  is_forbidden_in_names,
+  is_forbidden_in_values,
+};
 ghost use Rattle.figures.specs.FieldRules.{breaks};
 
 use callhead::{
@@ -14,7 +21,7 @@ use callhead::{
 use lists::Field;
 use std::fmt;
 
-/// A rule on a field, wherever it stands.
+/// A rule on a field.
 #[derive(Clone, Copy, Debug, PartialEq, Eq)]
 pub enum FieldRule {
     /// It has no name.
@@ -27,9 +34,9 @@ pub enum FieldRule {
     ValueByte(u8),
     /// The value begins or ends with a blank.
     ValueBlank,
-    /// The field speaks of one connection.
+    /// The field is connection-specific.
     OneConnection,
-    /// A pseudo-header behind another field.
+    /// A pseudo-header comes after another field.
     Late,
     /// A pseudo-header in trailers.
     InTrailers,
@@ -98,7 +105,7 @@ fn forbidden_in_value(value: &[u8]) -> Option<u8>
         .find(|byte| is_forbidden_in_values(*byte))
 }
 
-/// That a field with this name breaks a rule.
+/// The text that a field with this name breaks a rule.
 #[derive(Clone, Copy)]
 pub struct BrokenRule<'a>(pub FieldRule, pub &'a str);
 
@@ -129,7 +136,7 @@ impl<'a> fmt::Display for BrokenRule<'a> {
             ),
             FieldRule::Late => write!(
                 f,
-                "the pseudo-header {name:?} came behind another field (RFC 9113, 8.3)"
+                "the pseudo-header {name:?} came after another field (RFC 9113, 8.3)"
             ),
             FieldRule::InTrailers => write!(
                 f,

@@ -1,7 +1,21 @@
 -- A worked book, computed.
 use Rattle.std.proofs.Common.{◌≡◌, refl, None, lit<}
 use Rattle.flow.specs.declared.book.fault.BookFault.TheVariants.{CallWindow, ConnectionWindow}
-use Rattle.flow.specs.Books.{Books, new_book, after_admit, after_receive, after_give_back, after_announce, announcement, ReceiveCause, after_end_local, after_end_remote, after_cut, loose, call_at}
+use Rattle.flow.specs.Books.{
+  Books,
+  new_book,
+  after_admit,
+  after_receive,
+  after_give_back,
+  after_announce,
+  announcement,
+  ReceiveCause,
+  after_end_local,
+  after_end_remote,
+  after_cut,
+  loose,
+  call_at,
+}
 
 -- ten bytes came on call 1, whose local end is then marked, and seven more come
 abbrev pub ended_early : Books
@@ -25,7 +39,7 @@ none_on_a_call_that_ended = refl
 pub nothing_loose : loose ended_early ≡ 0
 nothing_loose = refl
 
--- the peer's end makes both
+-- with the peer's end both are marked
 pub no_longer_live : call_at (after_end_remote ended_early 1) 1 ≡ None
 no_longer_live = refl
 
@@ -45,7 +59,7 @@ still_three_loose = refl
 pub none_loose_any_more : loose (after_give_back of_no_call 0 3) ≡ 0
 none_loose_any_more = refl
 
--- a whole window came on call 1: one more is over it, until it is returned and announced
+-- a whole window came on call 1: one more byte is over it, until bytes are returned and announced
 abbrev pub full : Books
 full = after_receive (after_admit new_book 1) 1 65535
 
@@ -58,7 +72,7 @@ over_the_call = (lit< tt, lit< tt)
 pub a_window_is_due : announcement (after_give_back full 1 65535) 1 ≡ 65535
 a_window_is_due = refl
 
--- the connection's window is full still
+-- the connection's window is still full
 pub over_the_connection : ReceiveCause announced_on_the_call 1 1 ConnectionWindow
 over_the_connection = lit< tt
 

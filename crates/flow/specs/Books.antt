@@ -1,6 +1,38 @@
--- The credit book of a connection: flow control of what is received (RFC 9113, sections 5.2 and 6.9), on the connection
--- and on each call that is live.
-use Rattle.std.specs.Prelude.{◌≡◌, ℕ, ◌+◌, ◌-◌, ◌%◌, ◌<◌, ◌≤◌, min, Bool, true, false, ◌&&◌, ◌||◌, IsTrue, if◌then◌else◌, List, [], ◌∷◌, ◌++◌, length, All, AllPairs, sum_by, Option, None, MatchOption, Result, Ok, Err, nat_eq, ◌⊎◌}
+-- The credit book of a connection: flow control of what is received (RFC 9113, sections 5.2 and
+-- 6.9), on the connection and on each call that is live.
+use Rattle.std.specs.Prelude.{
+  ◌≡◌,
+  ℕ,
+  ◌+◌,
+  ◌-◌,
+  ◌%◌,
+  ◌<◌,
+  ◌≤◌,
+  min,
+  Bool,
+  true,
+  false,
+  ◌&&◌,
+  ◌||◌,
+  IsTrue,
+  if◌then◌else◌,
+  List,
+  [],
+  ◌∷◌,
+  ◌++◌,
+  length,
+  All,
+  AllPairs,
+  sum_by,
+  Option,
+  None,
+  MatchOption,
+  Result,
+  Ok,
+  Err,
+  nat_eq,
+  ◌⊎◌,
+}
 use Rattle.std.specs.Option.{option_map_or}
 use Rattle.std.specs.Map.{lookup, set_value, remove_entry, keys_of, values_of}
 use Rattle.flow.specs.declared.TheConstants.{INITIAL_WINDOW, MAX_LIVE, MAX_RECEIVED}
@@ -8,7 +40,15 @@ use Rattle.flow.specs.declared.book.counts.Counts.{Counts}
 use Rattle.flow.specs.declared.book.Call.{Call}
 use Rattle.flow.specs.declared.book.Marks.{Marks}
 use Rattle.flow.specs.declared.book.fault.BookFault.{BookFault}
-use Rattle.flow.specs.declared.book.fault.BookFault.TheVariants.{TooMany, Draining, CallWindow, ConnectionWindow, Overgiven, Unknown, OutOfMemory}
+use Rattle.flow.specs.declared.book.fault.BookFault.TheVariants.{
+  TooMany,
+  Draining,
+  CallWindow,
+  ConnectionWindow,
+  Overgiven,
+  Unknown,
+  OutOfMemory,
+}
 
 -- the numbers of the faults
 abbrev pub code_of : BookFault → ℕ
@@ -20,10 +60,10 @@ code_of Overgiven = 5
 code_of Unknown = 6
 code_of OutOfMemory = 7
 
--- The counts of the connection, the live calls in the order of their admission, the greatest id that was admitted (0 for
--- none), and whether no more are admitted. Of the counts, `received` are the bytes of DATA that came, padding counted
--- (section 6.9.1), `returned` those that were taken since or never will be, and `announced` those that WINDOW_UPDATE told
--- the peer.
+-- The counts of the connection, the live calls in the order of their admission, the greatest id
+-- that was admitted (0 for none), and whether no more are admitted. Of the counts, `received` are
+-- the bytes of DATA that came, padding counted (section 6.9.1), `returned` those that were taken or
+-- never will be, and `announced` those that WINDOW_UPDATE gave back to the peer.
 pub record Books : Type 0 where
   pub connection : Counts
   pub calls : List (ℕ × Call)
@@ -63,7 +103,8 @@ loose b = unreturned b.connection - unreturned_of b.calls
 
 -- n more bytes came, and are returned at once or not
 abbrev pub with_received : Counts → ℕ → Bool → Counts
-with_received c n at_once = record c { received = c.received + n; returned = if at_once then c.returned + n else c.returned }
+with_received c n at_once = record c
+    { received = c.received + n; returned = if at_once then c.returned + n else c.returned }
 
 -- n more bytes were returned
 abbrev pub with_returned : Counts → ℕ → Counts
@@ -73,11 +114,11 @@ with_returned c n = record c { returned = c.returned + n }
 abbrev pub with_announced : Counts → Counts
 with_announced c = record c { announced = c.returned }
 
--- a live call is another
+-- a live call is replaced
 abbrev pub with_call : Books → ℕ → Call → Books
 with_call b id call = record b { calls = set_value (nat_eq id) b.calls call }
 
--- what happens on the connection alone where the id is 0, and else to a call, if it is live
+-- a change: on the connection alone where the id is 0, else of a call, if it is live
 abbrev pub at_id : Books → ℕ → Books → (Call → Books) → Books
 at_id b id alone change = if nat_eq id 0 then alone else option_map_or change (call_at b id) b
 
@@ -85,10 +126,11 @@ at_id b id alone change = if nat_eq id 0 then alone else option_map_or change (c
 abbrev pub after_admit : Books → ℕ → Books
 after_admit b id = record b { calls = b.calls ++ (id, new_call) ∷ []; last = id }
 
--- ---- what ledgers beside the book stand on
+-- ---- what ledgers beside the book rest on
 
--- what a call of the book moves: the bytes that came on the connection and those announced on it, the calls that are admitted
--- and those no longer live; and the greatest id and whether no more are admitted, as they are then
+-- what a function of the book changes: the bytes that came on the connection and those announced on
+-- it, the calls that were admitted and those no longer live; and then the greatest id, and whether
+-- no more are admitted
 pub record Change : Type 0 where
   pub received : ℕ
   pub announced : ℕ
@@ -98,9 +140,16 @@ pub record Change : Type 0 where
   pub closing : Bool
 
 abbrev pub no_change : Books → Change
-no_change b = record { received = 0; announced = 0; admitted = 0; over = 0; last = b.last; closing = b.closing }
+no_change b = record {
+  received = 0;
+  announced = 0;
+  admitted = 0;
+  over = 0;
+  last = b.last;
+  closing = b.closing;
+}
 
--- from the one book to the other there is this change
+-- this change leads from the old book to the new
 pub record Moves (change : Change) (old new : Books) : Type 0 where
   pub received : new.connection.received ≡ old.connection.received + change.received
   pub announced : new.connection.announced ≡ old.connection.announced + change.announced
@@ -108,25 +157,31 @@ pub record Moves (change : Change) (old new : Books) : Type 0 where
   pub last : new.last ≡ change.last
   pub closing : new.closing ≡ change.closing
 
--- ---- each call of the book
+-- ---- each function of the book
 
--- n bytes of DATA came. Those of a call whose local end is marked are returned at once, since nobody will take them.
+-- n bytes of DATA came. Bytes of a call whose local end is marked are returned at once, since they
+-- won't be taken.
 abbrev pub after_receive_on : Books → ℕ → ℕ → Call → Books
 after_receive_on b id n call =
-    record (with_call b id (record call { counts = with_received call.counts n call.marks.local })) { connection = with_received b.connection n call.marks.local }
+    record (with_call b id (record call { counts = with_received call.counts n call.marks.local }))
+    { connection = with_received b.connection n call.marks.local }
 
 abbrev pub after_receive : Books → ℕ → ℕ → Books
-after_receive b id n = at_id b id (record b { connection = with_received b.connection n false }) (after_receive_on b id n)
+after_receive b id n =
+    at_id b id (record b { connection = with_received b.connection n false })
+    (after_receive_on b id n)
 
 -- n bytes were returned
 abbrev pub after_give_back_on : Books → ℕ → ℕ → Call → Books
 after_give_back_on b id n call =
-    record (with_call b id (record call { counts = with_returned call.counts n })) { connection = with_returned b.connection n }
+    record (with_call b id (record call { counts = with_returned call.counts n }))
+    { connection = with_returned b.connection n }
 
 abbrev pub after_give_back : Books → ℕ → ℕ → Books
-after_give_back b id n = at_id b id (record b { connection = with_returned b.connection n }) (after_give_back_on b id n)
+after_give_back b id n =
+    at_id b id (record b { connection = with_returned b.connection n }) (after_give_back_on b id n)
 
--- the call is live, and such an end of it is marked
+-- the call is live, and this end of it is marked
 abbrev pub is_marked : (Marks → Bool) → Books → ℕ → Bool
 is_marked end b id = option_map_or (λ call. end call.marks) (call_at b id) false
 
@@ -134,22 +189,28 @@ is_marked end b id = option_map_or (λ call. end call.marks) (call_at b id) fals
 abbrev pub is_half_closed : Call → Bool
 is_half_closed call = call.marks.remote || call.marks.local
 
--- all that was returned is announced, of a call while neither end is marked
+-- all that was returned is announced; on a call only while neither end is marked
 abbrev pub after_announce : Books → ℕ → Books
 after_announce b id =
     at_id b id (record b { connection = with_announced b.connection })
-    (λ call. if is_half_closed call then b else with_call b id (record call { counts = with_announced call.counts }))
+    (λ call.
+    if is_half_closed call then b
+    else with_call b id (record call { counts = with_announced call.counts }))
 
 -- how much of that wasn't announced yet: the increment of a WINDOW_UPDATE that is due (section 6.9)
 abbrev pub due_of : Call → ℕ
 due_of call = if is_half_closed call then 0 else unannounced call.counts
 
 abbrev pub announcement : Books → ℕ → ℕ
-announcement b id = if nat_eq id 0 then unannounced b.connection else option_map_or due_of (call_at b id) 0
+announcement b id =
+    if nat_eq id 0 then unannounced b.connection else option_map_or due_of (call_at b id) 0
 
 -- a call is no longer live: the rest of its bytes is returned on the connection
 abbrev pub after_cut_on : Books → ℕ → Call → Books
-after_cut_on b id call = record b { connection = with_returned b.connection (unreturned call.counts); calls = remove_entry (nat_eq id) b.calls }
+after_cut_on b id call = record b {
+  connection = with_returned b.connection (unreturned call.counts);
+  calls = remove_entry (nat_eq id) b.calls;
+}
 
 abbrev pub after_cut : Books → ℕ → Books
 after_cut b id = option_map_or (after_cut_on b id) (call_at b id) b
@@ -163,23 +224,30 @@ after_end_remote_on b id call =
 abbrev pub after_end_remote : Books → ℕ → Books
 after_end_remote b id = option_map_or (after_end_remote_on b id) (call_at b id) b
 
--- our half of a call is over: all that it hasn't returned is returned; with both ends marked it is no longer live
+-- our half of a call is over: all that it hasn't returned is returned; with both ends marked it is
+-- no longer live
 abbrev pub local_closed : Books → ℕ → Call → Books
 local_closed b id call =
-    record (with_call b id (record { counts = with_returned call.counts (unreturned call.counts); marks = record call.marks { local = true } })) { connection = with_returned b.connection (unreturned call.counts) }
+    record (with_call b id (record {
+      counts = with_returned call.counts (unreturned call.counts);
+      marks = record call.marks { local = true };
+    })) { connection = with_returned b.connection (unreturned call.counts) }
 
 abbrev pub after_end_local_on : Books → ℕ → Call → Books
-after_end_local_on b id call = if call.marks.remote then after_cut_on b id call else local_closed b id call
+after_end_local_on b id call =
+    if call.marks.remote then after_cut_on b id call else local_closed b id call
 
 abbrev pub after_end_local : Books → ℕ → Books
 after_end_local b id = option_map_or (after_end_local_on b id) (call_at b id) b
 
--- how many bytes the peer may still send (section 6.9.1): on the connection no more than can be counted, and nothing on a
--- call that isn't live
+-- how many bytes the peer may still send (section 6.9.1): on the connection no more than can be
+-- counted, and none on a call that isn't live
 abbrev pub window_of : Books → ℕ → ℕ
 window_of b id =
-    if nat_eq id 0 then min (INITIAL_WINDOW + b.connection.announced) MAX_RECEIVED - b.connection.received
-    else option_map_or (λ call. (INITIAL_WINDOW + call.counts.announced) - call.counts.received) (call_at b id) 0
+    if nat_eq id 0
+    then min (INITIAL_WINDOW + b.connection.announced) MAX_RECEIVED - b.connection.received
+    else option_map_or (λ call. (INITIAL_WINDOW + call.counts.announced) - call.counts.received)
+    (call_at b id) 0
 
 -- n more bytes are over what the peer may send (section 6.9.1)
 abbrev pub IsOver : Counts → ℕ → Type 0
@@ -202,8 +270,10 @@ AdmitCause b OutOfMemory = ⊥
 -- why bytes aren't received: they are over a window, or more than the connection can count
 abbrev pub ReceiveCause : Books → ℕ → ℕ → BookFault → Type 0
 ReceiveCause b id n Unknown = (0 < id) × (call_at b id ≡ None)
-ReceiveCause b id n CallWindow = (0 < id) × MatchOption (call_at b id) ⊥ (λ call. IsOver call.counts n)
-ReceiveCause b id n ConnectionWindow = min (INITIAL_WINDOW + b.connection.announced) MAX_RECEIVED < b.connection.received + n
+ReceiveCause b id n CallWindow =
+    (0 < id) × MatchOption (call_at b id) ⊥ (λ call. IsOver call.counts n)
+ReceiveCause b id n ConnectionWindow =
+    min (INITIAL_WINDOW + b.connection.announced) MAX_RECEIVED < b.connection.received + n
 ReceiveCause b id n TooMany = ⊥
 ReceiveCause b id n Draining = ⊥
 ReceiveCause b id n Overgiven = ⊥
@@ -213,7 +283,8 @@ ReceiveCause b id n OutOfMemory = ⊥
 abbrev pub GiveBackCause : Books → ℕ → ℕ → BookFault → Type 0
 GiveBackCause b id n Unknown = (0 < id) × (call_at b id ≡ None)
 GiveBackCause b id n Overgiven =
-    ((id ≡ 0) × (loose b < n)) ⊎ ((0 < id) × MatchOption (call_at b id) ⊥ (λ call. IsOvergiven call.counts n))
+    ((id ≡ 0) × (loose b < n))
+    ⊎ ((0 < id) × MatchOption (call_at b id) ⊥ (λ call. IsOvergiven call.counts n))
 GiveBackCause b id n TooMany = ⊥
 GiveBackCause b id n Draining = ⊥
 GiveBackCause b id n CallWindow = ⊥
@@ -230,7 +301,7 @@ EndCause b id ConnectionWindow = ⊥
 EndCause b id Overgiven = ⊥
 EndCause b id OutOfMemory = ⊥
 
--- the order of the tests: what is asked of the id or the book, then the call's counts, then the connection's
+-- the order of the tests: the id or the book, then the call's counts, then the connection's
 abbrev pub place : BookFault → ℕ
 place Draining = 0
 place TooMany = 1
@@ -240,33 +311,34 @@ place Overgiven = 1
 place ConnectionWindow = 2
 place OutOfMemory = 3
 
--- the fault has a cause, and none that is tested before it has
+-- the fault has a cause, and no fault that is tested before it has one
 abbrev pub IsFirst : (BookFault → Type 0) → BookFault → Type 0
-IsFirst Cause fault = Cause fault × ((earlier : BookFault) → place earlier < place fault → ¬ Cause earlier)
+IsFirst Cause fault =
+    Cause fault × ((earlier : BookFault) → place earlier < place fault → ¬ Cause earlier)
 
 abbrev pub NoneStands : (BookFault → Type 0) → Type 0
 NoneStands Cause = (fault : BookFault) → ¬ Cause fault
 
--- an answer is the first fault that has a cause, and is none exactly where none has
+-- an answer is the first fault that has a cause; it is Ok exactly where none has
 abbrev pub Meets : (BookFault → Type 0) → Result (Unit {0}) BookFault → Type 0
 Meets Cause (Ok _) = NoneStands Cause
 Meets Cause (Err fault) = IsFirst Cause fault
 
--- the same of a call that takes memory, which may be wanting where no fault has a cause
+-- the answer of a function that takes memory: without a cause for a fault, memory may be wanting
 abbrev pub MeetsOrMemory : (BookFault → Type 0) → Result (Unit {0}) BookFault → Type 0
 MeetsOrMemory Cause (Ok _) = NoneStands Cause
 MeetsOrMemory Cause (Err OutOfMemory) = NoneStands Cause
 MeetsOrMemory Cause (Err fault) = IsFirst Cause fault
 
--- counts at any time: no more is announced than was returned, no more returned than came, and no more came than was
--- allowed, the initial window and what was announced (sections 6.9.1 and 6.9.2)
+-- counts at any time: no more is announced than was returned, no more was returned than came, and
+-- no more came than the initial window and what was announced (sections 6.9.1 and 6.9.2)
 pub record IsCounted (c : Counts) : Type 0 where
   pub announced_within : c.announced ≤ c.returned
   pub returned_within : c.returned ≤ c.received
   pub received_within : c.received ≤ INITIAL_WINDOW + c.announced
 
--- a live call of a connection that has received so much: its counts, that a call whose local end is marked has returned
--- all, and that not both ends are marked
+-- a live call of a connection that has received `most` bytes: its counts hold, it has returned all
+-- if its local end is marked, and not both ends are marked
 pub record IsLive (most : ℕ) (call : Call) : Type 0 where
   pub counted : IsCounted call.counts
   pub within : call.counts.received ≤ most

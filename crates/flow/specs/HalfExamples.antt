@@ -5,7 +5,13 @@ use Rattle.h2frame.specs.declared.frame.FrameHead.{FrameHead}
 use Rattle.h2frame.specs.declared.kind.FrameKind.{FrameKind}
 use Rattle.h2frame.specs.declared.kind.FrameKind.TheVariants.{Data, Headers, WindowUpdate}
 use Rattle.flow.specs.declared.halves.Half.TheVariants.{Opened, Ended, Reset}
-use Rattle.flow.specs.declared.halves.HalfVerdict.TheVariants.{Open, Accept, Discard, StreamError, ConnectionError}
+use Rattle.flow.specs.declared.halves.HalfVerdict.TheVariants.{
+  Open,
+  Accept,
+  Discard,
+  StreamError,
+  ConnectionError,
+}
 use Rattle.flow.specs.Halves.{Event, Received, Cut, begun, Idle, Skipped, Begun, state, verdict}
 
 -- a frame without flags, and one with END_STREAM
@@ -15,9 +21,12 @@ plain kind stream = record { kind = kind; flags = record { bits = 0 }; stream = 
 abbrev pub last : FrameKind → ℕ → FrameHead
 last kind stream = record { kind = kind; flags = record { bits = 1 }; stream = stream; length = 4 }
 
--- streams 1 and 5 are begun, 1 has ended, and 5 was reset by the server; 3 is skipped, HEADERS on it began nothing
+-- streams 1 and 5 are begun, 1 has ended, and the server has reset 5; 3 is skipped, and HEADERS on
+-- it began nothing
 abbrev pub two_streams : List Event
-two_streams = Cut 5 ∷ Received (plain Headers 3) ∷ Received (last Data 1) ∷ Received (plain Headers 5) ∷ Received (plain Headers 1) ∷ []
+two_streams =
+    Cut 5 ∷ Received (plain Headers 3) ∷ Received (last Data 1) ∷ Received (plain Headers 5)
+    ∷ Received (plain Headers 1) ∷ []
 
 pub begun_streams : begun two_streams ≡ 5 ∷ 1 ∷ []
 begun_streams = refl
@@ -58,9 +67,11 @@ dropped_after_reset = refl
 pub trailers_end : verdict (Received (plain Headers 1) ∷ []) (last Headers 1) ≡ Accept
 trailers_end = refl
 
-pub trailers_must_end : verdict (Received (plain Headers 1) ∷ []) (plain Headers 1) ≡ StreamError ProtocolError
+pub trailers_must_end : verdict (Received (plain Headers 1) ∷ []) (plain Headers 1)
+    ≡ StreamError ProtocolError
 trailers_must_end = refl
 
 -- frames on a stream before it was begun are no part of it
-pub early_end_counts_not : state 1 (Received (plain Headers 1) ∷ Received (last Data 1) ∷ []) ≡ Begun Opened
+pub early_end_counts_not : state 1 (Received (plain Headers 1) ∷ Received (last Data 1) ∷ [])
+    ≡ Begun Opened
 early_end_counts_not = refl

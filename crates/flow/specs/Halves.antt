@@ -1,20 +1,54 @@
--- The receiving halves of streams (RFC 9113, section 5.1): what a frame from the client is answered, given all the
--- frames before it and the streams that the server reset.
-use Rattle.std.specs.Prelude.{ℕ, ◌%◌, ◌==◌, Bool, true, false, ◌&&◌, not, if◌then◌else◌, nat_eq, nat_lt, List, [], ◌∷◌, length, Option, Some, None, ◌≡◌, ◌<◌, ◌≤◌}
+-- The receiving halves of streams (RFC 9113, section 5.1): the verdict of a frame from the client,
+-- given all frames before it and the streams that the server reset.
+use Rattle.std.specs.Prelude.{
+  ℕ,
+  ◌%◌,
+  ◌==◌,
+  Bool,
+  true,
+  false,
+  ◌&&◌,
+  not,
+  if◌then◌else◌,
+  nat_eq,
+  nat_lt,
+  List,
+  [],
+  ◌∷◌,
+  length,
+  Option,
+  Some,
+  None,
+  ◌≡◌,
+  ◌<◌,
+  ◌≤◌,
+}
 use Rattle.std.specs.List.{list_all, list_any}
 use Rattle.std.specs.Map.{lookup}
 use Rattle.h2frame.specs.declared.error_code.ErrorCode.TheVariants.{ProtocolError, StreamClosed}
 use Rattle.h2frame.specs.declared.frame.FrameHead.{FrameHead}
 use Rattle.h2frame.specs.declared.kind.FrameKind.{FrameKind}
-use Rattle.h2frame.specs.declared.kind.FrameKind.TheVariants.{Data, Headers, RstStream, WindowUpdate}
+use Rattle.h2frame.specs.declared.kind.FrameKind.TheVariants.{
+  Data,
+  Headers,
+  RstStream,
+  WindowUpdate,
+}
 use Rattle.h2frame.specs.Flags.{has, end_stream}
 use Rattle.flow.specs.declared.TheConstants.{MAX_STREAMS}
 use Rattle.flow.specs.declared.halves.Half.{Half}
 use Rattle.flow.specs.declared.halves.Half.TheVariants.{Opened, Ended, Reset}
 use Rattle.flow.specs.declared.halves.HalfVerdict.{HalfVerdict}
-use Rattle.flow.specs.declared.halves.HalfVerdict.TheVariants.{Open, Accept, Discard, StreamError, ConnectionError}
+use Rattle.flow.specs.declared.halves.HalfVerdict.TheVariants.{
+  Open,
+  Accept,
+  Discard,
+  StreamError,
+  ConnectionError,
+}
 
--- a frame that the client sent, or the number of a stream that the server reset. A history has the latest event first.
+-- a frame that the client sent, or the number of a stream that the server reset. A history has the
+-- latest event first.
 pub data Event : Type 0 where
   Received : FrameHead → Event
   Cut : ℕ → Event
@@ -46,16 +80,19 @@ abbrev pub is_headers : FrameKind → Bool
 is_headers Headers = true
 is_headers _ = false
 
--- HEADERS begin a stream whose number is odd, and greater than those of all streams that were begun (section 5.1.1), while
--- these are fewer than 4,096
+-- HEADERS begin a stream whose number is odd, and greater than those of all streams that were begun
+-- (section 5.1.1), while these are fewer than 4,096
 abbrev pub begins : Event → List ℕ → Bool
-begins (Received head) ids = is_headers head.kind && (is_odd head.stream && (is_above ids head.stream && nat_lt (length ids) MAX_STREAMS))
+begins (Received head) ids =
+    is_headers head.kind
+    && (is_odd head.stream && (is_above ids head.stream && nat_lt (length ids) MAX_STREAMS))
 begins (Cut id) ids = false
 
 -- the streams that were begun, the latest first
 abbrev pub begun : List Event → List ℕ
 begun [] = []
-begun (event ∷ before) = if begins event (begun before) then stream_of event ∷ begun before else begun before
+begun (event ∷ before) =
+    if begins event (begun before) then stream_of event ∷ begun before else begun before
 
 -- the course of a stream: the events from the HEADERS on that began it, and those before them
 pub record Course : Type 0 where
@@ -63,16 +100,19 @@ pub record Course : Type 0 where
   pub before : List Event
 
 abbrev pub further : Event → List Event → Bool → Option Course → Option Course
-further event before beginning (Some course) = Some (record { since = event ∷ course.since; before = course.before })
+further event before beginning (Some course) =
+    Some (record { since = event ∷ course.since; before = course.before })
 further event before true None = Some (record { since = event ∷ []; before = before })
 further event before false None = None
 
 -- the course of a stream, if it was begun
 abbrev pub course : ℕ → List Event → Option Course
 course id [] = None
-course id (event ∷ before) = further event before (nat_eq id (stream_of event) && begins event (begun before)) (course id before)
+course id (event ∷ before) =
+    further event before (nat_eq id (stream_of event) && begins event (begun before))
+    (course id before)
 
--- a client's part of a stream ends with DATA or HEADERS that have END_STREAM (section 5.1)
+-- a client's half of a stream ends with DATA or HEADERS that have END_STREAM (section 5.1)
 abbrev pub is_last_of_kind : FrameKind → Bool → Bool
 is_last_of_kind Data ended = ended
 is_last_of_kind Headers ended = ended
@@ -95,14 +135,14 @@ resets (Cut id) = true
 abbrev pub is_on : (Event → Bool) → ℕ → Event → Bool
 is_on test id event = nat_eq id (stream_of event) && test event
 
--- a begun stream is reset once it was; else it has ended once it did
+-- a begun stream counts as reset from its reset on, else as ended from its end on
 abbrev pub half : ℕ → Course → Half
 half id course =
     if list_any (is_on resets id) course.since then Reset
     else (if list_any (is_on ends id) course.since then Ended
     else Opened)
 
--- what a stream has come to: idle, skipped by a greater one that was begun, or begun
+-- the state of a stream: idle, skipped since a greater one was begun, or begun
 pub data State : Type 0 where
   Idle : State
   Skipped : State
@@ -115,17 +155,20 @@ state_of id history None = if is_odd id && not (is_above (begun history) id) the
 abbrev pub state : ℕ → List Event → State
 state id history = state_of id history (course id history)
 
--- On an idle stream HEADERS alone are lawful, with an odd number. Once 4,096 streams were begun, whatever comes on an odd one
--- is dropped: its number is above that of the last stream that the server serves (section 6.8).
+-- On an idle stream only HEADERS are lawful, with an odd number. Once 4,096 streams were begun,
+-- whatever comes on an odd one is dropped: its number is above that of the last stream that the
+-- server serves (section 6.8).
 abbrev pub on_idle : Bool → Bool → Bool → HalfVerdict
-on_idle odd headers few = if odd then (if few then (if headers then Open else ConnectionError ProtocolError) else Discard) else ConnectionError ProtocolError
+on_idle odd headers few =
+    if odd then (if few then (if headers then Open else ConnectionError ProtocolError) else Discard)
+    else ConnectionError ProtocolError
 
 -- on an open stream further HEADERS are trailers, which end it (section 8.1)
 abbrev pub on_opened : FrameKind → Bool → HalfVerdict
 on_opened Headers false = StreamError ProtocolError
 on_opened _ _ = Accept
 
--- on a half that has ended there are no DATA and no HEADERS (section 5.1, half-closed)
+-- a half that has ended has no more DATA and HEADERS (section 5.1, half-closed)
 abbrev pub on_ended : FrameKind → HalfVerdict
 on_ended Data = StreamError StreamClosed
 on_ended Headers = StreamError StreamClosed
@@ -137,7 +180,8 @@ on_begun Ended head = on_ended head.kind
 on_begun Reset head = Discard
 
 abbrev pub judged : State → FrameHead → ℕ → HalfVerdict
-judged Idle head count = on_idle (is_odd head.stream) (is_headers head.kind) (nat_lt count MAX_STREAMS)
+judged Idle head count =
+    on_idle (is_odd head.stream) (is_headers head.kind) (nat_lt count MAX_STREAMS)
 judged Skipped head count = ConnectionError ProtocolError
 judged (Begun half) head count = on_begun half head
 
@@ -147,7 +191,7 @@ verdict history head = judged (state head.stream history) head (length (begun hi
 
 -- ---- what is kept of a history
 
--- the greatest number of a begun stream, and for each begun stream what its half has come to
+-- the greatest number of a begun stream, and the half of each begun stream
 pub record Streams : Type 0 where
   pub greatest : ℕ
   pub halves : List (ℕ × Half)
@@ -158,7 +202,7 @@ kept Idle = None
 kept Skipped = None
 kept (Begun half) = Some half
 
--- of no more streams than may be begun
+-- what is kept is of no more streams than may be begun
 abbrev pub IsSmall : List (ℕ × Half) → Type 0
 IsSmall halves = length halves ≤ MAX_STREAMS
 
@@ -178,7 +222,8 @@ is_error (StreamError code) = true
 is_error (ConnectionError code) = true
 is_error _ = false
 
--- an answer that a frame on a stream which wasn't begun may have, where it doesn't begin it: the stream is unknown
+-- a verdict that a frame may have on a stream which wasn't begun, if it doesn't begin it: the
+-- stream is unknown
 abbrev pub may_be_unbegun : HalfVerdict → Bool
 may_be_unbegun Discard = true
 may_be_unbegun (ConnectionError code) = true
@@ -188,7 +233,7 @@ abbrev pub is_connection_error : HalfVerdict → Bool
 is_connection_error (ConnectionError code) = true
 is_connection_error _ = false
 
--- ---- one frame, where the stream was begun and where it is new
+-- ---- one frame, on a begun stream and on a new one
 
 abbrev pub moved : Half → Bool → Bool → Half
 moved Opened reset last = if reset then Reset else (if last then Ended else Opened)

@@ -2,7 +2,7 @@
 use Rattle.std.specs.Prelude.{◌≡◌, refl, [], ◌∷◌, pos, negsuc, Some, None}
 use Rattle.flow.specs.Windows.{Windows, new_windows, opened, with_balance, closed, window, room}
 
--- stream 1 has sent 40,000 bytes, and the initial size is 0 by now
+-- stream 1 has sent 40,000 bytes, and the initial size is 0 now
 abbrev pub below_zero : Windows
 below_zero = record { connection = 25535; initial = 0; balances = (1, negsuc 39999) ∷ [] }
 

@@ -1,6 +1,17 @@
--- Worked histories, computed: a window goes below zero by a smaller initial size, and credit brings it back.
+-- Worked histories, computed: a smaller initial size takes a window below zero, and credit brings
+-- it back.
 use Rattle.std.specs.Prelude.{◌≡◌, refl, List, [], ◌∷◌, pos, negsuc, Some, None}
-use Rattle.flow.specs.WindowHistory.{Step, Opening, Credit, Spending, Resizing, Closing, connection_window, stream_window, room_after}
+use Rattle.flow.specs.WindowHistory.{
+  Step,
+  Opening,
+  Credit,
+  Spending,
+  Resizing,
+  Closing,
+  connection_window,
+  stream_window,
+  room_after,
+}
 
 abbrev pub below_zero : List Step
 below_zero = Resizing 0 ∷ Spending 1 40000 ∷ Opening 1 ∷ []
@@ -17,8 +28,9 @@ nothing_at_zero = refl
 pub one_byte_above : room_after (Credit 1 1 ∷ Credit 1 40000 ∷ below_zero) 1 ≡ 1
 one_byte_above = refl
 
--- a new stream has the size that holds now, and none of an earlier stream's credit
-pub later_stream : stream_window 3 (Opening 3 ∷ Credit 1 9 ∷ Resizing 100 ∷ below_zero) ≡ Some (pos 100)
+-- a new stream has the present size, and no credit of an earlier stream
+pub later_stream : stream_window 3 (Opening 3 ∷ Credit 1 9 ∷ Resizing 100 ∷ below_zero)
+    ≡ Some (pos 100)
 later_stream = refl
 
 pub closed_stream : stream_window 1 (Closing 1 ∷ below_zero) ≡ None

@@ -1,10 +1,46 @@
--- The windows of what is sent (RFC 9113, section 6.9): that of the connection, and one for each open stream.
-use Rattle.std.specs.Prelude.{◌≡◌, ℕ, ◌+◌, ◌<◌, ◌≤◌, ◌^◌, min, ℤ, pos, negsuc, ◌+ℤ◌, ◌≤ℤ◌, ◌<ℤ◌, List, [], ◌∷◌, ◌++◌, All, Option, Some, None, MatchOption, Result, Ok, Err, nat_eq, ◌⊎◌, is_some, false}
+-- The windows of what is sent (RFC 9113, section 6.9): that of the connection, and one for each
+-- open stream.
+use Rattle.std.specs.Prelude.{
+  ◌≡◌,
+  ℕ,
+  ◌+◌,
+  ◌<◌,
+  ◌≤◌,
+  ◌^◌,
+  min,
+  ℤ,
+  pos,
+  negsuc,
+  ◌+ℤ◌,
+  ◌≤ℤ◌,
+  ◌<ℤ◌,
+  List,
+  [],
+  ◌∷◌,
+  ◌++◌,
+  All,
+  Option,
+  Some,
+  None,
+  MatchOption,
+  Result,
+  Ok,
+  Err,
+  nat_eq,
+  ◌⊎◌,
+  is_some,
+  false,
+}
 use Rattle.std.specs.Option.{option_map}
 use Rattle.std.specs.Map.{lookup, set_value, remove_entry, values_of}
 use Rattle.flow.specs.declared.TheConstants.{MAX_WINDOW, INITIAL_WINDOW}
 use Rattle.flow.specs.declared.send_windows.WindowFault.{WindowFault}
-use Rattle.flow.specs.declared.send_windows.WindowFault.TheVariants.{Overflow, NoRoom, Unknown, OutOfMemory}
+use Rattle.flow.specs.declared.send_windows.WindowFault.TheVariants.{
+  Overflow,
+  NoRoom,
+  Unknown,
+  OutOfMemory,
+}
 
 -- the numbers of the faults
 abbrev pub code_of : WindowFault → ℕ
@@ -18,7 +54,8 @@ pub record Shared : Type 0 where
   pub connection : ℕ
   pub initial : ℕ
 
--- and for each open stream its balance: what was credited less what was spent since it was opened
+-- what all streams share, and for each open stream its balance: what was credited less what was
+-- spent since it was opened
 pub record Windows : Type 0 where
   pub connection : ℕ
   pub initial : ℕ
@@ -81,7 +118,8 @@ FitsAt w n = (n ≤ MAX_WINDOW) × All (λ b. Fits (pos n +ℤ b)) (values_of w.
 abbrev pub CreditFault : Windows → ℕ → ℕ → WindowFault → Type 0
 CreditFault w id n Unknown = (0 < id) × (window w id ≡ None)
 CreditFault w id n Overflow =
-    ((id ≡ 0) × (MAX_WINDOW < w.connection + n)) ⊎ ((0 < id) × MatchOption (window w id) ⊥ (λ size. pos MAX_WINDOW <ℤ (size +ℤ pos n)))
+    ((id ≡ 0) × (MAX_WINDOW < w.connection + n))
+    ⊎ ((0 < id) × MatchOption (window w id) ⊥ (λ size. pos MAX_WINDOW <ℤ (size +ℤ pos n)))
 CreditFault w id n NoRoom = ⊥
 CreditFault w id n OutOfMemory = ⊥
 
@@ -92,16 +130,17 @@ SpendFault w id n NoRoom = MatchOption (window w id) ⊥ (λ size. lesser w.conn
 SpendFault w id n Overflow = ⊥
 SpendFault w id n OutOfMemory = ⊥
 
--- an answer is the fault that stands, and is none exactly where none stands
+-- an answer is the fault that holds, and is Ok exactly where none holds
 abbrev pub Meets : (WindowFault → Type 0) → Result (Unit {0}) WindowFault → Type 0
 Meets Stands (Ok _) = (fault : WindowFault) → ¬ Stands fault
 Meets Stands (Err fault) = Stands fault
 
--- a balance with which the window is lawful, and which no spending passes
+-- a balance with which the window is lawful, and that is at least -2^31 - 1: no spending takes it
+-- lower
 abbrev pub IsBalance : ℕ → ℤ → Type 0
 IsBalance initial b = Fits (pos initial +ℤ b) × (negsuc (2 ^ 31) ≤ℤ b)
 
--- what is true of the windows at any time; the connection isn't among the streams
+-- what always holds of the windows; the connection isn't among the streams
 pub record IsWithin (connection initial : ℕ) (balances : List (ℕ × ℤ)) : Type 0 where
   pub connection_fits : connection ≤ MAX_WINDOW
   pub initial_fits : initial ≤ MAX_WINDOW

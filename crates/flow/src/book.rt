@@ -1,15 +1,27 @@
 //! The credit book of a connection (RFC 9113, sections 5.2 and 6.9).
 //!
-//! Each call is said by one total function, from the record before to the one behind, for every id: 0 the connection,
-//! else the live call, and nothing where there is none. Each fault has a cause, and one order of the tests (`place`),
-//! so clauses don't repeat what stands before.
+//! One total function says what each function here does, from the record before to the record
+//! after, for every id: 0 is the connection, any other the live call, and without such a call
+//! nothing changes. Each fault has a cause, and the tests have one order (`place`), so clauses
+//! don't repeat the earlier tests.
 //!
-//! What is loose is computed and not stored: it matters only where bytes of no call are returned, and then at most 64
-//! calls are gone over. Bytes count as `u32`, as a frame's length does; sums are `u64`. A mark that is set twice
-//! changes nothing more; with the second end marked a call goes as one that is cut (`end_remote` and `end_local` call
-//! `cut`).
+//! What is loose is computed, not stored: it matters only where bytes of no call are returned, and
+//! then the book goes over at most 64 calls. Bytes count as `u32`, as a frame's length does; sums
+//! are `u64`. A mark that is set twice changes nothing more. With the second end marked a call ends
+//! as one that is cut (`end_remote` and `end_local` call `cut`).
 
-ghost use Rattle.std.specs.Prelude.{◌≡◌, ◌<◌, ◌^◌, true, OnErr, OnOk, nat_eq, length, slice_get, if◌then◌else◌};
+ghost use Rattle.std.specs.Prelude.{
+  ◌≡◌,
+  ◌<◌,
+  ◌^◌,
+  true,
+  OnErr,
+  OnOk,
+  nat_eq,
+  length,
+  slice_get,
+  if◌then◌else◌,
+};
 ghost use Rattle.std.specs.Option.{option_map};
 ghost use Rattle.std.specs.Map.{keys_of};
 ghost use Rattle.flow.specs.Books.{call_at, unreturned_of};
@@ -41,7 +53,7 @@ pub struct Marks {
 pub struct Call {
     /// The call's own bytes.
     pub counts: Counts,
-    /// Which of its ends are over.
+    /// Which of its ends are marked.
     pub marks: Marks,
 }
 
@@ -55,7 +67,7 @@ impl Call {
         self.marks.remote || self.marks.local
     }
 
-    /// What was returned and isn't announced yet, and is to be: of a call of which an end is marked, nothing.
+    /// What was returned and is still to be announced: nothing on a call with a marked end.
     fn due(&self) -> u32
         requires { IsCounted self.now.counts }
         ensures { result ≡ due_of self.now }
@@ -76,11 +88,14 @@ const NEW_CALL: Call = Call {
     },
 };
 
-/// The credit book of a connection: for the connection and each live call, how many bytes of DATA came, how many of
-/// them were returned, and how many of those were announced to the peer.
+/// The credit book of a connection: for the connection and each live call, how many bytes of DATA
+/// came, how many of them were returned, and how many of those were announced to the peer.
 ///
-/// The peer may send 65,535 bytes more than was announced (RFC 9113, section 6.9.2). The bytes of a call count on the
-/// connection too; what counts on the connection alone, under id 0, is loose until it is returned.
+/// On the connection and on each live call: announced <= returned <= received <= 65,535 + announced
+/// (RFC 9113, section 6.9.2). At most 64 calls are live.
+///
+/// The bytes of a call count on the connection too; what counts on the connection alone, under id
+/// 0, is loose until it is returned.
 #[derive(Drop)]
 pub struct Book {
     connection: Counts,
@@ -112,7 +127,29 @@ impl Model for Book {
 }
 
 impl Book {
-    ghost use Rattle.flow.specs.Books.{new_book, IsLawful, IsOdd, MeetsOrMemory, Meets, AdmitCause, ReceiveCause, GiveBackCause, EndCause, after_admit, after_receive, after_give_back, after_announce, announcement, after_end_remote, after_end_local, after_cut, window_of, is_marked, no_change, Moves};
+    ghost use Rattle.flow.specs.Books.{
+      new_book,
+      IsLawful,
+      IsOdd,
+      MeetsOrMemory,
+      Meets,
+      AdmitCause,
+      ReceiveCause,
+      GiveBackCause,
+      EndCause,
+      after_admit,
+      after_receive,
+      after_give_back,
+      after_announce,
+      announcement,
+      after_end_remote,
+      after_end_local,
+      after_cut,
+      window_of,
+      is_marked,
+      no_change,
+      Moves,
+    };
 
     /// The book of a new connection, with no calls. It takes no memory yet.
     pub fn new(alloc: Global) -> Book
@@ -127,7 +164,8 @@ impl Book {
         }
     }
 
-    /// The greatest id that was admitted, 0 for none. Each book keeps the law of the credit book.
+    /// The greatest id that was admitted, 0 for none. Its contract also has the law of the credit
+    /// book.
     pub fn last(&self) -> StreamId
         ensures last { result ≡ self.now.last }
         ensures law { IsLawful self.now }
@@ -174,8 +212,8 @@ impl Book {
         Some(*id)
     }
 
-    /// How many bytes the peer may still send on a live call, or on the connection where the id is 0. It is 0 where the call
-    /// isn't live.
+    /// How many bytes the peer may still send on a live call, or on the connection where the id
+    /// is 0. No bytes where the call isn't live.
     pub fn window(&self, id: StreamId) -> u32
         ensures { result ≡ window_of self.now id }
     {
@@ -223,8 +261,8 @@ impl Book {
         Ok(())
     }
 
-    /// Counts bytes of DATA that came, for a live call and the connection, or for the connection alone where the id is 0.
-    /// Those of a call whose local end is marked are returned in the same step.
+    /// Counts bytes of DATA that came, for a live call and the connection, or for the connection
+    /// alone where the id is 0. Those of a call whose local end is marked are returned at once.
     pub fn receive(&mut self, id: StreamId, n: u32) -> Result<(), BookFault>
         ensures ok { OnOk result (self.new ≡ after_receive self.old id n) }
         ensures unchanged { OnErr result (self.new ≡ self.old) }
@@ -256,8 +294,8 @@ impl Book {
         Ok(())
     }
 
-    /// Counts bytes that were returned, for a live call and the connection, or for the connection alone where the id is 0:
-    /// then they are of those that are loose.
+    /// Counts bytes that were returned, for a live call and the connection, or for the connection
+    /// alone where the id is 0: then they are loose bytes.
     pub fn give_back(&mut self, id: StreamId, n: u32) -> Result<(), BookFault>
         ensures ok { OnOk result (self.new ≡ after_give_back self.old id n) }
         ensures unchanged { OnErr result (self.new ≡ self.old) }
@@ -284,8 +322,9 @@ impl Book {
         Ok(())
     }
 
-    /// Announces all that was returned, and answers how much of it wasn't yet: the increment of a WINDOW_UPDATE that is
-    /// due (RFC 9113, section 6.9). It is 0, and nothing changes, where the call isn't live or either end is marked.
+    /// Announces all that was returned, and answers how much of it wasn't announced yet: the
+    /// increment of a WINDOW_UPDATE that is due (RFC 9113, section 6.9). It is 0, and nothing
+    /// changes, where the call isn't live or either end is marked.
     pub fn announce(&mut self, id: StreamId) -> u32
         ensures increment { result ≡ announcement self.old id }
         ensures announced { self.new ≡ after_announce self.old id }
@@ -310,7 +349,8 @@ impl Book {
         due
     }
 
-    /// Marks the remote end of a call: no more DATA comes. With both ends marked it is no longer live.
+    /// Marks the remote end of a call: no more DATA comes. With both ends marked it is no longer
+    /// live.
     pub fn end_remote(&mut self, id: StreamId) -> Result<(), BookFault>
         ensures ok { OnOk result (self.new ≡ after_end_remote self.old id) }
         ensures unchanged { OnErr result (self.new ≡ self.old) }
@@ -332,8 +372,8 @@ impl Book {
         Ok(())
     }
 
-    /// Marks the local end of a call: nobody takes its DATA any more, so all that it hasn't returned is returned. With
-    /// both ends marked it is no longer live.
+    /// Marks the local end of a call: its DATA isn't taken any more, so all that it hasn't returned
+    /// is returned. With both ends marked it is no longer live.
     pub fn end_local(&mut self, id: StreamId) -> Result<(), BookFault>
         ensures ok { OnOk result (self.new ≡ after_end_local self.old id) }
         ensures unchanged { OnErr result (self.new ≡ self.old) }

@@ -1,11 +1,27 @@
-//! What all streams of a connection share of the windows of what is sent, and the balance that each has of its own (RFC
-//! 9113, section 6.9).
+//! The part of the windows of what is sent that all streams share, and the balance that each stream
+//! has of its own (RFC 9113, section 6.9).
 //!
-//! A stream's window is the initial size that holds now and the stream's balance, so that a new initial size writes one
-//! number and not every stream's. The balances lie in a table of the caller's, and each call is given that of its
-//! stream: that they are what a history leaves is said of the whole table (`Follows`), by look-ups in it.
+//! A stream's window is the present initial size and the stream's balance, so a new initial size
+//! writes one number, not one for each stream. The balances are in a table of the caller's, and
+//! each function gets the balance of its stream. `Follows` says of the whole table that the
+//! balances are what a history leaves.
 
-ghost use Rattle.std.specs.Prelude.{◌≡◌, ◌+◌, ◌-◌, ◌+ℤ◌, ◌-ℤ◌, ◌<◌, ◌≤◌, ◌<ℤ◌, int_le, min, pos, IfErr, OnErr, OnOk};
+ghost use Rattle.std.specs.Prelude.{
+  ◌≡◌,
+  ◌+◌,
+  ◌-◌,
+  ◌+ℤ◌,
+  ◌-ℤ◌,
+  ◌<◌,
+  ◌≤◌,
+  ◌<ℤ◌,
+  int_le,
+  min,
+  pos,
+  IfErr,
+  OnErr,
+  OnOk,
+};
 ghost use Rattle.flow.specs.declared.send_windows.WindowFault.TheVariants.{Overflow};
 ghost use Rattle.flow.specs.Windows.{Fits, AreLawful, lesser};
 
@@ -47,8 +63,8 @@ impl Balance {
     }
 }
 
-/// What all streams share: how many bytes of DATA the peer takes on the connection, and the initial size of a stream's
-/// window.
+/// What all streams share: how many bytes of DATA the peer takes on the connection, and the initial
+/// size of a stream's window.
 #[derive(Drop)]
 pub struct ConnectionWindow {
     connection: u32,
@@ -114,8 +130,9 @@ impl ConnectionWindow {
         Ok(())
     }
 
-    /// Takes another initial size (SETTINGS_INITIAL_WINDOW_SIZE), which moves every stream's window by the difference.
-    /// Whether each of them fits it, `Balance::fits` tells. The connection's window stays.
+    /// Takes another initial size (SETTINGS_INITIAL_WINDOW_SIZE), which moves every stream's window
+    /// by the difference. `Balance::fits` says whether a window fits it. The connection's window
+    /// stays.
     pub fn resize(&mut self, size: u32)
         requires { size ≤ MAX_WINDOW }
         ensures value { self.new ≡ record self.old { initial = size } }
@@ -124,7 +141,8 @@ impl ConnectionWindow {
         self.initial = size;
     }
 
-    /// How many bytes may be sent on a stream now: the lesser of both windows, and 0 where either isn't positive.
+    /// How many bytes may be sent on a stream now: the lesser of both windows, and 0 where either
+    /// isn't positive.
     pub fn room(&self, balance: Balance) -> u32
         ensures { result ≡ lesser self.now.connection (pos self.now.initial +ℤ balance) }
     {
@@ -135,7 +153,8 @@ impl ConnectionWindow {
         self.connection.min(window as u32)
     }
 
-    /// Takes as many bytes as may be sent now, and at most so many, out of both windows. It answers how many these are.
+    /// Takes as many bytes as may be sent now, and at most `most`, out of both windows. Answers how
+    /// many these are.
     pub fn spend_up_to(&mut self, balance: &mut Balance, most: u32) -> u32
         ensures value { result
             ≡ min (lesser self.old.connection (pos self.old.initial +ℤ balance.old)) most }

@@ -1,18 +1,58 @@
 //! The receiving halves of streams (RFC 9113, section 5.1).
 //!
-//! Streams are taken in order by the greatest number that was begun: HEADERS on an odd number that isn't greater begin
-//! nothing. There is no state for skipped streams: what isn't in the map is idle or skipped, and there no frame is
-//! lawful but HEADERS on an odd number above the greatest. Once 4,096 streams were begun, what comes on an odd number above
-//! the greatest is dropped, and nothing is kept of it: what is kept is bounded, whatever a client sends. `Half` is public
-//! since contracts see it.
+//! Streams begin in the order of their numbers: HEADERS on an odd number that isn't above the
+//! greatest begun begin nothing. There is no state for skipped streams: what isn't in the map is
+//! idle or skipped, and there the only lawful frame is HEADERS on an odd number above the greatest.
+//! Once 4,096 streams were begun, what comes on an odd number above the greatest is dropped, and
+//! nothing of it is kept. So memory is bounded, whatever a client sends. `Half` is public since
+//! contracts see it.
 //!
-//! `cut`: it asks that the stream was begun: `on` says so of each answer that is neither Discard nor an error of the
-//! connection (clause `begun`).
+//! `cut` requires that the stream was begun. `on` says so for each answer that is neither Discard
+//! nor an error of the connection (clause `begun`).
 
-ghost use Rattle.std.specs.Prelude.{◌≡◌, ◌<◌, ◌≤◌, ◌⊎◌, true, false, ◌&&◌, length, nat_eq, nat_lt, List, [], ◌∷◌, None, Some, IfOk, OnErr, IsSome, IsTrue, MatchOption};
+ghost use Rattle.std.specs.Prelude.{
+  ◌≡◌,
+  ◌<◌,
+  ◌≤◌,
+  ◌⊎◌,
+  true,
+  false,
+  ◌&&◌,
+  length,
+  nat_eq,
+  nat_lt,
+  List,
+  [],
+  ◌∷◌,
+  None,
+  Some,
+  IfOk,
+  OnErr,
+  IsSome,
+  IsTrue,
+  MatchOption,
+};
 ghost use Rattle.std.specs.Map.{lookup, set_value};
 ghost use Rattle.flow.specs.declared.halves.HalfVerdict.TheVariants.{Open};
-ghost use Rattle.flow.specs.Halves.{Event, Received, Cut, IsJudged, Stands, begins, begun, ends, half_after, half_of, is_error, may_be_unbegun, is_headers, is_odd, half_of_new, on_begun, verdict};
+ghost use Rattle.flow.specs.Halves.{
+  Event,
+  Received,
+  Cut,
+  IsJudged,
+  Stands,
+  begins,
+  begun,
+  ends,
+  half_after,
+  half_of,
+  is_error,
+  may_be_unbegun,
+  is_headers,
+  is_odd,
+  half_of_new,
+  on_begun,
+  verdict,
+};
 
 use crate::MAX_STREAMS;
 use h2frame::{ErrorCode, Flags, FrameHead, FrameKind, StreamId};
@@ -20,12 +60,12 @@ use indexmap::IndexMap;
 use std::alloc::{AllocError, Global};
 use std::marker::Model;
 
-/// What the receiving half of a begun stream has come to.
+/// The state of the receiving half of a begun stream.
 #[derive(Clone, Copy, Debug, PartialEq, Eq)]
 pub enum Half {
     /// More frames may come.
     Opened,
-    /// The client sent its last one.
+    /// The client sent its last frame.
     Ended,
     /// Either side reset the stream.
     Reset,
@@ -38,7 +78,7 @@ pub enum HalfVerdict {
     Open,
     /// It is lawful on its stream.
     Accept,
-    /// It came on a stream that is no more, or behind the last one that is served, and is dropped.
+    /// It came on a stream that is over, or after the last one that is served, and is dropped.
     Discard,
     /// Its stream is to be reset with this code.
     StreamError(ErrorCode),
@@ -88,7 +128,7 @@ impl Halves {
         ensures begun { IfOk result
             (λ answer. may_be_unbegun answer ≡ false → IsSome (half_of self.new head.now.stream)) }
 
-        // Of a stream that wasn't begun nothing is kept but where it is opened, and no more than 4,096 are ever kept.
+        // A stream is kept only once it was begun, and no more than 4,096 are ever kept.
         ensures forgets { IfOk result
             (λ answer. half_of self.old head.now.stream ≡ None → (answer ≡ Open)
             ⊎ (self.new ≡ self.old)) }
@@ -144,7 +184,7 @@ fn judge_begun(halves: &mut IndexMap<StreamId, Half>, head: &FrameHead) -> Optio
 }
 
 impl Half {
-    /// The verdict of a frame on a stream whose half has come to this.
+    /// The verdict of a frame on a stream with this half.
     fn verdict(self, head: &FrameHead) -> HalfVerdict
         ensures { result ≡ on_begun self head.now }
     {
@@ -160,7 +200,7 @@ impl Half {
         }
     }
 
-    /// What the half comes to by a frame.
+    /// The half after a frame.
     fn after(self, head: &FrameHead) -> Half
         ensures { result ≡ half_after self (Received head.now) }
     {
@@ -183,14 +223,14 @@ fn is_last(head: &FrameHead) -> bool
     }
 }
 
-/// Whether HEADERS may begin this stream, where this is the greatest number of those that were begun.
+/// Whether HEADERS may begin this stream, after the greatest that was begun.
 fn may_begin(id: StreamId, greatest: StreamId) -> bool
     ensures { result ≡ is_odd id && nat_lt greatest id }
 {
     id % 2 == 1 && id > greatest
 }
 
-/// What the half of a stream comes to by the HEADERS that begin it.
+/// The half of a stream after the HEADERS that begin it.
 fn new_half(head: &FrameHead) -> Half
     ensures { result ≡ half_of_new (Received head.now) }
 {

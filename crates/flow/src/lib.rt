@@ -1,16 +1,19 @@
-//! Flow control of an HTTP/2 connection, and the states of its streams (RFC 9113, sections 5.1, 5.2 and 6.9).
+//! Flow control of an HTTP/2 connection, and the states of its streams (RFC 9113, sections 5.1, 5.2
+//! and 6.9).
 //!
-//! `SendWindows` has the windows of what is sent: the connection's, and one for each open stream, which credit raises,
-//! sending lowers, and a new initial size moves. It is made of a `ConnectionWindow`, which all streams share, and of a map
-//! with a `Balance` for each stream; a caller that has a map of its own keeps the balances in that.
+//! `SendWindows` has the windows of what is sent: the connection's, and one for each open stream.
+//! Credit raises them, sending lowers them, and a new initial size moves them. It is made of a
+//! `ConnectionWindow`, which all streams share, and of a map with a `Balance` for each stream. A
+//! caller with a map of its own keeps the balances there.
 //!
-//! `Halves` has the receiving half of each stream: it judges the client's frames by what came before them.
+//! `Halves` has the receiving half of each stream: it judges the client's frames by what came
+//! before them.
 //!
-//! `Book` is the credit book of what is received: how many bytes came, were taken, and were told to the peer, on the
-//! connection and on each live call.
+//! `Book` is the credit book of what is received: how many bytes came, were returned, and were
+//! announced to the peer, on the connection and on each live call.
 //!
-//! Nothing here reads or writes frames: the numbers come from frames that `h2frame` has read. Worked histories of all
-//! three, with the answers that RFC 9113 demands, are the rows of the program `wire_rows`.
+//! Nothing here reads or writes frames: the numbers come from frames that `h2frame` has read. The
+//! program `wire_rows` has worked histories of all three, with the answers that RFC 9113 demands.
 #![tactic(auto)]
 
 pub mod book;
@@ -23,7 +26,8 @@ pub use connection_window::{Balance, ConnectionWindow};
 pub use halves::{Half, HalfVerdict, Halves};
 pub use send_windows::{SendWindows, WindowFault};
 
-/// How many streams a client may open on a connection. What comes on streams behind the last of them is dropped.
+/// How many streams a client may open on a connection. What comes on streams after the last of them
+/// is dropped.
 pub const MAX_STREAMS: usize = 4_096;
 
 /// The largest window that RFC 9113, section 6.9.1, allows: 2^31 - 1 bytes.

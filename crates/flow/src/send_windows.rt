@@ -1,16 +1,59 @@
 //! The windows of what is sent (RFC 9113, section 6.9).
 //!
-//! What all streams share is a `ConnectionWindow`, and the balance of each lies in a map. The windows are said twice: each
-//! call by an equation on the numbers that are kept, and by what follows from the whole list of openings, credits,
-//! spendings, sizes and closings (`Follows`); `room` is tied to that list alone.
+//! All streams share a `ConnectionWindow`, and a map has the balance of each. Contracts define the
+//! windows twice: by an equation on the numbers that are kept, and by the whole list of openings,
+//! credits, spendings, sizes and closings (`Follows`). `room` is defined by that list alone.
 
-ghost use Rattle.std.specs.Prelude.{◌≡◌, ◌+◌, ◌-◌, ◌+ℤ◌, ◌-ℤ◌, ◌<◌, min, pos, List, [], ◌∷◌, None, IfErr, OnErr, OnOk, is_some, MatchOption, nat_eq, int_le};
+ghost use Rattle.std.specs.Prelude.{
+  ◌≡◌,
+  ◌+◌,
+  ◌-◌,
+  ◌+ℤ◌,
+  ◌-ℤ◌,
+  ◌<◌,
+  min,
+  pos,
+  List,
+  [],
+  ◌∷◌,
+  None,
+  IfErr,
+  OnErr,
+  OnOk,
+  is_some,
+  MatchOption,
+  nat_eq,
+  int_le,
+};
 ghost use Rattle.std.specs.List.{list_all};
 ghost use Rattle.std.specs.Map.{values_of};
 ghost use Rattle.indexmap.specs.IndexMap.{IsUnique};
 ghost use Rattle.flow.specs.declared.send_windows.WindowFault.TheVariants.{Overflow, OutOfMemory};
-ghost use Rattle.flow.specs.Windows.{code_of, room, opened, with_balance, closed, balance, Meets, CreditFault, SpendFault, FitsAt, IsLawful};
-ghost use Rattle.flow.specs.WindowHistory.{Step, Opening, Credit, Spending, Resizing, Closing, Follows, CanCredit, CanResize, room_after};
+ghost use Rattle.flow.specs.Windows.{
+  code_of,
+  room,
+  opened,
+  with_balance,
+  closed,
+  balance,
+  Meets,
+  CreditFault,
+  SpendFault,
+  FitsAt,
+  IsLawful,
+};
+ghost use Rattle.flow.specs.WindowHistory.{
+  Step,
+  Opening,
+  Credit,
+  Spending,
+  Resizing,
+  Closing,
+  Follows,
+  CanCredit,
+  CanResize,
+  room_after,
+};
 
 use crate::{Balance, ConnectionWindow, MAX_WINDOW};
 use h2frame::StreamId;
@@ -22,7 +65,7 @@ use thiserror::Error;
 /// Why a window isn't changed.
 #[derive(Clone, Copy, Debug, PartialEq, Eq, Error)]
 pub enum WindowFault {
-    /// A window would be over 2^31 - 1 bytes.
+    /// A window would be larger than 2^31 - 1 bytes.
     #[error("a window would be over 2147483647 bytes")]
     Overflow,
     /// More is spent than the windows let through.
@@ -31,7 +74,7 @@ pub enum WindowFault {
     /// The stream isn't open.
     #[error("the stream isn't open")]
     Unknown,
-    /// No memory was to be had.
+    /// There is no memory.
     #[error("out of memory")]
     OutOfMemory,
 }
@@ -58,10 +101,12 @@ impl<T: Drop> From<AllocFailed<T>> for WindowFault {
     }
 }
 
-/// The windows of what is sent: how many bytes of DATA the peer takes on the connection, and on each open stream.
+/// The windows of what is sent: how many bytes of DATA the peer takes on the connection, and on
+/// each open stream.
 ///
-/// A stream's window is the initial size that holds now, and its balance: what was credited to it less what was
-/// spent on it since it was opened. So a smaller initial size can take it below zero (RFC 9113, section 6.9.2).
+/// A stream's window is the present initial size and the stream's balance: what was credited to it
+/// less what was spent on it since it was opened. So a smaller initial size can take it below zero
+/// (RFC 9113, section 6.9.2).
 #[derive(Drop)]
 pub struct SendWindows {
     shared: ConnectionWindow,
@@ -113,7 +158,9 @@ impl SendWindows {
         Ok(())
     }
 
-    /// Adds the increment of a WINDOW_UPDATE to a stream's window, or to the connection's where the id is 0.
+    /// Adds the increment of a WINDOW_UPDATE to a stream's window, or to the connection's where the
+    /// id is 0. It refuses a stream without a window, and an increment exactly where the window
+    /// would pass 2^31 - 1 (`Overflow`).
     pub fn credit(&mut self, id: StreamId, increment: u32) -> Result<(), WindowFault>
         ensures connection { OnOk result
             (id ≡ 0 → self.new ≡ record self.old { connection = self.old.connection + increment }) }
@@ -142,8 +189,9 @@ impl SendWindows {
         Ok(())
     }
 
-    /// Takes a new initial size (SETTINGS_INITIAL_WINDOW_SIZE), which moves every stream's window by the difference.
-    /// The connection's window stays. It takes time in the number of open streams.
+    /// Takes a new initial size (SETTINGS_INITIAL_WINDOW_SIZE), which moves every stream's window
+    /// by the difference. The connection's window stays. It takes time in the number of open
+    /// streams.
     pub fn initial(&mut self, size: u32) -> Result<(), WindowFault>
         ensures ok { OnOk result (self.new ≡ record self.old { initial = size }) }
         ensures follows { OnOk result
@@ -194,7 +242,8 @@ impl SendWindows {
         Ok(())
     }
 
-    /// The same for as many bytes as may be sent now, and at most so many. It answers how many these are: 0 where `room` is 0.
+    /// Takes as many bytes as may be sent now, and at most `most`, out of a stream's window and the
+    /// connection's. Answers how many these are: 0 where `room` is 0.
     pub fn spend_up_to(&mut self, id: StreamId, most: u32) -> u32
         ensures value { result ≡ min (room self.old id) most }
         ensures room { 0 < id → (history : List Step) → Follows history self.old → result
@@ -215,8 +264,8 @@ impl SendWindows {
         self.shared.spend_up_to(balance, most)
     }
 
-    /// How many bytes may be sent on a stream now: the lesser of both windows, and 0 where either isn't positive or
-    /// the stream isn't open.
+    /// How many bytes may be sent on a stream now: the lesser of both windows, and 0 where either
+    /// isn't positive or the stream isn't open.
     pub fn room(&self, id: StreamId) -> u32
         ensures value { result ≡ room self.now id }
         ensures follows { 0 < id → (history : List Step) → Follows history self.now → result
@@ -235,7 +284,7 @@ impl SendWindows {
         self.balances.contains_key(&id)
     }
 
-    /// Closes a stream. One that isn't open is none to close, and nothing changes.
+    /// Closes a stream. If it isn't open nothing changes.
     pub fn close(&mut self, id: StreamId)
         ensures value { self.new ≡ closed self.old id }
         ensures follows { (history : List Step) → Follows history self.old
@@ -253,7 +302,7 @@ fn all_fit(balances: &IndexMap<StreamId, Balance>, size: u32) -> bool
         (values_of balances.now.entries) }
     ensures unique { IsUnique nat_eq balances.now }
 {
-    // That no key stands twice is said by `len`.
+    // `len` says that no key comes twice.
     let _count = balances.len();
     balances.values().all(|balance| balance.fits(size))
 }

@@ -17,7 +17,8 @@ const SYN: u8 = 0x02;
 
 const ACK: u8 = 0x10;
 
-/// Half of all sequence numbers. One that is so many ahead of another is behind it (RFC 9293, section 3.4).
+/// Half of all sequence numbers. A number that is this far ahead of another counts as before it
+/// (RFC 9293, section 3.4).
 const HALF: u32 = 1 << 31;
 
 /// The microseconds of a second.
@@ -35,7 +36,7 @@ struct Talk {
     /// The sequence numbers with which the sides go on, once that is known.
     client_next: Option<u32>,
     server_next: Option<u32>,
-    /// Whether nothing can be told of what comes.
+    /// Whether nothing can be said of what comes.
     is_broken: bool,
 }
 
@@ -112,7 +113,8 @@ impl Talks {
         Ok(())
     }
 
-    /// Whether the SYN of this packet came before, and nothing of its client since: it is sent again.
+    /// Whether the SYN of this packet came before, and nothing of its client since: it is sent
+    /// again.
     fn has_begun(&self, packet: &Packet) -> bool {
         let next = packet.head.sequence.wrapping_add(1);
         for talk in self.all.as_slice() {
@@ -124,7 +126,7 @@ impl Talks {
         false
     }
 
-    /// The last connection that a packet may be of, by its place, and who sent it.
+    /// The last connection to which a packet may belong, by its place, and who sent it.
     fn of(&self, packet: &Packet) -> Option<(usize, Side)> {
         let mut found = None;
         for (place, talk) in self.all.as_slice().iter().enumerate() {
@@ -135,8 +137,8 @@ impl Talks {
         found
     }
 
-    /// A connection whose first packets are not in the capture. Where these are a client's first bytes all of it can be told yet, and else
-    /// nothing.
+    /// A connection whose first packets are not in the capture. If these bytes are a client's
+    /// first, all of it can still be read; else nothing can.
     fn open<W: ConnWrite>(
         &mut self,
         packet: &Packet,
@@ -158,8 +160,8 @@ impl Talks {
 }
 
 impl Talk {
-    /// The next packet of a side came, at this time. One that is sent again is passed over. Behind bytes that are missing nothing is told:
-    /// where frames begin isn't known.
+    /// The next packet of a side came, at this time. A packet that is sent again is passed over.
+    /// After missing bytes nothing is printed: it isn't known where frames begin.
     fn take<W: ConnWrite>(
         &mut self,
         packet: &Packet,

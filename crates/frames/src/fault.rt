@@ -11,7 +11,7 @@ use trace::InputFault;
 /// Why no frames are printed, or no more.
 #[derive(Clone, Copy, Debug, PartialEq, Eq)]
 pub enum FramesFault {
-    /// What was read is nothing of which frames can be told.
+    /// What was read has no frames.
     BadInput(InputFault),
     /// One of two files has both sides.
     BothSides,

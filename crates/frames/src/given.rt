@@ -18,7 +18,8 @@ const FILE_HEAD: usize = 24;
 /// What a file has.
 #[derive(Drop)]
 pub enum Given {
-    /// The packets of a capture, of any number of connections, and why there are no more of them, where its end can't be read.
+    /// The packets of a capture, of any number of connections, and why there are no more of them,
+    /// where its end can't be read.
     Packets(Vec<Packet>, Option<InputFault>),
     /// What the sides of one connection sent.
     Pieces(Vec<Sent>),
@@ -50,7 +51,8 @@ fn packets_of(alloc: Global, file: &[u8]) -> Result<Given, FramesFault> {
     Ok(Given::Packets(packets, Some(InputFault::Capture(fault))))
 }
 
-/// What two files have, which have a side each: the client's begins with its preface, or it is said which the first has.
+/// What two files have, which have a side each: the client's begins with its preface, or it is said
+/// which the first has.
 ///
 /// # Errors
 ///
@@ -102,7 +104,7 @@ fn one_of(alloc: Global, file: &[u8]) -> Result<Sent, FramesFault> {
     }
 }
 
-/// Says who sent the first of them, if that is named.
+/// Notes who sent the first of the pieces, if that is named.
 fn name_first(pieces: &mut Vec<Sent>, named: Option<Named>) {
     if let (Some(named), Some(first)) = (named, pieces.first_mut()) {
         first.side = side_of(named);

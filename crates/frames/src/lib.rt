@@ -1,9 +1,11 @@
-//! The frames in bytes of connections, a line for each: what a trace would have said of them.
+//! The command `frames`, which prints a line for each frame of a file.
 //!
-//! A file has a capture that this program wrote, of any number of connections; or what `trace::sent_of` reads: what both sides of a
-//! connection sent, or one side, as text or as it is. Two files have a side each.
+//! A file has a capture that this program wrote, of any number of connections; or what
+//! `trace::sent_of` reads: what both sides of a connection sent, or one side, as text or as it is.
+//! Two files have a side each.
 //!
-//! Read `given` for what files have, `printing` for lines, `captured` for those of a capture, and `run` for the command.
+//! Read `given` for what files have, `printing` for lines, `captured` for those of a capture, and
+//! `run` for the command.
 #![tactic(auto)]
 
 mod captured;

@@ -9,7 +9,7 @@ use trace::{Form, Line, Shown, Trace};
 /// The microseconds of a second.
 const SECOND: u64 = 1_000_000;
 
-/// How many bytes a trace is told at once.
+/// How many bytes a trace is shown at once.
 const PIECE: usize = 65_536;
 
 /// A connection whose frames are printed.
@@ -60,7 +60,7 @@ impl Printing {
         Ok(())
     }
 
-    /// So many bytes of a side are missing.
+    /// Bytes of a side are missing, by their number.
     pub fn missing<W: ConnWrite>(
         &mut self,
         time: u64,

@@ -15,8 +15,8 @@ use words::FramesWords;
 ///
 /// # Errors
 ///
-/// `ReadFailed` where a file can't be read; standard error says which, and why. Where the end of a capture can't be read, `BadInput`
-/// comes once the frames before it are printed.
+/// `ReadFailed` where a file can't be read; standard error says which, and why. Where the end of a
+/// capture can't be read, `BadInput` comes once the frames before it are printed.
 pub fn run_frames<R, I, W>(
     rt: &R,
     words: &FramesWords<'_>,
@@ -59,7 +59,7 @@ fn read_file<R: Files + Eprint + AllocGlobal>(rt: &R, name: &str) -> Result<Vec<
     match fs::read(rt, name) {
         Ok(bytes) => Ok(bytes),
         Err(why) => {
-            // The exit status tells of it even where nothing can be said here.
+            // The exit status reports it even if nothing can be written here.
             let _said = eprintln!(rt; "interop: {name} can't be read: {why}");
             Err(FramesFault::ReadFailed)
         }

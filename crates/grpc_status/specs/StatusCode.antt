@@ -1,7 +1,25 @@
 -- The codes of gRPC statuses and their numbers (gRPC, "Status codes and their use in gRPC").
 use Rattle.std.specs.Prelude.{◌≡◌, ℕ, ◌==◌, List, [], ◌∷◌, Option, Some, None, find, refl}
 use Rattle.grpc_status.specs.declared.StatusCode.{StatusCode}
-use Rattle.grpc_status.specs.declared.StatusCode.TheVariants.{Ok, Cancelled, Unknown, InvalidArgument, DeadlineExceeded, NotFound, AlreadyExists, PermissionDenied, ResourceExhausted, FailedPrecondition, Aborted, OutOfRange, Unimplemented, Internal, Unavailable, DataLoss, Unauthenticated}
+use Rattle.grpc_status.specs.declared.StatusCode.TheVariants.{
+  Ok,
+  Cancelled,
+  Unknown,
+  InvalidArgument,
+  DeadlineExceeded,
+  NotFound,
+  AlreadyExists,
+  PermissionDenied,
+  ResourceExhausted,
+  FailedPrecondition,
+  Aborted,
+  OutOfRange,
+  Unimplemented,
+  Internal,
+  Unavailable,
+  DataLoss,
+  Unauthenticated,
+}
 
 -- the number of a code
 abbrev pub status_number : StatusCode → ℕ
@@ -25,7 +43,9 @@ status_number Unauthenticated = 16
 
 abbrev pub all_codes : List StatusCode
 all_codes =
-    Ok ∷ Cancelled ∷ Unknown ∷ InvalidArgument ∷ DeadlineExceeded ∷ NotFound ∷ AlreadyExists ∷ PermissionDenied ∷ ResourceExhausted ∷ FailedPrecondition ∷ Aborted ∷ OutOfRange ∷ Unimplemented ∷ Internal ∷ Unavailable ∷ DataLoss ∷ Unauthenticated ∷ []
+    Ok ∷ Cancelled ∷ Unknown ∷ InvalidArgument ∷ DeadlineExceeded ∷ NotFound ∷ AlreadyExists
+    ∷ PermissionDenied ∷ ResourceExhausted ∷ FailedPrecondition ∷ Aborted ∷ OutOfRange
+    ∷ Unimplemented ∷ Internal ∷ Unavailable ∷ DataLoss ∷ Unauthenticated ∷ []
 
 -- the code that has this number
 abbrev pub code_with : ℕ → Option StatusCode

@@ -1,7 +1,7 @@
 //! The codes of gRPC statuses (gRPC, "Status codes and their use in gRPC").
 //!
-//! How a call ended is told in the field `grpc-status` of its trailers, by the number of its code. The texts beside
-//! them are whoever's who ends the call.
+//! The field `grpc-status` of a call's trailers says how the call ended, by the number of a code.
+//! The text beside it comes from whoever ends the call.
 #![tactic(auto)]
 
 ghost use Rattle.std.specs.Prelude.{◌≡◌, ◌≤◌};
@@ -30,7 +30,7 @@ pub enum StatusCode {
 }
 
 impl StatusCode {
-    /// The number that stands for the code in `grpc-status`: 0 to 16.
+    /// The number of the code in `grpc-status`: 0 to 16.
     pub fn number(self) -> u32
         ensures number { result ≡ status_number self }
         ensures within { result ≤ 16 }
@@ -56,7 +56,7 @@ impl StatusCode {
         }
     }
 
-    /// The code that a number stands for, and none where it is over 16.
+    /// The code of a number, and none if that is over 16.
     pub fn from_number(number: u32) -> Option<StatusCode>
         ensures { result ≡ code_with number }
     {

@@ -5,3 +5,4 @@ pub mod OneReading
 pub mod Lists
 pub mod Steps
 pub mod Existence
+pub mod Rooms

@@ -1,7 +1,23 @@
 -- The error codes and their numbers (RFC 9113, section 7).
 use Rattle.std.specs.Prelude.{ℕ, ◌==◌, if◌then◌else◌}
 use Rattle.h2frame.specs.declared.error_code.ErrorCode.{ErrorCode}
-use Rattle.h2frame.specs.declared.error_code.ErrorCode.TheVariants.{NoError, ProtocolError, InternalError, FlowControlError, SettingsTimeout, StreamClosed, FrameSizeError, RefusedStream, Cancel, CompressionError, ConnectError, EnhanceYourCalm, InadequateSecurity, Http11Required, Unknown}
+use Rattle.h2frame.specs.declared.error_code.ErrorCode.TheVariants.{
+  NoError,
+  ProtocolError,
+  InternalError,
+  FlowControlError,
+  SettingsTimeout,
+  StreamClosed,
+  FrameSizeError,
+  RefusedStream,
+  Cancel,
+  CompressionError,
+  ConnectError,
+  EnhanceYourCalm,
+  InadequateSecurity,
+  Http11Required,
+  Unknown,
+}
 
 -- the number of an error
 abbrev pub error_number : ErrorCode → ℕ

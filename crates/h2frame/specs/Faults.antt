@@ -1,18 +1,57 @@
 -- Which frames are faulty, and what the first fault of each is (RFC 9113, section 6).
-use Rattle.std.specs.Prelude.{ℕ, ◌+◌, ◌^◌, ◌%◌, Bool, true, false, ◌==◌, nat_lt, nat_le, if◌then◌else◌, List, Option, Some, None}
+use Rattle.std.specs.Prelude.{
+  ℕ,
+  ◌+◌,
+  ◌^◌,
+  ◌%◌,
+  Bool,
+  true,
+  false,
+  ◌==◌,
+  nat_lt,
+  nat_le,
+  if◌then◌else◌,
+  List,
+  Option,
+  Some,
+  None,
+}
 use Rattle.std.specs.Option.{option_or}
 use Rattle.std.specs.Int.{w32, from_be_bytes}
 use Rattle.h2frame.specs.declared.error_code.ErrorCode.{ErrorCode}
-use Rattle.h2frame.specs.declared.error_code.ErrorCode.TheVariants.{ProtocolError, InternalError, FrameSizeError}
+use Rattle.h2frame.specs.declared.error_code.ErrorCode.TheVariants.{
+  ProtocolError,
+  InternalError,
+  FrameSizeError,
+}
 use Rattle.h2frame.specs.declared.fault.FrameFault.{FrameFault}
-use Rattle.h2frame.specs.declared.fault.FrameFault.TheVariants.{TooLong, BadLength, BadPadding, WrongStream, ZeroIncrement, OutOfMemory}
+use Rattle.h2frame.specs.declared.fault.FrameFault.TheVariants.{
+  TooLong,
+  BadLength,
+  BadPadding,
+  WrongStream,
+  ZeroIncrement,
+  OutOfMemory,
+}
 use Rattle.h2frame.specs.declared.frame.Frame.{Frame}
 use Rattle.h2frame.specs.declared.frame.FrameHead.{FrameHead}
 use Rattle.h2frame.specs.declared.kind.FrameKind.{FrameKind}
-use Rattle.h2frame.specs.declared.kind.FrameKind.TheVariants.{Data, Headers, Priority, RstStream, Settings, PushPromise, Ping, GoAway, WindowUpdate, Continuation, Unknown}
+use Rattle.h2frame.specs.declared.kind.FrameKind.TheVariants.{
+  Data,
+  Headers,
+  Priority,
+  RstStream,
+  Settings,
+  PushPromise,
+  Ping,
+  GoAway,
+  WindowUpdate,
+  Continuation,
+  Unknown,
+}
 use Rattle.h2frame.specs.Flags.{has, ack, is_padded, has_priority}
 
--- SETTINGS_MAX_FRAME_SIZE as it is until a peer is told otherwise (section 4.2)
+-- SETTINGS_MAX_FRAME_SIZE as it is until SETTINGS change it (section 4.2)
 abbrev pub max_payload : ℕ
 max_payload = 16384
 
@@ -30,7 +69,8 @@ may_be_on WindowUpdate stream = true
 may_be_on Continuation stream = nat_lt 0 stream
 may_be_on (Unknown code) stream = true
 
--- the bytes of a payload before its content: the length of the padding, and the priority (sections 6.1 and 6.2)
+-- the bytes of a payload before its content: the length of the padding, and the priority (sections
+-- 6.1 and 6.2)
 abbrev pub overhead : FrameHead → ℕ
 overhead head = (if is_padded head then 1 else 0) + (if has_priority head then 5 else 0)
 
@@ -40,7 +80,8 @@ may_have_length Data head = nat_le (overhead head) head.length
 may_have_length Headers head = nat_le (overhead head) head.length
 may_have_length Priority head = head.length == 5
 may_have_length RstStream head = head.length == 4
-may_have_length Settings head = if has ack head.flags then head.length == 0 else head.length % 6 == 0
+may_have_length Settings head =
+    if has ack head.flags then head.length == 0 else head.length % 6 == 0
 may_have_length PushPromise head = true
 may_have_length Ping head = head.length == 8
 may_have_length GoAway head = nat_le 8 head.length
@@ -56,7 +97,7 @@ head_fault head =
     (if may_have_length head.kind head then None else Some BadLength)
     else Some WrongStream)
 
--- the increment of a WINDOW_UPDATE's content: 31 bits behind one that is ignored (section 6.9)
+-- the increment of a WINDOW_UPDATE's content: 31 bits after one that is ignored (section 6.9)
 abbrev pub increment_of : List ℕ → ℕ
 increment_of content = from_be_bytes w32 content % 2 ^ 31
 
@@ -67,9 +108,10 @@ lacks_increment _ content = false
 -- the first fault of a frame whose padding is as it should be
 abbrev pub frame_fault : Frame → Option FrameFault
 frame_fault frame = option_or (head_fault frame.head)
-    (if lacks_increment frame.head.kind frame.content then Some (ZeroIncrement frame.head.stream) else None)
+    (if lacks_increment frame.head.kind frame.content then Some (ZeroIncrement frame.head.stream)
+    else None)
 
--- the error that a fault is to the peer (RFC 9113, sections 4.2 and 6)
+-- the error code of a fault (RFC 9113, sections 4.2 and 6)
 abbrev pub fault_error : FrameFault → ErrorCode
 fault_error TooLong = FrameSizeError
 fault_error BadLength = FrameSizeError

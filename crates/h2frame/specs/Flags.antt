@@ -39,6 +39,6 @@ has_priority_kind _ flags = false
 abbrev pub is_padded : FrameHead → Bool
 is_padded head = is_padded_kind head.kind head.flags
 
--- five bytes of priority stand before the content
+-- five bytes of priority come before the content
 abbrev pub has_priority : FrameHead → Bool
 has_priority head = has_priority_kind head.kind head.flags

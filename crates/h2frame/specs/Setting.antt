@@ -1,7 +1,15 @@
 -- The parameters of SETTINGS and their numbers (RFC 9113, section 6.5.2).
 use Rattle.std.specs.Prelude.{ℕ, ◌==◌, if◌then◌else◌}
 use Rattle.h2frame.specs.declared.setting.SettingId.{SettingId}
-use Rattle.h2frame.specs.declared.setting.SettingId.TheVariants.{HeaderTableSize, EnablePush, MaxConcurrentStreams, InitialWindowSize, MaxFrameSize, MaxHeaderListSize, Unknown}
+use Rattle.h2frame.specs.declared.setting.SettingId.TheVariants.{
+  HeaderTableSize,
+  EnablePush,
+  MaxConcurrentStreams,
+  InitialWindowSize,
+  MaxFrameSize,
+  MaxHeaderListSize,
+  Unknown,
+}
 
 -- the number of a parameter
 abbrev pub setting_code : SettingId → ℕ

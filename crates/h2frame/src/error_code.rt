@@ -20,7 +20,7 @@ pub enum ErrorCode {
     EnhanceYourCalm,
     InadequateSecurity,
     Http11Required,
-    /// One that the standard doesn't define, by its number.
+    /// An error that the standard doesn't define, by its number.
     Unknown(u32),
 }
 

@@ -13,16 +13,16 @@ pub enum FrameFault {
     /// The payload is over 16,384 bytes: FRAME_SIZE_ERROR.
     #[error("the frame is over 16384 bytes")]
     TooLong,
-    /// The payload's length is none that the frame's type may have: FRAME_SIZE_ERROR.
+    /// The payload's length isn't one that the frame's type may have: FRAME_SIZE_ERROR.
     #[error("the frame has a bad length")]
     BadLength,
-    /// The padding is longer than what is left of the payload: PROTOCOL_ERROR.
+    /// The padding is longer than the rest of the payload: PROTOCOL_ERROR.
     #[error("the padding is longer than the frame")]
     BadPadding,
     /// A frame of the connection on a stream, or one of a stream on the connection: PROTOCOL_ERROR.
     #[error("the frame is on the wrong stream")]
     WrongStream,
-    /// WINDOW_UPDATE without an increment: PROTOCOL_ERROR, of that stream alone where it isn't 0.
+    /// WINDOW_UPDATE without an increment: PROTOCOL_ERROR, of the stream alone if that isn't 0.
     #[error("the window update has no increment")]
     ZeroIncrement(StreamId),
     #[error("out of memory")]
@@ -44,7 +44,8 @@ impl FrameFault {
         }
     }
 
-    /// The error that the peer is told of the connection, or of the stream where `ZeroIncrement` names one.
+    /// The error code for the peer: of the connection, or of the stream where `ZeroIncrement` names
+    /// one.
     pub fn error_code(self) -> ErrorCode
         ensures { result ≡ fault_error self }
     {

@@ -3,7 +3,7 @@
 ghost use Rattle.std.specs.Prelude.{◌≡◌, bit_or};
 ghost use Rattle.h2frame.specs.Flags.{has};
 
-/// The eight flags of a frame, those without a meaning too (RFC 9113, section 4.1).
+/// The eight flags of a frame, also those without a meaning (RFC 9113, section 4.1).
 #[derive(Clone, Copy, Debug, PartialEq, Eq)]
 pub struct Flags {
     /// The byte in the frame's head.

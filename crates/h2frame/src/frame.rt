@@ -1,16 +1,26 @@
-//! A frame, and what its head tells by itself.
+//! A frame, and what its head says by itself.
 
 ghost use Rattle.std.specs.Prelude.{◌≡◌, ◌<◌, ◌≤◌, ◌^◌, length, IfNone};
 ghost use Rattle.h2frame.specs.Flags.{is_padded, has_priority};
-ghost use Rattle.h2frame.specs.Faults.{may_be_on, may_have_length, overhead, head_fault, frame_fault, increment_of, lacks_increment};
+ghost use Rattle.h2frame.specs.Faults.{
+  may_be_on,
+  may_have_length,
+  overhead,
+  head_fault,
+  frame_fault,
+  increment_of,
+  lacks_increment,
+};
 
 use crate::{Flags, FrameFault, FrameKind};
 use bytes::Bytes;
 
-/// The longest payload that is read or written: SETTINGS_MAX_FRAME_SIZE as RFC 9113, section 6.5.2, has it at first.
+/// The longest payload that is read or written: SETTINGS_MAX_FRAME_SIZE as RFC 9113, section 6.5.2,
+/// has it at first.
 pub const MAX_PAYLOAD: u32 = 16_384;
 
-/// The number of a stream, below 2^31, or 0 for the connection as a whole (RFC 9113, section 5.1.1).
+/// The number of a stream, below 2^31, or 0 for the connection as a whole (RFC 9113, section
+/// 5.1.1).
 pub type StreamId = u32;
 
 /// The head of a frame (RFC 9113, section 4.1).
@@ -32,7 +42,8 @@ pub struct Frame {
 }
 
 impl FrameHead {
-    /// Whether the payload begins with the length of its padding, which DATA and HEADERS alone may have.
+    /// Whether the payload begins with the length of its padding, which DATA and HEADERS alone may
+    /// have.
     pub fn is_padded(&self) -> bool
         ensures { result ≡ is_padded self.now }
     {
@@ -42,7 +53,7 @@ impl FrameHead {
         }
     }
 
-    /// Whether five bytes of priority stand before the content, which HEADERS alone may have.
+    /// Whether five bytes of priority come before the content, which HEADERS alone may have.
     pub fn has_priority(&self) -> bool
         ensures { result ≡ has_priority self.now }
     {
@@ -162,7 +173,7 @@ pub fn increment(content: &[u8]) -> u32
     u32::from_be_bytes([content[0], content[1], content[2], content[3]]) & 0x7fff_ffff
 }
 
-/// The eight bytes of a PING's content, which are sent back (RFC 9113, section 6.7).
+/// The eight bytes of a PING's content, which the answer repeats (RFC 9113, section 6.7).
 pub fn ping_bytes(content: &[u8]) -> [u8; 8]
     requires { length content.now ≡ 8 }
     ensures { result ≡ content.now }

@@ -1,4 +1,4 @@
-//! Laws of the frame list, for the proofs of callers. None of them does anything.
+//! Laws of the frame list, for the proofs of callers. The functions do nothing.
 
 ghost use Rattle.std.specs.Prelude.{◌≡◌, ◌<◌, ℕ, List, [], ◌++◌, All, Option, Some, map, flat_map};
 ghost use Rattle.std.specs.List.{AllByRecursion};
@@ -37,7 +37,7 @@ pub fn joins()
     ensures longer { (bytes : List ℕ) (entries : List Entry) (rest piece : List ℕ) →
         Joined bytes entries rest → Joined (bytes ++ piece) entries (rest ++ piece) }
 
-    // Frames that were written one after the other are read so.
+    // Frames that were written one after another are read so.
     ensures written { (frames : List Frame) →
         AllByRecursion (λ frame. Spells (spelled frame) (Whole frame)) frames →
         Joined (flat_map spelled frames) (map Whole frames) [] }

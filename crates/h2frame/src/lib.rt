@@ -1,16 +1,18 @@
 //! HTTP/2 frames: reading and writing (RFC 9113, sections 4 and 6).
 //!
-//! `FrameReader` reads frames from the bytes behind a connection's preface, in whatever pieces they come, and
-//! `write_frame` writes one. What bytes mean is said apart from both: `specs/Spelling.antt` has how a frame is spelled,
-//! `specs/Faults.antt` which frames are faulty, and `specs/FrameList.antt` the frame list of a byte list: the joined
-//! spellings of frames, then an unfinished rest or a fault. Bytes have one frame list and no other (`laws`). Each answer
-//! of the reader is the next entry of the list of all that was fed, however it was cut, and what is written is read as
-//! the same frame.
+//! `FrameReader` reads frames from the bytes after a connection's preface, in whatever pieces they
+//! come, and `write_frame` writes one. The meaning of bytes is defined apart from both:
+//! `specs/Spelling.antt` says how a frame is spelled, `specs/Faults.antt` which frames are faulty,
+//! and `specs/FrameList.antt` what the frame list of bytes is: the joined spellings of frames, then
+//! an unfinished rest or a fault. Bytes have one frame list and no other (`laws`). Each answer of
+//! the reader is the next entry of the list of all that was fed, however it was cut, and a frame
+//! that was written is read back.
 //!
-//! To be read in this order: `kind`, `flags`, `frame` and `fault` for the types, `reader` and `writer` for the calls,
-//! `span` for where a frame's content lies. `error_code` and `setting` name the numbers that contents carry, which are
-//! not read here; `settings` has what a peer's SETTINGS tell, for who reads them and who is told. Worked rows of bytes and
-//! their frames are those of the program `wire_rows`.
+//! Read `kind`, `flags`, `frame` and `fault` first, the types; then `reader` and `writer`, and
+//! `span`, which says where a frame's content is. `error_code` and `setting` name numbers that
+//! contents carry, which this crate doesn't read; `settings` has the settings of a peer, for the
+//! side that reads them and the side that applies them. The program `wire_rows` has worked rows of
+//! bytes and their frames.
 #![tactic(auto)]
 
 mod error_code;
@@ -20,6 +22,7 @@ mod frame;
 mod kind;
 mod laws;
 mod reader;
+mod room;
 mod setting;
 mod settings;
 mod small;

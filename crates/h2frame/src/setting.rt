@@ -12,7 +12,7 @@ pub enum SettingId {
     InitialWindowSize,
     MaxFrameSize,
     MaxHeaderListSize,
-    /// One that the standard doesn't define, by its number.
+    /// A parameter that the standard doesn't define, by its number.
     Unknown(u16),
 }
 

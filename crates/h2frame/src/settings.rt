@@ -1,6 +1,6 @@
-//! What a peer's SETTINGS tell the side that writes (RFC 9113, section 6.5.2).
+//! A peer's SETTINGS, for the side that writes (RFC 9113, section 6.5.2).
 //!
-//! One type for the side that reads frames and the one that writes them.
+//! The side that reads frames and the side that writes them share this type.
 
 ghost use Rattle.std.specs.Prelude.{◌≡◌};
 ghost use Rattle.h2frame.specs.Settings.{told};
@@ -8,17 +8,17 @@ ghost use Rattle.h2frame.specs.Settings.{told};
 use crate::SettingId;
 use std::marker::Model;
 
-/// What the peer's SETTINGS tell a server that writes header blocks and DATA.
+/// A setting of the peer that a server needs to write header blocks and DATA.
 #[derive(Clone, Copy, Debug, PartialEq, Eq)]
 pub enum PeerSetting {
     /// The largest dynamic table that its decoder keeps.
     TableSize(u32),
-    /// The window of each stream, at first.
+    /// The initial window of each stream.
     WindowSize(u32),
 }
 
 impl PeerSetting {
-    /// What a parameter with this value tells the server, if it isn't for others.
+    /// The setting of a parameter with this value, if a server needs it.
     pub fn told(id: SettingId, value: u32) -> Option<PeerSetting>
         ensures { result ≡ told id value }
     {
@@ -30,7 +30,7 @@ impl PeerSetting {
     }
 }
 
-/// What SETTINGS tell, in their order. A clause sees the list of them.
+/// The settings of a SETTINGS frame, in order. A clause sees them as a list.
 #[derive(Debug, Drop)]
 pub struct PeerSettings {
     items: Vec<PeerSetting>,
@@ -53,7 +53,7 @@ impl PeerSettings {
     }
 }
 
-/// Takes no memory.
+/// It takes no memory.
 impl From<Vec<PeerSetting>> for PeerSettings {
     ghost use Rattle.std.specs.Prelude.{◌≡◌};
 

@@ -6,11 +6,12 @@ use bytes::{Bytes, BytesMut};
 use std::alloc::{AllocError, Global};
 use std::marker::Model;
 
-/// The bytes of a block: what a content holds at most, where it is copied.
+/// The bytes of a block: the most that a copied content keeps.
 pub(crate) const SMALL_BLOCK: usize = 256;
 
-/// Where contents of few bytes are copied to. They share blocks of 256 bytes, so that one of a single byte takes little more
-/// than that, and holds no more than a block. A block is used again once no content has a part of it.
+/// Keeps copies of contents of few bytes. They share blocks of 256 bytes, so that a content of one
+/// byte takes little more than that, and keeps no more than a block. A block is used again once no
+/// content has a part of it.
 #[derive(Drop)]
 pub struct SmallContents {
     block: BytesMut,

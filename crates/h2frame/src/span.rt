@@ -1,4 +1,4 @@
-//! Where a frame's content lies in the bytes that it is read from.
+//! Where a frame's content is in the bytes from which it is read.
 
 ghost use Rattle.std.specs.Prelude.{◌≡◌, ◌+◌, ◌≤◌, length, IfOk, IfSome};
 ghost use Rattle.h2frame.specs.Faults.{overhead};
@@ -9,7 +9,7 @@ use crate::{Flags, FrameFault, FrameHead, FrameKind};
 /// The bytes of a frame's head.
 pub(crate) const HEAD_LEN: usize = 9;
 
-/// A frame at the front of bytes, which is whole and has no fault up to its content.
+/// A frame at the front of bytes that is whole and has no fault up to its content.
 #[derive(Clone, Copy, Debug)]
 pub(crate) struct Span {
     pub(crate) head: FrameHead,
@@ -30,8 +30,9 @@ impl Span {
     }
 }
 
-/// The frame at the front: nothing while it isn't whole, or the first fault of RFC 9113, section 4.2 and 6. A fault
-/// of the head stands before the payload is there, one of the padding when it is.
+/// The frame at the front: nothing while it isn't whole, or the first fault by RFC 9113, sections
+/// 4.2 and 6. A fault of the head is answered before the payload is there, a fault of the padding
+/// once it is.
 #[tactic(auto, unfolding(crate::specs::Reading::span_at))]
 pub(crate) fn span_at(bytes: &[u8]) -> Option<Result<Span, FrameFault>>
     ensures span { result ≡ span_at bytes.now }

@@ -1,9 +1,24 @@
 //! Writing frames.
 //!
-//! It asks that the head isn't padded and has no priority by its kind (`is_padded`, `has_priority`): a frame of an
-//! unknown type may have those bits set, since there they mean nothing.
+//! A head that is written has no padding and no priority, by its kind (`is_padded`,
+//! `has_priority`). A frame of an unknown type may have those bits, since they mean nothing there.
 
-ghost use Rattle.std.specs.Prelude.{◌≡◌, ◌<◌, ◌≤◌, ◌+◌, ◌++◌, ◌⊎◌, Some, Err, IfErr, OnOk, OnErr, length, vec_capacity, vec_len};
+ghost use Rattle.std.specs.Prelude.{
+  ◌≡◌,
+  ◌<◌,
+  ◌≤◌,
+  ◌+◌,
+  ◌++◌,
+  ◌⊎◌,
+  Some,
+  Err,
+  IfErr,
+  OnOk,
+  OnErr,
+  length,
+  vec_capacity,
+  vec_len,
+};
 ghost use Rattle.h2frame.specs.Faults.{frame_fault};
 ghost use Rattle.h2frame.specs.FrameList.{Whole, Spells};
 ghost use Rattle.h2frame.specs.Spelling.{IsWritable, head_text, spelled};
@@ -19,7 +34,8 @@ pub fn head_text(head: &FrameHead) -> [u8; 9]
     [a, b, c, head.kind.code(), head.flags.bits, s, t, u, v]
 }
 
-/// Appends the frame, which isn't padded and has no priority (`IsWritable`). It refuses what a reader would.
+/// Appends the frame, which isn't padded and has no priority (`IsWritable`). Memory aside, it
+/// refuses exactly what a reader would refuse, for the same fault.
 pub fn write_frame(frame: &Frame, out: &mut Vec<u8>) -> Result<(), FrameFault>
     requires { IsWritable frame.now }
     ensures ok { OnOk result (out.new.items ≡ out.old.items ++ spelled frame.now) }
@@ -32,7 +48,7 @@ pub fn write_frame(frame: &Frame, out: &mut Vec<u8>) -> Result<(), FrameFault>
         (λ fault. (fault ≡ FrameFault.OutOfMemory) ⊎ (frame_fault frame.now ≡ Some fault)) }
     ensures err { OnErr result (out.new.items ≡ out.old.items) }
 
-    // Where there is room it takes no memory.
+    // If there is room it takes no memory.
     ensures full { result ≡ Err FrameFault.OutOfMemory
         → vec_capacity out.old < vec_len out.old + length (spelled frame.now) }
     ensures capacity { vec_capacity out.old ≤ vec_capacity out.new }

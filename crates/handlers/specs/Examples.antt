@@ -1,5 +1,24 @@
 -- Worked judgements, answers and replies, computed.
-use Rattle.std.specs.Prelude.{◌≡◌, refl, ℕ, ℤ, pos, negsuc, true, false, List, [], ◌∷◌, Option, Some, None, Result, Ok, Err, codes}
+use Rattle.std.specs.Prelude.{
+  ◌≡◌,
+  refl,
+  ℕ,
+  ℤ,
+  pos,
+  negsuc,
+  true,
+  false,
+  List,
+  [],
+  ◌∷◌,
+  Option,
+  Some,
+  None,
+  Result,
+  Ok,
+  Err,
+  codes,
+}
 use Rattle.std.proofs.Common.{inr, lit<, lit≤}
 use Rattle.pbwire.specs.Spelling.{varint_spelling}
 use Rattle.testproto.specs.declared.messages.BoolValue.{BoolValue}
@@ -7,7 +26,13 @@ use Rattle.testproto.specs.declared.messages.EchoStatus.{EchoStatus}
 use Rattle.testproto.specs.declared.messages.SimpleRequest.{SimpleRequest}
 use Rattle.grpc_status.specs.declared.StatusCode.TheVariants.{NotFound, Unauthenticated, Unknown}
 use Rattle.handlers.specs.declared.status.Status.{Status}
-use Rattle.handlers.specs.declared.status.Refusal.TheVariants.{NotCompressed, BadResponseType, BadResponseSize, SumOutOfRange, WrongNumber}
+use Rattle.handlers.specs.declared.status.Refusal.TheVariants.{
+  NotCompressed,
+  BadResponseType,
+  BadResponseSize,
+  SumOutOfRange,
+  WrongNumber,
+}
 use Rattle.handlers.specs.declared.reply.Reply.{Reply}
 use Rattle.handlers.specs.declared.reply.Reply.TheVariants.{Empty, Zeros, Sum}
 use Rattle.handlers.specs.Statuses.{status, status_of}
@@ -16,9 +41,9 @@ use Rattle.handlers.specs.Requests.{known_code, is_size, judge_simple}
 use Rattle.handlers.specs.Answers.{AnswersSingle, AnswersFull, AnswersHalf, AnswersSum}
 use Rattle.handlers.specs.Replies.{reply_bytes}
 
--- ---- the causes, in their order
+-- ---- the causes, in order
 
--- a request that nothing is right with, but for what is given here
+-- a request in which all is wrong but what is given here
 abbrev pub wrong_request : Option BoolValue → Option EchoStatus → ℤ → SimpleRequest
 wrong_request expected asked kind = record {
   response_type = kind;
@@ -34,10 +59,13 @@ wrong_request expected asked kind = record {
 abbrev pub echo : EchoStatus
 echo = record { code = pos 17; message = codes "x" }
 
-pub compression_first : judge_simple (wrong_request (Some (record { value = true })) (Some echo) (pos 1)) ≡ Err (status_of NotCompressed)
+pub compression_first :
+    judge_simple (wrong_request (Some (record { value = true })) (Some echo) (pos 1))
+    ≡ Err (status_of NotCompressed)
 compression_first = refl
 
-pub then_the_asked_status : judge_simple (wrong_request None (Some echo) (pos 1)) ≡ Err (status Unknown (codes "x"))
+pub then_the_asked_status : judge_simple (wrong_request None (Some echo) (pos 1))
+    ≡ Err (status Unknown (codes "x"))
 then_the_asked_status = refl
 
 pub then_the_type : judge_simple (wrong_request None None (pos 1)) ≡ Err (status_of BadResponseType)
@@ -70,12 +98,25 @@ FirstNumber (size ∷ others) verdict = verdict ≡ Ok (Zeros size ∷ [])
 pub no_message : AnswersSingle FirstNumber [] true (ending [] (status_of WrongNumber))
 no_message = refl
 
-pub two_messages : AnswersSingle FirstNumber ((1 ∷ []) ∷ [] ∷ []) false (ending [] (status_of WrongNumber))
+pub two_messages :
+    AnswersSingle FirstNumber ((1 ∷ []) ∷ [] ∷ []) false (ending [] (status_of WrongNumber))
 two_messages = (Ok (Zeros 1 ∷ []), refl, refl)
 
 -- the third message isn't answered
-pub ended_by_the_second : AnswersFull FirstNumber ((1 ∷ []) ∷ [] ∷ (3 ∷ []) ∷ []) true (ending (Zeros 1 ∷ []) (status NotFound []))
-ended_by_the_second = inr ((1 ∷ []) ∷ [], [], (3 ∷ []) ∷ [], refl, (Zeros 1 ∷ []) ∷ [], (refl, tt), status NotFound [], refl, refl)
+pub ended_by_the_second :
+    AnswersFull FirstNumber ((1 ∷ []) ∷ [] ∷ (3 ∷ []) ∷ []) true
+    (ending (Zeros 1 ∷ []) (status NotFound []))
+ended_by_the_second = inr (
+  (1 ∷ []) ∷ [],
+  [],
+  (3 ∷ []) ∷ [],
+  refl,
+  (Zeros 1 ∷ []) ∷ [],
+  (refl, tt),
+  status NotFound [],
+  refl,
+  refl,
+)
 
 pub nothing_before_the_end : AnswersHalf FirstNumber ((1 ∷ []) ∷ [] ∷ []) false nothing
 nothing_before_the_end = refl
@@ -85,7 +126,9 @@ abbrev pub FirstLength : List ℕ → Result ℕ Status → Type 0
 FirstLength [] verdict = verdict ≡ Ok 0
 FirstLength (length ∷ others) verdict = verdict ≡ Ok length
 
-pub sum_passed : AnswersSum FirstLength ((2147483647 ∷ []) ∷ (1 ∷ []) ∷ []) false (ending [] (status_of SumOutOfRange))
+pub sum_passed :
+    AnswersSum FirstLength ((2147483647 ∷ []) ∷ (1 ∷ []) ∷ []) false
+    (ending [] (status_of SumOutOfRange))
 sum_passed = inr (
   (2147483647 ∷ []) ∷ [],
   1 ∷ [],
@@ -99,7 +142,8 @@ sum_passed = inr (
 )
 
 -- what follows a status changes nothing
-pub first_status_stays : joined (ending (Zeros 1 ∷ []) (status NotFound [])) (done []) ≡ ending (Zeros 1 ∷ []) (status NotFound [])
+pub first_status_stays : joined (ending (Zeros 1 ∷ []) (status NotFound [])) (done [])
+    ≡ ending (Zeros 1 ∷ []) (status NotFound [])
 first_status_stays = refl
 
 -- ---- the bytes of replies

@@ -1,13 +1,48 @@
--- How one request is judged (gRPC's interop-test-descriptions.md; where it is silent, our own rules).
--- A verdict on bytes is one that follows from a message that they are, or from there being none. A second message of a
--- method that takes one, and what stands behind a request that ends the call, need no verdict.
-use Rattle.std.specs.Prelude.{◌≡◌, ℕ, ℤ, pos, negsuc, zero, suc, Bool, true, false, if◌then◌else◌, List, [], ◌∷◌, map, length, Option, Some, None, Result, Ok, Err, nat_le, unwrap_or}
+-- How one request is judged (gRPC's interop-test-descriptions.md; where it is silent, our own
+-- rules). A verdict on bytes follows from the message that they are, or from their being none. A
+-- second message to a method that takes one, and what follows a request that ends the call, need no
+-- verdict.
+use Rattle.std.specs.Prelude.{
+  ◌≡◌,
+  ℕ,
+  ℤ,
+  pos,
+  negsuc,
+  zero,
+  suc,
+  Bool,
+  true,
+  false,
+  if◌then◌else◌,
+  List,
+  [],
+  ◌∷◌,
+  map,
+  length,
+  Option,
+  Some,
+  None,
+  Result,
+  Ok,
+  Err,
+  nat_le,
+  unwrap_or,
+}
 use Rattle.grpc_status.specs.declared.StatusCode.{StatusCode}
 use Rattle.grpc_status.specs.declared.StatusCode.TheVariants.{Unknown}
 use Rattle.grpc_status.specs.StatusCode.{code_with}
 use Rattle.pbwire.specs.Fields.{Field}
 use Rattle.testproto.specs.Values.{IsValueOf}
-use Rattle.testproto.specs.Messages.{AcceptsAll, IsEmpty, AcceptsSimpleRequest, IsSimpleRequest, AcceptsStreamingInputCallRequest, IsStreamingInputCallRequest, AcceptsStreamingOutputCallRequest, IsStreamingOutputCallRequest}
+use Rattle.testproto.specs.Messages.{
+  AcceptsAll,
+  IsEmpty,
+  AcceptsSimpleRequest,
+  IsSimpleRequest,
+  AcceptsStreamingInputCallRequest,
+  IsStreamingInputCallRequest,
+  AcceptsStreamingOutputCallRequest,
+  IsStreamingOutputCallRequest,
+}
 use Rattle.testproto.specs.declared.messages.Empty.{Empty as EmptyMessage}
 use Rattle.testproto.specs.declared.messages.Payload.{Payload}
 use Rattle.testproto.specs.declared.messages.BoolValue.{BoolValue}
@@ -17,25 +52,35 @@ use Rattle.testproto.specs.declared.messages.StreamingInputCallRequest.{Streamin
 use Rattle.testproto.specs.declared.messages.ResponseParameters.{ResponseParameters}
 use Rattle.testproto.specs.declared.messages.StreamingOutputCallRequest.{StreamingOutputCallRequest}
 use Rattle.handlers.specs.declared.status.Status.{Status}
-use Rattle.handlers.specs.declared.status.Refusal.TheVariants.{MalformedMessage, NotCompressed, BadResponseType, BadResponseSize}
+use Rattle.handlers.specs.declared.status.Refusal.TheVariants.{
+  MalformedMessage,
+  NotCompressed,
+  BadResponseType,
+  BadResponseSize,
+}
 use Rattle.handlers.specs.declared.reply.Reply.{Reply}
 use Rattle.handlers.specs.declared.reply.Reply.TheVariants.{Empty, Zeros}
 use Rattle.handlers.specs.Statuses.{status, status_of}
 
 -- ---- reading
 
--- the message that the bytes are, or none where they are no message
-abbrev pub IsRead : {M : Type 0} → (Field → Type 0) → (List Field → M → Type 0) → List ℕ → Option M → Type 0
+-- the message that the bytes are, or none if they are no message
+abbrev pub IsRead : {M : Type 0} → (Field → Type 0) → (List Field → M → Type 0) → List ℕ
+    → Option M → Type 0
 IsRead accepts is_value bytes (Some message) = IsValueOf accepts is_value bytes message
-IsRead {M} accepts is_value bytes None = (message : M) → IsValueOf accepts is_value bytes message → ⊥
+IsRead {M} accepts is_value bytes None =
+    (message : M) → IsValueOf accepts is_value bytes message → ⊥
 
--- The verdict on a request: a status that ends the call, or what it asks for. A malformed one ends the call.
+-- The verdict on a request: a status that ends the call, or what the request asks for. A malformed
+-- request ends the call.
 abbrev pub verdict : {M A : Type 0} → (M → Result A Status) → Option M → Result A Status
 verdict judge None = Err (status_of MalformedMessage)
 verdict judge (Some message) = judge message
 
-abbrev pub IsVerdict : {M A : Type 0} → (Field → Type 0) → (List Field → M → Type 0) → (M → Result A Status) → List ℕ → Result A Status → Type 0
-IsVerdict {M} accepts is_value judge bytes answer = (read : Option M) × IsRead accepts is_value bytes read × (answer ≡ verdict judge read)
+abbrev pub IsVerdict : {M A : Type 0} → (Field → Type 0) → (List Field → M → Type 0)
+    → (M → Result A Status) → List ℕ → Result A Status → Type 0
+IsVerdict {M} accepts is_value judge bytes answer =
+    (read : Option M) × IsRead accepts is_value bytes read × (answer ≡ verdict judge read)
 
 -- ---- the parts of a request
 
@@ -56,7 +101,8 @@ known_code (negsuc number) = Unknown
 -- the status that the request asks the call to end with, if its code isn't 0
 abbrev pub asked_status : Option EchoStatus → Option Status
 asked_status None = None
-asked_status (Some echo) = if is_zero echo.code then None else Some (status (known_code echo.code) echo.message)
+asked_status (Some echo) =
+    if is_zero echo.code then None else Some (status (known_code echo.code) echo.message)
 
 -- at most 4,000,000 bytes are answered
 abbrev pub is_size : ℤ → Bool
@@ -67,10 +113,11 @@ abbrev pub zeros : ℤ → Reply
 zeros (pos size) = Zeros size
 zeros (negsuc size) = Zeros 0
 
--- ---- the causes, in their order
+-- ---- the causes, in order
 
 abbrev pub unless_compressed : {A : Type 0} → Option BoolValue → Result A Status → Result A Status
-unless_compressed expected others = if is_true expected then Err (status_of NotCompressed) else others
+unless_compressed expected others =
+    if is_true expected then Err (status_of NotCompressed) else others
 
 abbrev pub unless_asked : {A : Type 0} → Option Status → Result A Status → Result A Status
 unless_asked None others = others
@@ -94,13 +141,15 @@ judge_simple request =
     unless_compressed request.expect_compressed
     (unless_asked (asked_status request.response_status)
     (unless_typed request.response_type
-    (if is_size request.response_size then Ok (zeros request.response_size ∷ []) else Err (status_of BadResponseSize))))
+    (if is_size request.response_size then Ok (zeros request.response_size ∷ [])
+    else Err (status_of BadResponseSize))))
 
 abbrev pub judge_output : StreamingOutputCallRequest → Result (List Reply) Status
 judge_output request =
     unless_asked (asked_status request.response_status)
     (unless_typed request.response_type
-    (if all_sizes request.response_parameters then Ok (map zeros_of request.response_parameters) else Err (status_of BadResponseSize)))
+    (if all_sizes request.response_parameters then Ok (map zeros_of request.response_parameters)
+    else Err (status_of BadResponseSize)))
 
 -- an absent payload has no byte
 abbrev pub body_length : Option Payload → ℕ
@@ -122,4 +171,5 @@ abbrev pub InputVerdict : List ℕ → Result ℕ Status → Type 0
 InputVerdict = IsVerdict AcceptsStreamingInputCallRequest IsStreamingInputCallRequest judge_input
 
 abbrev pub OutputVerdict : List ℕ → Result (List Reply) Status → Type 0
-OutputVerdict = IsVerdict AcceptsStreamingOutputCallRequest IsStreamingOutputCallRequest judge_output
+OutputVerdict =
+    IsVerdict AcceptsStreamingOutputCallRequest IsStreamingOutputCallRequest judge_output

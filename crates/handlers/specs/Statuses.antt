@@ -1,10 +1,22 @@
 -- The statuses that the methods give (gRPC's status codes; the texts are our own).
 use Rattle.std.specs.Prelude.{ℕ, List, [], codes}
 use Rattle.grpc_status.specs.declared.StatusCode.{StatusCode}
-use Rattle.grpc_status.specs.declared.StatusCode.TheVariants.{Ok, InvalidArgument, OutOfRange, Internal}
+use Rattle.grpc_status.specs.declared.StatusCode.TheVariants.{
+  Ok,
+  InvalidArgument,
+  OutOfRange,
+  Internal,
+}
 use Rattle.handlers.specs.declared.status.Status.{Status}
 use Rattle.handlers.specs.declared.status.Refusal.{Refusal}
-use Rattle.handlers.specs.declared.status.Refusal.TheVariants.{MalformedMessage, NotCompressed, BadResponseType, BadResponseSize, SumOutOfRange, WrongNumber}
+use Rattle.handlers.specs.declared.status.Refusal.TheVariants.{
+  MalformedMessage,
+  NotCompressed,
+  BadResponseType,
+  BadResponseSize,
+  SumOutOfRange,
+  WrongNumber,
+}
 
 abbrev pub status : StatusCode → List ℕ → Status
 status code text = record { code = code; text = text }

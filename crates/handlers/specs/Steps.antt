@@ -22,15 +22,16 @@ abbrev pub status_or_ok : Option Status → Status
 status_or_ok None = ok_status
 status_or_ok (Some status) = status
 
--- an answer whose end was told has a status: the one that there is, or OK
+-- at the end an answer has a status: the one that there is, or OK
 abbrev pub finished : Step → Step
 finished step = ending step.replies (status_or_ok step.ends)
 
--- a status once there stays
+-- the first status stays
 abbrev pub first_status : Option Status → Option Status → Option Status
 first_status None later = later
 first_status (Some status) later = Some status
 
 -- what was given, and what a step gives more
 abbrev pub joined : Step → Step → Step
-joined given more = record { replies = given.replies ++ more.replies; ends = first_status given.ends more.ends }
+joined given more =
+    record { replies = given.replies ++ more.replies; ends = first_status given.ends more.ends }

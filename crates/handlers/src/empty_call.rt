@@ -1,4 +1,4 @@
-//! EmptyCall: one message without fields, answered by one.
+//! EmptyCall: one message without fields, and one as the reply.
 
 ghost use Rattle.std.specs.Prelude.{codes};
 ghost use Rattle.handlers.specs.Requests.{EmptyVerdict};
@@ -14,7 +14,7 @@ use crate::status::Refusal;
 use crate::step::Step;
 use std::alloc::Global;
 
-/// Answers an empty message to one.
+/// Answers one empty message with another.
 #[derive(Clone, Copy, Debug)]
 pub struct EmptyCall;
 

@@ -1,4 +1,4 @@
-//! Why a method could not answer.
+//! Why a method couldn't answer.
 
 ghost use Rattle.std.specs.Prelude.{◌≡◌};
 ghost use Rattle.handlers.specs.declared.fault.MethodFault.TheVariants.{OutOfMemory};
@@ -6,7 +6,7 @@ ghost use Rattle.handlers.specs.declared.fault.MethodFault.TheVariants.{OutOfMem
 use std::alloc::{AllocError, AllocFailed};
 use thiserror::Error;
 
-/// Why a method could not answer.
+/// Why a method couldn't answer.
 #[derive(Clone, Copy, Debug, PartialEq, Eq, Error)]
 pub enum MethodFault {
     /// Memory ran out.

@@ -1,4 +1,4 @@
-//! FullDuplexCall: each request is answered as it is taken.
+//! FullDuplexCall: it answers each request as it takes it.
 
 ghost use Rattle.std.specs.Prelude.{◌≡◌, ◌++◌, ◌∷◌, [], codes};
 ghost use Rattle.handlers.specs.Requests.{OutputVerdict};

@@ -1,4 +1,4 @@
-//! HalfDuplexCall: each request is judged as it is taken, and all are answered when their end was told.
+//! HalfDuplexCall: it judges each request as it takes it, and answers all at the end.
 
 ghost use Rattle.std.specs.Prelude.{◌≡◌, ◌++◌, ◌∷◌, [], List, ℕ, false, IfOk, OnOk, codes};
 ghost use Rattle.handlers.specs.Requests.{OutputVerdict};
@@ -74,7 +74,7 @@ impl Method for HalfDuplexCall {
     }
 }
 
-/// What one request is answered: its replies, or the status that ends the call.
+/// The answer to one request: its replies, or the status that ends the call.
 fn answer_one(alloc: Global, message: &[u8]) -> Result<Step, MethodFault>
     ensures { IfOk result (λ step. AnswersFull OutputVerdict (message.now ∷ []) false step) }
 {
@@ -84,8 +84,8 @@ fn answer_one(alloc: Global, message: &[u8]) -> Result<Step, MethodFault>
     }
 }
 
-/// Holds what one more request is answered, unless one before it ends the call. Where memory runs out, what is held is of
-/// no more use.
+/// Holds the answer to one more request, unless one before it ends the call. If memory runs out,
+/// what is held is of no more use.
 fn hold_more(alloc: Global, held: &mut Step, message: &[u8]) -> Result<(), MethodFault>
     ensures { OnOk result
         ((messages : List (List ℕ)) → AnswersFull OutputVerdict messages false held.old

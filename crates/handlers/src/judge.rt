@@ -1,8 +1,37 @@
 //! How one request is read and judged.
 
-ghost use Rattle.std.specs.Prelude.{◌≡◌, ◌∷◌, [], map, true, false, IfOk, MatchOption, MatchResult, Ok, Err};
+ghost use Rattle.std.specs.Prelude.{
+  ◌≡◌,
+  ◌∷◌,
+  [],
+  map,
+  true,
+  false,
+  IfOk,
+  MatchOption,
+  MatchResult,
+  Ok,
+  Err,
+};
 ghost use Rattle.handlers.specs.declared.reply.Reply.TheVariants.{Empty as EmptyReply, Zeros};
-ghost use Rattle.handlers.specs.Requests.{IsRead, EmptyVerdict, SimpleVerdict, asked_status, is_true, is_size, zeros, zeros_of, all_sizes, known_code, judge_simple, judge_output, OutputVerdict, judge_input, InputVerdict, body_length};
+ghost use Rattle.handlers.specs.Requests.{
+  IsRead,
+  EmptyVerdict,
+  SimpleVerdict,
+  asked_status,
+  is_true,
+  is_size,
+  zeros,
+  zeros_of,
+  all_sizes,
+  known_code,
+  judge_simple,
+  judge_output,
+  OutputVerdict,
+  judge_input,
+  InputVerdict,
+  body_length,
+};
 
 use crate::fault::MethodFault;
 use crate::replies::Replies;
@@ -15,7 +44,7 @@ use testproto::{
     StreamingInputCallRequest, StreamingOutputCallRequest,
 };
 
-/// The longest payload that is answered.
+/// The length of the longest payload that is answered.
 const MAX_SIZE: i32 = 4_000_000;
 
 /// The message that the bytes are, or none where they are no message.
@@ -59,7 +88,7 @@ pub(crate) fn judge_unary(alloc: Global, bytes: &[u8]) -> Result<Result<u32, Sta
     }
 }
 
-/// What a request for one payload asks for, the causes in their order.
+/// What a request for one payload asks for, by the causes in order.
 fn unary_verdict(alloc: Global, request: &SimpleRequest) -> Result<Result<u32, Status>, MethodFault>
     ensures { IfOk result
         (λ verdict. MatchResult verdict (λ size. judge_simple request.now ≡ Ok (Zeros size ∷ []))
@@ -119,7 +148,7 @@ fn known_code(number: i32) -> StatusCode
     }
 }
 
-/// The length that is asked for, where it is answered.
+/// The length that is asked for, if it is answered.
 fn size_of(size: i32) -> Option<u32>
     ensures out_of_range { MatchOption result (is_size size ≡ false)
         (λ length. is_size size ≡ true) }
@@ -147,7 +176,7 @@ pub(crate) fn judge_output_call(
     }
 }
 
-/// What a request for several payloads asks for, the causes in their order.
+/// What a request for several payloads asks for, by the causes in order.
 fn output_verdict(
     alloc: Global,
     request: &StreamingOutputCallRequest,
@@ -168,7 +197,7 @@ fn output_verdict(
     }
 }
 
-/// A reply for each of the parameters, or none where one asks for a length that isn't answered.
+/// A reply for each of the parameters, or nothing if one asks for a length that isn't answered.
 fn replies_to(
     alloc: Global,
     parameters: &[ResponseParameters],

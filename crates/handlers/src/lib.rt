@@ -1,16 +1,18 @@
-//! What the interop test server answers to each of the seven methods of `grpc.testing.TestService` (gRPC's
-//! interop-test-descriptions.md), as state machines without threads and streams.
+//! The seven methods of `grpc.testing.TestService`, as state machines without threads. They answer
+//! as gRPC's interop-test-descriptions.md says.
 //!
-//! Promised: the replies and the status that a method's steps give, joined, are what `specs/Answers.antt` says of the
-//! whole list of messages and of whether their end was told ([`Method`], and [`run`] for all steps of a call), and
-//! there is only one answer; [`Reply::bytes`] is the canonical spelling of the response message, and
-//! [`Reply::write_front`] appends it but for the zeros of its payload, of which [`Reply::zeros`] is the number;
-//! [`Methods::find`] answers the least index with a path.
+//! Promised: the replies and the status that a method's steps give, joined, are the answer of
+//! `specs/Answers.antt` to the whole list of messages and whether they have ended ([`Method`], and
+//! [`run`] for all steps of a call). There is only one answer. [`Reply::bytes`] is the canonical
+//! spelling of the response message; [`Reply::write_front`] appends it without the zeros of its
+//! payload, whose number is [`Reply::zeros`]. [`Methods::find`] answers the least index with a
+//! path.
 //!
-//! Read [`status`], [`reply`], [`replies`], [`step`] and [`state`] first, the types; then [`method`], the law, and
-//! [`uses::whole_call`], a whole call by it. Then the methods: [`empty_call`] and [`unary_call`],
-//! [`streaming_output_call`], [`streaming_input_call`], [`full_duplex_call`] and [`half_duplex_call`]; `judge` is how a
-//! request is read and judged, `ending_steps` how a call ends. [`methods`] finds a method by its path.
+//! Read [`status`], [`reply`], [`replies`], [`step`] and [`state`] first, the types; then
+//! [`method`], the law, and [`uses::whole_call`], a whole call by it. Then the methods:
+//! [`empty_call`] and [`unary_call`], [`streaming_output_call`], [`streaming_input_call`],
+//! [`full_duplex_call`] and [`half_duplex_call`]; `judge` is how a request is read and judged,
+//! `ending_steps` how a call ends. [`methods`] finds a method by its path.
 #![tactic(auto)]
 
 pub mod empty_call;

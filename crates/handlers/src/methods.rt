@@ -1,13 +1,40 @@
 //! The methods of a server.
 //!
-//! In a contract they are their list. Who found an index calls the method at it, by `first`, `message` and `end`.
+//! In a contract they are their list. A caller who found an index calls the method at it by
+//! `first`, `message` and `end`.
 
-ghost use Rattle.std.specs.Prelude.{◌≡◌, ◌≢◌, ◌<◌, ◌++◌, ◌∷◌, [], List, ℕ, true, false, length, IfSome, IfNone, IfOk, OnOk, IsSome, slice_get, option_copied};
+ghost use Rattle.std.specs.Prelude.{
+  ◌≡◌,
+  ◌≢◌,
+  ◌<◌,
+  ◌++◌,
+  ◌∷◌,
+  [],
+  List,
+  ℕ,
+  true,
+  false,
+  length,
+  IfSome,
+  IfNone,
+  IfOk,
+  OnOk,
+  IsSome,
+  slice_get,
+  option_copied,
+};
 ghost use Rattle.std.specs.List.{HoldsAt, AllWithin};
 ghost use Rattle.handlers.specs.declared.state.MethodState.TheVariants.{Ended};
 ghost use Rattle.handlers.specs.declared.step.Step.{Step as Given};
 ghost use Rattle.handlers.specs.Steps.{nothing, joined};
-ghost use Rattle.handlers.specs.Answers.{HasAnswer, HasOneAnswer, HasGrowingReplies, HasShortReplies, HasStatusAtEnd, IsLawful};
+ghost use Rattle.handlers.specs.Answers.{
+  HasAnswer,
+  HasOneAnswer,
+  HasGrowingReplies,
+  HasShortReplies,
+  HasStatusAtEnd,
+  IsLawful,
+};
 ghost use Rattle.handlers.specs.Listed.{listed};
 
 use crate::fault::MethodFault;
@@ -23,7 +50,7 @@ pub struct Methods {
 }
 
 impl Methods {
-    /// Takes no memory.
+    /// It takes no memory.
     pub fn new(methods: Vec<Box<dyn Method>>) -> Methods
         ensures { listed result ≡ methods.items }
     {
@@ -70,7 +97,9 @@ impl Methods {
         first_of(method)
     }
 
-    /// Has the method at this index take the next message of a call.
+    /// Has the method at this index take the next message of a call. The step has what the method
+    /// answers to the messages with this one, less what it gave before. A state that has ended
+    /// gives nothing more.
     pub fn message(
         &self,
         alloc: Global,
@@ -95,7 +124,7 @@ impl Methods {
         message_of(method, alloc, state, message)
     }
 
-    /// Tells the method at this index that no message of a call follows.
+    /// Ends a call's messages for the method at this index: none follows.
     pub fn end(
         &self,
         alloc: Global,

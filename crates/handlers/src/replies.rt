@@ -1,9 +1,21 @@
 //! Replies in order, each held as the varint of a number: one byte for a reply of less than 128
-//! zeros. A method that holds its replies until the end of a call so holds less than came to ask
-//! for them: at least two bytes ask for such a reply, five for one that is held by two bytes, and
-//! eight for one that is held by five.
+//! zeros. So a method that holds its replies until the end of a call holds less than the bytes that
+//! asked for them: at least two bytes ask for such a reply, five for one that is held in two bytes,
+//! and eight for one that is held in five.
 
-ghost use Rattle.std.specs.Prelude.{◌≡◌, ◌↔◌, ◌++◌, ◌∷◌, [], List, IsTrue, IfOk, OnOk, OnErr, MatchOption};
+ghost use Rattle.std.specs.Prelude.{
+  ◌≡◌,
+  ◌↔◌,
+  ◌++◌,
+  ◌∷◌,
+  [],
+  List,
+  IsTrue,
+  IfOk,
+  OnOk,
+  OnErr,
+  MatchOption,
+};
 ghost use Rattle.handlers.specs.declared.reply.Reply.{Reply as ReplyOf};
 ghost use Rattle.handlers.specs.HeldReplies.{reply_of, numbers_of, IsNumber, AreHeld, BeginsWith};
 
@@ -12,14 +24,14 @@ use pbwire::{read_varint, varint_len, write_varint};
 use std::alloc::{AllocError, Global};
 use std::marker::Model;
 
-/// The number of a sum is its 32 bits and this. That of a payload, which is less, says how many
+/// The number of a sum is its 32 bits and this. The number of a payload is less, and is how many
 /// zeros it has.
 const SUMS: u64 = 0x1_0000_0000;
 
 /// The number of a message without a field.
 const EMPTY: u64 = 0x2_0000_0000;
 
-/// The number that a reply is held as.
+/// The number as which a reply is held.
 fn number_of(reply: Reply) -> u64
     ensures fits { IsNumber result }
     ensures reply { reply_of result ≡ reply }
@@ -62,7 +74,7 @@ fn first_number(bytes: &[u8]) -> Option<(u64, usize)>
 #[derive(Debug, Drop)]
 pub struct Replies {
     spelled: Vec<u8>,
-    /// How many of those bytes are of replies that were passed.
+    /// How many of those bytes belong to replies that were passed.
     passed: usize,
 }
 
@@ -116,7 +128,8 @@ impl Replies {
         self.first().is_none()
     }
 
-    /// Passes the first reply, if there is one. Its bytes stay in memory until the last is let go.
+    /// Passes the first reply, if there is one. Its bytes stay in memory until all replies are
+    /// dropped.
     pub fn pass(&mut self)
         ensures some { (reply : ReplyOf) (rest : List ReplyOf) → self.old ≡ reply ∷ rest
             → self.new ≡ rest }

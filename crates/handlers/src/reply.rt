@@ -1,13 +1,36 @@
-//! What a method replies, and the bytes of the message that says so.
+//! What a method replies, and the bytes of the response message.
 //!
-//! `Sum` holds an `i32`, the type of the field; the state's sum is a `u32`. The reply to UnaryCall is written as a
-//! StreamingOutputCallResponse: a SimpleResponse with the same payload is spelled the same (`specs/Replies.antt`).
+//! `Sum` holds an `i32`, the type of the field; the state's sum is a `u32`. The reply to UnaryCall
+//! is written as a StreamingOutputCallResponse: a SimpleResponse with that payload has the same
+//! spelling (`specs/Replies.antt`).
 
-ghost use Rattle.std.specs.Prelude.{◌≡◌, ◌+◌, ◌<◌, ◌≤◌, ◌++◌, length, replicate, vec_len, vec_capacity, IfOk, OnOk, OnErr};
+ghost use Rattle.std.specs.Prelude.{
+  ◌≡◌,
+  ◌+◌,
+  ◌<◌,
+  ◌≤◌,
+  ◌++◌,
+  length,
+  replicate,
+  vec_len,
+  vec_capacity,
+  IfOk,
+  OnOk,
+  OnErr,
+};
 ghost use Rattle.pbwire.specs.Spelling.{varint_spelling, spelling_of_all};
 ghost use Rattle.testproto.specs.Canonical.{payload_fields};
-ghost use Rattle.handlers.specs.declared.reply.Reply.TheVariants.{Zeros as ZerosReply, Sum as SumReply};
-ghost use Rattle.handlers.specs.Replies.{reply_bytes, front_bytes, body_head, zero_count, zero_payload};
+ghost use Rattle.handlers.specs.declared.reply.Reply.TheVariants.{
+  Zeros as ZerosReply,
+  Sum as SumReply,
+};
+ghost use Rattle.handlers.specs.Replies.{
+  reply_bytes,
+  front_bytes,
+  body_head,
+  zero_count,
+  zero_payload,
+};
 
 use crate::fault::MethodFault;
 use pbwire::{varint_len, write_varint};
@@ -24,7 +47,7 @@ pub enum Reply {
     Sum(i32),
 }
 
-/// Tags: the number of a field times 8, and 2 for what has a length or 0 for a varint.
+/// Tags: the number of a field times 8, plus 2 for a field with a length or 0 for a varint.
 const PAYLOAD_TAG: u64 = 10;
 
 const BODY_TAG: u64 = 18;
@@ -69,8 +92,8 @@ impl Reply {
         }
     }
 
-    /// Appends the bytes of the response message that stand before those zeros, in their canonical spelling. The payload
-    /// is always present, its type is left out.
+    /// Appends the bytes of the response message before those zeros, in their canonical spelling.
+    /// The payload is always present, and its type is left out.
     ///
     /// It takes memory at most once, and none where the buffer has room.
     pub fn write_front(&self, out: &mut Vec<u8>) -> Result<(), AllocError>

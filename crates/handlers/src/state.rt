@@ -1,8 +1,9 @@
 //! What a method keeps of a call between its steps.
 //!
-//! No message is kept. `Sum` holds the one length that UnaryCall needs of its message; EmptyCall needs to know only that
-//! there was one; StreamingOutputCall and HalfDuplexCall hold what they are to answer at the end. A state that a method
-//! never makes stands for nothing, and a step from it answers something harmless.
+//! No state keeps a message. `Sum` holds the one length that UnaryCall needs of its message.
+//! EmptyCall needs to know only that there was one. StreamingOutputCall and HalfDuplexCall hold
+//! what they are to answer at the end. A state that a method never makes stands for nothing, and a
+//! step from it answers something harmless.
 
 ghost use Rattle.std.specs.Prelude.{◌≡◌};
 
@@ -11,7 +12,7 @@ use crate::step::Step;
 /// What a method keeps of a call.
 #[derive(Debug, Drop)]
 pub enum MethodState {
-    /// Nothing, as before the first message.
+    /// Nothing: no message came.
     Fresh,
     /// A number: the sum of the lengths so far, or the length that the one message asks for.
     Sum(u32),
@@ -24,7 +25,7 @@ pub enum MethodState {
 }
 
 impl MethodState {
-    /// Is this state from now on.
+    /// Sets the state.
     pub(crate) fn set(&mut self, state: MethodState)
         ensures { self.new ≡ state }
     {

@@ -1,6 +1,7 @@
 //! The statuses that a method gives.
 //!
-//! A text of our own is a constant, and takes no memory; one that a request asks for is copied out of it.
+//! A text of our own is a constant, and takes no memory. A text that a request asks for is copied
+//! out of it.
 
 ghost use Rattle.std.specs.Prelude.{◌≡◌, [], IfOk, IsUtf8};
 ghost use Rattle.handlers.specs.Statuses.{status_of, ok_status};
@@ -10,7 +11,7 @@ use std::alloc::{AllocError, Global};
 use std::borrow::CowStr;
 use std::marker::Model;
 
-/// How a call ended: the code, and the text beside it.
+/// How a call ended: the code, and its text.
 #[derive(Debug, Drop)]
 pub struct Status {
     pub code: StatusCode,
@@ -65,7 +66,7 @@ impl StatusText {
 pub enum Refusal {
     /// The bytes are no message of the method's type.
     MalformedMessage,
-    /// A compressed message was to come, and it wasn't compressed.
+    /// A message that was to be compressed wasn't.
     NotCompressed,
     /// A payload of another type than zero bytes is asked for.
     BadResponseType,
@@ -73,7 +74,7 @@ pub enum Refusal {
     BadResponseSize,
     /// The sum of the lengths is too large for the field that it goes into.
     SumOutOfRange,
-    /// None or several messages, where the method takes one.
+    /// None or several messages came, where the method takes one.
     WrongNumber,
 }
 

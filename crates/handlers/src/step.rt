@@ -7,7 +7,7 @@ use crate::replies::Replies;
 use crate::status::Status;
 use std::alloc::{AllocError, Global};
 
-/// Replies, and the status that ends the call behind them, if one does.
+/// Replies, and the status that ends the call after them, if there is one.
 #[derive(Debug, Drop)]
 pub struct Step {
     pub replies: Replies,
@@ -55,7 +55,7 @@ impl Step {
         }
     }
 
-    /// The end of a call: the status that there is, or that of a call that went well.
+    /// The end of a call: the status that there is, or else OK.
     pub(crate) fn finished(self) -> Step
         ensures { result ≡ finished self }
     {
@@ -74,7 +74,7 @@ impl Step {
         }
     }
 
-    /// Adds what a later step gave. A status once there stays.
+    /// Adds what a later step gave. The first status stays.
     pub(crate) fn join(&mut self, more: Step) -> Result<(), AllocError>
         ensures { OnOk result (self.new ≡ joined self.old more) }
     {

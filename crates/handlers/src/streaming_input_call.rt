@@ -1,4 +1,4 @@
-//! StreamingInputCall: the lengths of the bodies are added up, and their sum is answered at the end.
+//! StreamingInputCall: it adds up the lengths of the bodies, and answers their sum at the end.
 
 ghost use Rattle.std.specs.Prelude.{◌≡◌, ◌+◌, ◌≤◌, ◌++◌, ◌∷◌, [], SomeIff, codes};
 ghost use Rattle.handlers.specs.Requests.{InputVerdict};
@@ -81,7 +81,7 @@ impl Method for StreamingInputCall {
     }
 }
 
-/// The sum with one more length, where the field can hold it.
+/// The sum with one more length, if the field can hold it.
 fn sum_of(sum: u32, length: usize) -> Option<u32>
     ensures { SomeIff result (sum + length ≤ 2147483647) (sum + length) }
 {

@@ -1,4 +1,4 @@
-//! StreamingOutputCall: one request, answered by a payload for each of its parameters.
+//! StreamingOutputCall: one request, and a payload for each of its parameters.
 
 ghost use Rattle.std.specs.Prelude.{◌≡◌, ◌++◌, ◌∷◌, [], codes};
 ghost use Rattle.handlers.specs.Requests.{OutputVerdict};

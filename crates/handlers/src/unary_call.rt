@@ -1,6 +1,19 @@
-//! UnaryCall and CacheableUnaryCall: one request, answered by one payload of the length that it asks for.
+//! UnaryCall and CacheableUnaryCall: one request, and one payload of the length that it asks for.
 
-ghost use Rattle.std.specs.Prelude.{◌≡◌, ◌++◌, ◌∷◌, [], List, ℕ, true, false, IfOk, OnOk, IsSome, codes};
+ghost use Rattle.std.specs.Prelude.{
+  ◌≡◌,
+  ◌++◌,
+  ◌∷◌,
+  [],
+  List,
+  ℕ,
+  true,
+  false,
+  IfOk,
+  OnOk,
+  IsSome,
+  codes,
+};
 ghost use Rattle.handlers.specs.declared.step.Step.{Step as Given};
 ghost use Rattle.handlers.specs.declared.state.MethodState.TheVariants.{Ended};
 ghost use Rattle.handlers.specs.Steps.{nothing, joined};

@@ -1,6 +1,39 @@
 -- On numbers as lists of bits.
-use Rattle.std.proofs.Common.{◌≡◌, ℕ, zero, suc, ◌+◌, ◌-◌, ◌*◌, ◌/◌, ◌%◌, ◌^◌, ◌<◌, ◌≤◌, List, [], ◌∷◌, ◌++◌, length, refl, sym, subst, ◌∙◌, ap, arith, append_assoc}
-use Rattle.std.proofs.lemmas.Nat.{pow_pos, shr-shr, shr_high, mod-pow-add, shr_split, mod-mul-add, shr_below}
+use Rattle.std.proofs.Common.{
+  ◌≡◌,
+  ℕ,
+  zero,
+  suc,
+  ◌+◌,
+  ◌-◌,
+  ◌*◌,
+  ◌/◌,
+  ◌%◌,
+  ◌^◌,
+  ◌<◌,
+  ◌≤◌,
+  List,
+  [],
+  ◌∷◌,
+  ◌++◌,
+  length,
+  refl,
+  sym,
+  subst,
+  ◌∙◌,
+  ap,
+  arith,
+  append_assoc,
+}
+use Rattle.std.proofs.lemmas.Nat.{
+  pow_pos,
+  shr-shr,
+  shr_high,
+  mod-pow-add,
+  shr_split,
+  mod-mul-add,
+  shr_below,
+}
 use Rattle.std.proofs.Math.Nat.{add-mul-div_right, pow-suc}
 use Rattle.hpack_codec.specs.Huffman.{bits}
 
@@ -15,12 +48,14 @@ unfolding bits
 bits-add zero n a = ap (λ k. bits k a) (let e : 0 + n ≡ n = omega arith in e)
 bits-add (suc m) n a =
     ap (λ k. bits k a) (let e : suc m + n ≡ suc (m + n) = omega arith in e)
-    ∙ ap (λ bit. bit ∷ bits (m + n) a) (ap (λ q. q % 2) (ap (λ k. a / 2 ^ k) (let e : m + n ≡ n + m = omega arith in e) ∙ sym (shr-shr a n m)))
+    ∙ ap (λ bit. bit ∷ bits (m + n) a) (ap (λ q. q % 2)
+    (ap (λ k. a / 2 ^ k) (let e : m + n ≡ n + m = omega arith in e) ∙ sym (shr-shr a n m)))
     ∙ ap (λ tail. a / 2 ^ n / 2 ^ m % 2 ∷ tail) (bits-add m n a)
 
 even_more : (q low p : ℕ) → 0 < p → (q * 2 * p + low) / p % 2 ≡ low / p % 2
 even_more q low p h =
-    ap (λ n. n % 2) (ap (λ n. n / p) (let e : q * 2 * p + low ≡ low + q * 2 * p = omega arith in e) ∙ add-mul-div_right low (q * 2) h)
+    ap (λ n. n % 2) (ap (λ n. n / p) (let e : q * 2 * p + low ≡ low + q * 2 * p = omega arith in e)
+    ∙ add-mul-div_right low (q * 2) h)
     ∙ (let e : (low / p + q * 2) % 2 ≡ low / p % 2 = omega arith in e)
 
 -- what is above the n low bits doesn't count
@@ -28,7 +63,8 @@ pub bits_low : (n q low : ℕ) → bits n (q * 2 ^ n + low) ≡ bits n low
 unfolding bits
 bits_low zero q low = refl
 bits_low (suc n) q low =
-    let again : q * 2 ^ suc n + low ≡ q * 2 * 2 ^ n + low = ap (λ k. q * k + low) (pow-suc 2 n) ∙ ap (λ k. k + low) (twice q (2 ^ n)) in
+    let again : q * 2 ^ suc n + low ≡ q * 2 * 2 ^ n + low =
+    ap (λ k. q * k + low) (pow-suc 2 n) ∙ ap (λ k. k + low) (twice q (2 ^ n)) in
     ap (bits (suc n)) again
     ∙ ap (λ bit. bit ∷ bits n (q * 2 * 2 ^ n + low)) (even_more q low (2 ^ n) (pow_pos n))
     ∙ ap (λ tail. low / 2 ^ n % 2 ∷ tail) (bits_low n (q * 2) low)
@@ -40,7 +76,8 @@ pub bits-mod : (n a : ℕ) → bits n (a % 2 ^ n) ≡ bits n a
 bits-mod n a = sym (ap (bits n) (sym (shr_split a n)) ∙ bits_low n (a / 2 ^ n) (a % 2 ^ n))
 
 -- one byte more
-pub bits_byte : (count register byte : ℕ) → byte < 256 → bits (count + 8) (register * 256 + byte) ≡ bits count register ++ bits 8 byte
+pub bits_byte : (count register byte : ℕ) → byte < 256
+    → bits (count + 8) (register * 256 + byte) ≡ bits count register ++ bits 8 byte
 bits_byte count register byte h =
     bits-add count 8 (register * 256 + byte)
     ∙ ap (λ n. bits count n ++ bits 8 (register * 256 + byte)) (shr_high register 8 byte h)
@@ -68,10 +105,12 @@ small_mod a m h = ap (λ n. n % m) (let e : a ≡ 0 * m + a = omega arith in e) 
 -- numbers of n bits with the same bits are one
 pub bits_one : (n a b : ℕ) → a < 2 ^ n → b < 2 ^ n → bits n a ≡ bits n b → a ≡ b
 bits_one n a b h k e =
-    sym (small_mod a (2 ^ n) h) ∙ sym (number_of-bits n a) ∙ ap number_of e ∙ number_of-bits n b ∙ small_mod b (2 ^ n) k
+    sym (small_mod a (2 ^ n) h) ∙ sym (number_of-bits n a) ∙ ap number_of e ∙ number_of-bits n b
+    ∙ small_mod b (2 ^ n) k
 
 -- fronts of one length of one list are one
-pub fronts_one : (xs ys rest more : List ℕ) → length xs ≡ length ys → xs ++ rest ≡ ys ++ more → (xs ≡ ys) × (rest ≡ more)
+pub fronts_one : (xs ys rest more : List ℕ) → length xs ≡ length ys → xs ++ rest ≡ ys ++ more
+    → (xs ≡ ys) × (rest ≡ more)
 fronts_one [] [] rest more l e = (refl, e)
 fronts_one [] (y ∷ ys) rest more l e = absurd (omega (arith, l))
 fronts_one (x ∷ xs) [] rest more l e = absurd (omega (arith, l))
@@ -82,11 +121,14 @@ fronts_one (x ∷ xs) (y ∷ ys) rest more l e =
     (cc (heads, same.0), same.1)
 
 -- The m first of the n bits of a number are those of its high part.
-pub high_bits : (m n a b : ℕ) (rest more : List ℕ) → m ≤ n → a < 2 ^ n → b < 2 ^ m → bits n a ++ rest ≡ bits m b ++ more → a / 2 ^ (n - m) ≡ b
+pub high_bits : (m n a b : ℕ) (rest more : List ℕ) → m ≤ n → a < 2 ^ n → b < 2 ^ m
+    → bits n a ++ rest ≡ bits m b ++ more → a / 2 ^ (n - m) ≡ b
 high_bits m n a b rest more le small fits e =
     let n_is : m + (n - m) ≡ n = omega arith in
     let parted : bits m (a / 2 ^ (n - m)) ++ (bits (n - m) a ++ rest) ≡ bits m b ++ more =
     sym (append_assoc (bits m (a / 2 ^ (n - m))) (bits (n - m) a) rest)
-    ∙ ap (λ front. front ++ rest) (sym (bits-add m (n - m) a)) ∙ ap (λ k. bits k a ++ rest) n_is ∙ e in
-    bits_one m (a / 2 ^ (n - m)) b (shr_below a m (n - m) (subst (λ (k : ℕ). a < 2 ^ k) (sym n_is) small)) fits
+    ∙ ap (λ front. front ++ rest) (sym (bits-add m (n - m) a))
+    ∙ ap (λ k. bits k a ++ rest) n_is ∙ e in
+    bits_one m (a / 2 ^ (n - m)) b
+    (shr_below a m (n - m) (subst (λ (k : ℕ). a < 2 ^ k) (sym n_is) small)) fits
     (fronts_one _ _ _ _ (length-bits m _ ∙ sym (length-bits m b)) parted).0

@@ -9,10 +9,12 @@ use Rattle.hpack_codec.specs.Table.{Table, entry_at, insert_entry, resize}
 abbrev pub IsName : Table → ℕ → List ℕ → List ℕ → Type 0
 IsName table zero text octets = IsString text octets
 IsName table (suc place) text octets =
-    (text ≡ []) × ((entry : Field) × (entry_at table (suc place) ≡ Some entry) × (octets ≡ entry.name))
+    (text ≡ [])
+    × ((entry : Field) × (entry_at table (suc place) ≡ Some entry) × (octets ≡ entry.name))
 
 -- an index with a prefix below flags, a name and a value
-pub record IsLiteral (prefix_bits flags : ℕ) (table : Table) (text : List ℕ) (field : Field) : Type 0 where
+pub record IsLiteral (prefix_bits flags : ℕ) (table : Table) (text : List ℕ)
+    (field : Field) : Type 0 where
   pub index : ℕ
   pub index_text : List ℕ
   pub name_text : List ℕ
@@ -32,8 +34,10 @@ pub data Form : Type 0 where
 -- The text spells the field in this form over the table, and leaves the next one.
 abbrev pub IsFormOf : Form → Table → List ℕ → Field → Table → Type 0
 IsFormOf Indexed table text field next =
-    ((index : ℕ) × IsInteger 7 128 text index × (entry_at table index ≡ Some field)) × (next ≡ table)
-IsFormOf Incremental table text field next = IsLiteral 6 64 table text field × (next ≡ insert_entry table field)
+    ((index : ℕ) × IsInteger 7 128 text index × (entry_at table index ≡ Some field))
+    × (next ≡ table)
+IsFormOf Incremental table text field next =
+    IsLiteral 6 64 table text field × (next ≡ insert_entry table field)
 IsFormOf WithoutIndexing table text field next = IsLiteral 4 0 table text field × (next ≡ table)
 IsFormOf NeverIndexed table text field next = IsLiteral 4 16 table text field × (next ≡ table)
 
@@ -55,8 +59,10 @@ AreUpdates table text (new_limit ∷ limits) next =
     × (text ≡ first ++ rest) × IsInteger 5 32 first new_limit × (new_limit ≤ 4096)
     × AreUpdates (resize table new_limit) rest limits next
 
--- Over the table the block spells these fields and leaves the next table: changes of size, and then fields.
-pub record IsBlock (table : Table) (block : List ℕ) (fields : List Field) (next : Table) : Type 0 where
+-- Over the table the block spells these fields and leaves the next table: changes of size, and then
+-- fields.
+pub record IsBlock (table : Table) (block : List ℕ) (fields : List Field)
+    (next : Table) : Type 0 where
   pub limits : List ℕ
   pub updates : List ℕ
   pub rest : List ℕ

@@ -1,5 +1,20 @@
 -- What a decoder and an encoder keep from block to block.
-use Rattle.std.specs.Prelude.{◌≡◌, ℕ, ◌^◌, ◌≤◌, ◌⊎◌, ◌++◌, All, codes, min, List, length, Option, Some, None}
+use Rattle.std.specs.Prelude.{
+  ◌≡◌,
+  ℕ,
+  ◌^◌,
+  ◌≤◌,
+  ◌⊎◌,
+  ◌++◌,
+  All,
+  codes,
+  min,
+  List,
+  length,
+  Option,
+  Some,
+  None,
+}
 use Rattle.hpack_codec.specs.declared.fault.HpackFault.{HpackFault}
 use Rattle.hpack_codec.specs.declared.fault.HpackFault.TheVariants.{Dead}
 use Rattle.lists.specs.declared.field.Field.{Field}
@@ -9,16 +24,18 @@ use Rattle.hpack_codec.specs.Faults.{Stands}
 
 -- From what it kept a live decoder reads these fields in the block, and keeps the next table.
 abbrev pub Reads : Option Table → List ℕ → List Field → Option Table → Type 0
-Reads (Some table) block fields (Some next) = IsBlock table block fields next × (sizes_of fields ≤ 65536)
+Reads (Some table) block fields (Some next) =
+    IsBlock table block fields next × (sizes_of fields ≤ 65536)
 Reads (Some table) block fields None = ⊥
 Reads None block fields kept = ⊥
 
--- The fault is the first from the left that stands in the block over the table that is kept.
+-- The fault is the first from the left in the block, over the table that is kept.
 abbrev pub IsFirstFault : HpackFault → Option Table → List ℕ → Type 0
 IsFirstFault fault (Some table) block = Stands fault table block
 IsFirstFault fault None block = fault ≡ Dead
 
--- What an encoder keeps: the table that its blocks led to, and the least limit set since then, or the table's.
+-- What an encoder keeps: the table that its blocks led to, and the least limit set since then, or
+-- the table's.
 pub record Encoding : Type 0 where
   pub table : Table
   pub least : ℕ
@@ -29,7 +46,8 @@ first_encoding = record { table = empty_table; least = 4096 }
 
 -- after a limit is set
 abbrev pub limited : Option Encoding → ℕ → Option Encoding
-limited (Some encoding) new_limit = Some (record { table = encoding.table; least = min encoding.least new_limit })
+limited (Some encoding) new_limit =
+    Some (record { table = encoding.table; least = min encoding.least new_limit })
 limited None new_limit = None
 
 -- From what it kept a live encoder writes this block of these fields, and keeps the next table.
@@ -50,7 +68,8 @@ abbrev pub encoding_of : Option Table → ℕ → Option Encoding
 encoding_of None least_limit = None
 encoding_of (Some table) least_limit = Some (record { table = table; least = least_limit })
 
--- A field of this name never becomes an entry: its value is a text that a request may have said, or an application's bytes.
+-- A field of this name never becomes an entry: its value is a text that a request may have said, or
+-- an application's bytes.
 abbrev pub IsPrivate : List ℕ → Type 0
 IsPrivate name = (name ≡ codes "grpc-message") ⊎ ((front : List ℕ) × (name ≡ front ++ codes "-bin"))
 

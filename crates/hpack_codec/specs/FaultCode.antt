@@ -1,7 +1,16 @@
 -- The numbers of the faults.
 use Rattle.std.specs.Prelude.{ℕ}
 use Rattle.hpack_codec.specs.declared.fault.HpackFault.{HpackFault}
-use Rattle.hpack_codec.specs.declared.fault.HpackFault.TheVariants.{Integer, Index, Huffman, SizeUpdate, Truncated, OutOfMemory, Dead, TooLarge}
+use Rattle.hpack_codec.specs.declared.fault.HpackFault.TheVariants.{
+  Integer,
+  Index,
+  Huffman,
+  SizeUpdate,
+  Truncated,
+  OutOfMemory,
+  Dead,
+  TooLarge,
+}
 
 abbrev pub code_of_fault : HpackFault → ℕ
 code_of_fault Integer = 1

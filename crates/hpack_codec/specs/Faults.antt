@@ -1,14 +1,38 @@
--- Where a block is none, and why: the first fault from the left.
-use Rattle.std.specs.Prelude.{◌≡◌, ◌≢◌, ℕ, zero, suc, ◌<◌, ◌≤◌, ◌⊎◌, List, [], ◌∷◌, ◌++◌, length, None}
+-- Why bytes aren't a block: the first fault from the left.
+use Rattle.std.specs.Prelude.{
+  ◌≡◌,
+  ◌≢◌,
+  ℕ,
+  zero,
+  suc,
+  ◌<◌,
+  ◌≤◌,
+  ◌⊎◌,
+  List,
+  [],
+  ◌∷◌,
+  ◌++◌,
+  length,
+  None,
+}
 use Rattle.hpack_codec.specs.declared.fault.HpackFault.{HpackFault}
-use Rattle.hpack_codec.specs.declared.fault.HpackFault.TheVariants.{Integer, Index, Huffman, SizeUpdate, Truncated, OutOfMemory, Dead, TooLarge}
+use Rattle.hpack_codec.specs.declared.fault.HpackFault.TheVariants.{
+  Integer,
+  Index,
+  Huffman,
+  SizeUpdate,
+  Truncated,
+  OutOfMemory,
+  Dead,
+  TooLarge,
+}
 use Rattle.lists.specs.declared.field.Field.{Field}
 use Rattle.hpack_codec.specs.Integer.{IsInteger, IsCut, IsEndless, IsOver}
 use Rattle.hpack_codec.specs.Huffman.{IsHuffman}
 use Rattle.hpack_codec.specs.Table.{Table, entry_at, sizes_of}
 use Rattle.hpack_codec.specs.Block.{IsName, IsBlock}
 
--- where an integer has to stand
+-- the fault where an integer has to be
 abbrev pub IsIntegerFault : HpackFault → ℕ → List ℕ → Type 0
 IsIntegerFault Integer prefix_bits bytes = IsEndless prefix_bits bytes ⊎ IsOver prefix_bits bytes
 IsIntegerFault Truncated prefix_bits bytes = IsCut prefix_bits bytes
@@ -32,26 +56,26 @@ pub record IsNoHuffman (bytes : List ℕ) : Type 0 where
   pub is_size : IsInteger 7 128 size (length content)
   pub none : (octets : List ℕ) → IsHuffman content octets → ⊥
 
--- where a string has to stand
+-- the fault where a string has to be
 abbrev pub IsStringFault : HpackFault → List ℕ → Type 0
 IsStringFault Integer bytes = IsIntegerFault Integer 7 bytes
 IsStringFault Truncated bytes = IsIntegerFault Truncated 7 bytes ⊎ IsCutString bytes
 IsStringFault Huffman bytes = IsNoHuffman bytes
 IsStringFault other bytes = ⊥
 
--- where the name of a literal with this index has to stand
+-- the fault where the name of a literal with this index has to be
 abbrev pub IsNameFault : HpackFault → Table → ℕ → List ℕ → Type 0
 IsNameFault fault table zero bytes = IsStringFault fault bytes
 IsNameFault fault table (suc place) bytes = (fault ≡ Index) × (entry_at table (suc place) ≡ None)
 
--- behind the index of a literal: at its name, or behind that at its value
+-- the fault after the index of a literal: at its name, or after that at its value
 abbrev pub IsPairFault : HpackFault → Table → ℕ → List ℕ → Type 0
 IsPairFault fault table index bytes =
     IsNameFault fault table index bytes
     ⊎ ((name_text octets rest : List ℕ)
     × (bytes ≡ name_text ++ rest) × IsName table index name_text octets × IsStringFault fault rest)
 
--- where a literal has to stand: at its index, or behind it
+-- the fault where a literal has to be: at its index, or after it
 abbrev pub IsLiteralFault : HpackFault → ℕ → ℕ → Table → List ℕ → Type 0
 IsLiteralFault fault prefix_bits flags table bytes =
     IsIntegerFault fault prefix_bits bytes
@@ -59,7 +83,7 @@ IsLiteralFault fault prefix_bits flags table bytes =
     × (bytes ≡ index_text ++ rest) × IsInteger prefix_bits flags index_text index
     × IsPairFault fault table index rest)
 
--- where an indexed field has to stand
+-- the fault where an indexed field has to be
 abbrev pub IsIndexedFault : HpackFault → Table → List ℕ → Type 0
 IsIndexedFault fault table bytes =
     IsIntegerFault fault 7 bytes
@@ -72,7 +96,7 @@ abbrev pub Begins : ℕ → ℕ → List ℕ → Type 0
 Begins least above bytes =
     (first : ℕ) × (rest : List ℕ) × (bytes ≡ first ∷ rest) × (least ≤ first) × (first < above)
 
--- a change of size that is none, before the first field
+-- the fault of a change of size, before the first field
 abbrev pub IsUpdateFault : HpackFault → List ℕ → Type 0
 IsUpdateFault fault bytes =
     IsIntegerFault fault 5 bytes
@@ -80,8 +104,8 @@ IsUpdateFault fault bytes =
     × (bytes ≡ limit_text ++ rest) × IsInteger 5 32 limit_text new_limit
     × (fault ≡ SizeUpdate) × (4096 < new_limit))
 
--- Behind these fields a representation has to stand, and there is none.
--- A change of size behind a field is a fault by its first byte.
+-- After these fields a representation has to come, and none does. A change of size after a field is
+-- a fault by its first byte.
 abbrev pub IsFaultBehind : HpackFault → List Field → Table → List ℕ → Type 0
 IsFaultBehind fault fields table bytes =
     (Begins 128 256 bytes × IsIndexedFault fault table bytes)
@@ -91,7 +115,7 @@ IsFaultBehind fault fields table bytes =
     ⊎ (Begins 32 64 bytes × (fields ≡ []) × IsUpdateFault fault bytes)
     ⊎ (Begins 32 64 bytes × (fields ≢ []) × (fault ≡ SizeUpdate))
 
--- What stands before it is a block of lawful size.
+-- The bytes before it are a block of lawful size.
 pub record StandsBehind (fault : HpackFault) (table : Table) (block : List ℕ) : Type 0 where
   pub front : List ℕ
   pub rest : List ℕ

@@ -1,5 +1,26 @@
 -- The Huffman code of RFC 7541, section 5.2 and appendix B.
-use Rattle.std.specs.Prelude.{◌≡◌, ℕ, zero, suc, ◌+◌, ◌*◌, ◌/◌, ◌%◌, ◌^◌, ◌<◌, ◌==◌, List, [], ◌∷◌, ◌++◌, length, take, count_by, slice_index, replicate}
+use Rattle.std.specs.Prelude.{
+  ◌≡◌,
+  ℕ,
+  zero,
+  suc,
+  ◌+◌,
+  ◌*◌,
+  ◌/◌,
+  ◌%◌,
+  ◌^◌,
+  ◌<◌,
+  ◌==◌,
+  List,
+  [],
+  ◌∷◌,
+  ◌++◌,
+  length,
+  take,
+  count_by,
+  slice_index,
+  replicate,
+}
 use Rattle.std.specs.List.{flat_map}
 
 -- How many bits the code of each symbol has: the bytes 0 to 255, and 256, the end of string.

@@ -1,5 +1,21 @@
 -- Integers (RFC 7541, section 5.1).
-use Rattle.std.specs.Prelude.{◌≡◌, ℕ, ◌+◌, ◌-◌, ◌*◌, ◌%◌, ◌^◌, ◌<◌, ◌≤◌, ◌⊎◌, List, [], ◌∷◌, ◌++◌, length}
+use Rattle.std.specs.Prelude.{
+  ◌≡◌,
+  ℕ,
+  ◌+◌,
+  ◌-◌,
+  ◌*◌,
+  ◌%◌,
+  ◌^◌,
+  ◌<◌,
+  ◌≤◌,
+  ◌⊎◌,
+  List,
+  [],
+  ◌∷◌,
+  ◌++◌,
+  length,
+}
 
 -- the seven low bits of each byte, the least significant byte first
 unfoldable pub base_128 : List ℕ → ℕ
@@ -11,13 +27,13 @@ unfoldable pub IsUnfinished : List ℕ → Type 0
 IsUnfinished [] = Unit {0}
 IsUnfinished (byte ∷ bytes) = (128 ≤ byte) × IsUnfinished bytes
 
--- A number below the greatest prefix is the prefix.
+-- A number below a prefix of all ones is the prefix.
 pub record IsShort (prefix_bits flags : ℕ) (text : List ℕ) (number : ℕ) : Type 0 where
   pub small : number + 1 < 2 ^ prefix_bits
   pub spelling : text ≡ (flags + number) ∷ []
 
--- Another one is the greatest prefix and what the bytes after it say, up to one without the top bit:
--- here at most five.
+-- Any other number is a prefix of all ones plus what the bytes after it say, up to one without the
+-- top bit: here at most five.
 pub record IsLong (prefix_bits flags : ℕ) (text : List ℕ) (number : ℕ) : Type 0 where
   pub front : List ℕ
   pub last : ℕ
@@ -33,7 +49,7 @@ abbrev pub IsInteger : ℕ → ℕ → List ℕ → ℕ → Type 0
 IsInteger prefix_bits flags text number =
     IsShort prefix_bits flags text number ⊎ IsLong prefix_bits flags text number
 
--- The bytes begin with the greatest prefix.
+-- The bytes begin with a prefix of all ones.
 abbrev pub BeginsLong : ℕ → List ℕ → List ℕ → Type 0
 BeginsLong prefix_bits bytes more =
     (first : ℕ) × (bytes ≡ first ∷ more) × (first % 2 ^ prefix_bits ≡ 2 ^ prefix_bits - 1)

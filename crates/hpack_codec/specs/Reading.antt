@@ -1,8 +1,37 @@
 -- What the parts of the decoder and the encoder do: facts that their private functions hand on.
-use Rattle.std.specs.Prelude.{◌≡◌, ℕ, ◌+◌, ◌-◌, ◌*◌, ◌/◌, ◌^◌, ◌<◌, ◌≤◌, ◌⊎◌, Bool, true, false, List, [], ◌∷◌, ◌++◌, length, Some, slice_get}
+use Rattle.std.specs.Prelude.{
+  ◌≡◌,
+  ℕ,
+  ◌+◌,
+  ◌-◌,
+  ◌*◌,
+  ◌/◌,
+  ◌^◌,
+  ◌<◌,
+  ◌≤◌,
+  ◌⊎◌,
+  Bool,
+  true,
+  false,
+  List,
+  [],
+  ◌∷◌,
+  ◌++◌,
+  length,
+  Some,
+  slice_get,
+}
 use Rattle.std.specs.List.{flat_map}
 use Rattle.hpack_codec.specs.declared.fault.HpackFault.{HpackFault}
-use Rattle.hpack_codec.specs.declared.fault.HpackFault.TheVariants.{Integer, Huffman, SizeUpdate, Truncated, OutOfMemory, Dead, TooLarge}
+use Rattle.hpack_codec.specs.declared.fault.HpackFault.TheVariants.{
+  Integer,
+  Huffman,
+  SizeUpdate,
+  Truncated,
+  OutOfMemory,
+  Dead,
+  TooLarge,
+}
 use Rattle.lists.specs.declared.field.Field.{Field}
 use Rattle.hpack_codec.specs.declared.found.Found.{Found}
 use Rattle.hpack_codec.specs.declared.found.Found.TheVariants.{Whole, Name, Nothing}
@@ -12,7 +41,13 @@ use Rattle.hpack_codec.specs.Huffman.{bits, code, IsHuffman, AreOctets}
 use Rattle.hpack_codec.specs.StringLiteral.{IsString}
 use Rattle.hpack_codec.specs.Table.{Table, entry_at, insert_entry, sizes_of}
 use Rattle.hpack_codec.specs.Block.{IsName, IsLiteral, Represents, AreUpdates, AreFields}
-use Rattle.hpack_codec.specs.Faults.{IsIndexedFault, IsLiteralFault, IsUpdateFault, IsFaultBehind, Begins}
+use Rattle.hpack_codec.specs.Faults.{
+  IsIndexedFault,
+  IsLiteralFault,
+  IsUpdateFault,
+  IsFaultBehind,
+  Begins,
+}
 
 -- new is old with a text of this meaning at its end
 abbrev pub Appends : List ℕ → List ℕ → (List ℕ → Type 0) → Type 0
@@ -23,7 +58,7 @@ unfoldable pub flags_of : ℕ → List ℕ → ℕ
 flags_of prefix_bits [] = 0
 flags_of prefix_bits (first ∷ rest) = first / 2 ^ prefix_bits * 2 ^ prefix_bits
 
--- The bytes behind a greatest prefix: up to the first without the top bit they say the number.
+-- The bytes after a prefix of all ones: up to the first without the top bit they say the number.
 pub record TakesMore (bytes : List ℕ) (number : ℕ) (rest : List ℕ) : Type 0 where
   pub front : List ℕ
   pub last : ℕ
@@ -33,7 +68,7 @@ pub record TakesMore (bytes : List ℕ) (number : ℕ) (rest : List ℕ) : Type 
   pub at_most_five : length front < 5
   pub sum : number ≡ base_128 (front ++ last ∷ [])
 
--- They end before such a byte, or there is none among five.
+-- The bytes end before a byte without the top bit, or none of the first five is one.
 abbrev pub IsMoreFault : HpackFault → List ℕ → Type 0
 IsMoreFault Truncated bytes = IsUnfinished bytes × (length bytes < 5)
 IsMoreFault Integer bytes =
@@ -43,7 +78,8 @@ IsMoreFault other bytes = ⊥
 -- An integer is taken from the front.
 abbrev pub TakesInteger : ℕ → List ℕ → ℕ → List ℕ → Type 0
 TakesInteger prefix_bits bytes number rest =
-    (text : List ℕ) × (bytes ≡ text ++ rest) × IsInteger prefix_bits (flags_of prefix_bits bytes) text number
+    (text : List ℕ) × (bytes ≡ text ++ rest)
+    × IsInteger prefix_bits (flags_of prefix_bits bytes) text number
 
 -- A string is taken from the front.
 abbrev pub TakesString : List ℕ → List ℕ → List ℕ → Type 0
@@ -51,7 +87,8 @@ TakesString bytes octets rest = (text : List ℕ) × (bytes ≡ text ++ rest) ×
 
 -- No symbol's code begins these bits.
 abbrev pub BeginsNoCode : List ℕ → Type 0
-BeginsNoCode register = (symbol : ℕ) (more : List ℕ) → symbol < 256 → register ≡ code symbol ++ more → ⊥
+BeginsNoCode register =
+    (symbol : ℕ) (more : List ℕ) → symbol < 256 → register ≡ code symbol ++ more → ⊥
 
 -- Octets were moved from the front of a register to the end of a list.
 pub record Drains (old new : List ℕ) (count register left_count left : ℕ) : Type 0 where
@@ -85,7 +122,7 @@ IsTextFault Huffman text = (octets : List ℕ) → IsHuffman text octets → ⊥
 IsTextFault OutOfMemory text = Unit {0}
 IsTextFault other text = ⊥
 
--- A fault that stands, or out of memory.
+-- A fault of the bytes, or out of memory.
 abbrev pub OrMemory : HpackFault → Type 0 → Type 0
 OrMemory OutOfMemory Fault = Unit {0}
 OrMemory other Fault = Fault
@@ -98,7 +135,8 @@ TakesName table index bytes octets rest =
 -- A literal is taken from the front.
 abbrev pub TakesLiteral : ℕ → Table → List ℕ → Field → List ℕ → Type 0
 TakesLiteral prefix_bits table bytes field rest =
-    (text : List ℕ) × (bytes ≡ text ++ rest) × IsLiteral prefix_bits (flags_of prefix_bits bytes) table text field
+    (text : List ℕ) × (bytes ≡ text ++ rest)
+    × IsLiteral prefix_bits (flags_of prefix_bits bytes) table text field
 
 -- An indexed field is taken from the front.
 abbrev pub TakesIndexed : Table → List ℕ → Field → List ℕ → Type 0
@@ -106,19 +144,20 @@ TakesIndexed table bytes field rest =
     (text : List ℕ) × (bytes ≡ text ++ rest)
     × ((index : ℕ) × IsInteger 7 128 text index × (entry_at table index ≡ Some field))
 
--- the table behind a field that becomes an entry, or doesn't
+-- the table after a field that becomes an entry, or doesn't
 abbrev pub next_table : Bool → Table → Field → Table
 next_table true table field = insert_entry table field
 next_table false table field = table
 
 -- A representation of a field is taken from the front.
-pub record TakesField (table : Table) (bytes : List ℕ) (field : Field) (is_entry : Bool) (rest : List ℕ) : Type 0 where
+pub record TakesField (table : Table) (bytes : List ℕ) (field : Field) (is_entry : Bool)
+    (rest : List ℕ) : Type 0 where
   pub text : List ℕ
   pub spelling : bytes ≡ text ++ rest
   pub represents : Represents table text field (next_table is_entry table field)
   pub shorter : length rest < length bytes
 
--- where a representation of a field has to stand; a change of size is none
+-- the fault where a representation of a field has to be; a change of size isn't one
 abbrev pub IsFieldFault : HpackFault → Table → List ℕ → Type 0
 IsFieldFault fault table bytes =
     (Begins 128 256 bytes × IsIndexedFault fault table bytes)
@@ -127,7 +166,7 @@ IsFieldFault fault table bytes =
     ⊎ (Begins 0 16 bytes × IsLiteralFault fault 4 0 table bytes)
     ⊎ (Begins 32 64 bytes × (fault ≡ SizeUpdate))
 
--- behind fields of lawful size
+-- the fault after fields of lawful size
 pub record FaultBehind (fault : HpackFault) (table : Table) (bytes : List ℕ) : Type 0 where
   pub front : List ℕ
   pub rest : List ℕ
@@ -154,7 +193,8 @@ IsFieldsFault OutOfMemory table bytes = Unit {0}
 IsFieldsFault other table bytes = FaultBehind other table bytes
 
 -- The changes of size at the front are taken, all of them.
-pub record TakesUpdates (table : Table) (bytes : List ℕ) (next : Table) (rest : List ℕ) : Type 0 where
+pub record TakesUpdates (table : Table) (bytes : List ℕ) (next : Table)
+    (rest : List ℕ) : Type 0 where
   pub text : List ℕ
   pub limits : List ℕ
   pub spelling : bytes ≡ text ++ rest
@@ -178,15 +218,19 @@ Changes table text next = (limits : List ℕ) × AreUpdates table text limits ne
 -- The static entry at this index has this name and value, or this name.
 abbrev pub IsStatic : Found → List ℕ → List ℕ → Type 0
 IsStatic (Whole index) name_bytes value_bytes =
-    (0 < index) × (index ≤ 61) × (slice_get static_table (index - 1) ≡ Some (entry name_bytes value_bytes))
+    (0 < index) × (index ≤ 61)
+    × (slice_get static_table (index - 1) ≡ Some (entry name_bytes value_bytes))
 IsStatic (Name index) name_bytes value_bytes =
-    (other : List ℕ) × (0 < index) × (index ≤ 61) × (slice_get static_table (index - 1) ≡ Some (entry name_bytes other))
+    (other : List ℕ) × (0 < index) × (index ≤ 61)
+    × (slice_get static_table (index - 1) ≡ Some (entry name_bytes other))
 IsStatic Nothing name_bytes value_bytes = Unit {0}
 
 -- The entry at this index of both tables has this name and value, or this name.
 abbrev pub IsFound : Table → Found → List ℕ → List ℕ → Type 0
-IsFound table (Whole index) name_bytes value_bytes = entry_at table index ≡ Some (entry name_bytes value_bytes)
-IsFound table (Name index) name_bytes value_bytes = (other : List ℕ) × (entry_at table index ≡ Some (entry name_bytes other))
+IsFound table (Whole index) name_bytes value_bytes =
+    entry_at table index ≡ Some (entry name_bytes value_bytes)
+IsFound table (Name index) name_bytes value_bytes =
+    (other : List ℕ) × (entry_at table index ≡ Some (entry name_bytes other))
 IsFound table Nothing name_bytes value_bytes = Unit {0}
 
 -- The index of a literal with this name: 0, or an entry's with the name.

@@ -1,5 +1,21 @@
 -- The tables (RFC 7541, sections 2.3 and 4).
-use Rattle.std.specs.Prelude.{ℕ, zero, suc, ◌+◌, ◌-◌, List, [], ◌∷◌, ◌++◌, length, Option, None, slice_get, nat_le, if◌then◌else◌}
+use Rattle.std.specs.Prelude.{
+  ℕ,
+  zero,
+  suc,
+  ◌+◌,
+  ◌-◌,
+  List,
+  [],
+  ◌∷◌,
+  ◌++◌,
+  length,
+  Option,
+  None,
+  slice_get,
+  nat_le,
+  if◌then◌else◌,
+}
 use Rattle.lists.specs.declared.field.Field.{Field}
 use Rattle.hpack_codec.specs.StaticTable.{static_table}
 
@@ -16,15 +32,16 @@ unfoldable pub sizes_of : List Field → ℕ
 sizes_of [] = 0
 sizes_of (field ∷ fields) = size_of field + sizes_of fields
 
--- as many of the first entries as have room together
+-- the longest front of the entries that has room
 unfoldable pub fitting : ℕ → List Field → List Field
 fitting room [] = []
 fitting room (entry ∷ older) =
     if nat_le (size_of entry) room then entry ∷ fitting (room - size_of entry) older else []
 
--- A new entry stands first, and the oldest go: all of them where it is larger than the table.
+-- A new entry is the first, and the oldest go: all of them, if it is larger than the table.
 abbrev pub insert_entry : Table → Field → Table
-insert_entry table field = record { entries = fitting table.limit (field ∷ table.entries); limit = table.limit }
+insert_entry table field =
+    record { entries = fitting table.limit (field ∷ table.entries); limit = table.limit }
 
 -- after a change of the limit
 abbrev pub resize : Table → ℕ → Table
@@ -34,7 +51,8 @@ resize table new_limit = record { entries = fitting new_limit table.entries; lim
 abbrev pub empty_table : Table
 empty_table = record { entries = []; limit = 4096 }
 
--- The entries of both tables by index: from 1 on the static ones, and then the dynamic ones, newest first.
+-- The entries of both tables by index: from 1 on the static ones, and then the dynamic ones, newest
+-- first.
 unfoldable pub entry_at : Table → ℕ → Option Field
 entry_at table zero = None
 entry_at table (suc place) = slice_get (static_table ++ table.entries) place

@@ -1,12 +1,44 @@
 //! Reading a header block (RFC 7541, sections 3.2 and 6).
-ghost use Rattle.std.specs.Prelude.{List, Option, MatchResult, ◌≡◌, ◌≢◌, ◌<◌, ◌≤◌, ◌⊎◌, [], length, Some, None, Err, IfOk, IfErr, OnOk, OnErr, true, false};
+ghost use Rattle.std.specs.Prelude.{
+  List,
+  Option,
+  MatchResult,
+  ◌≡◌,
+  ◌≢◌,
+  ◌<◌,
+  ◌≤◌,
+  ◌⊎◌,
+  [],
+  length,
+  Some,
+  None,
+  Err,
+  IfOk,
+  IfErr,
+  OnOk,
+  OnErr,
+  true,
+  false,
+};
 ghost use Rattle.lists.specs.declared.field.Field.{Field as FieldOf};
 ghost use Rattle.hpack_codec.specs.declared.fault.HpackFault.{HpackFault};
 ghost use Rattle.hpack_codec.specs.Table.{Table, empty_table, size_of, sizes_of};
 ghost use Rattle.hpack_codec.specs.Block.{AreFields};
 ghost use Rattle.hpack_codec.specs.Faults.{IsIndexedFault, IsLiteralFault, IsNameFault, Begins};
 ghost use Rattle.hpack_codec.specs.Codec.{Reads, IsFirstFault};
-ghost use Rattle.hpack_codec.specs.Reading.{OrMemory, TakesName, TakesLiteral, TakesIndexed, TakesField, TakesUpdates, IsFieldFault, IsFieldsFault, IsUpdatesFault, next_table, flags_of};
+ghost use Rattle.hpack_codec.specs.Reading.{
+  OrMemory,
+  TakesName,
+  TakesLiteral,
+  TakesIndexed,
+  TakesField,
+  TakesUpdates,
+  IsFieldFault,
+  IsFieldsFault,
+  IsUpdatesFault,
+  next_table,
+  flags_of,
+};
 
 use crate::fault::HpackFault;
 use crate::integer::integer;
@@ -23,10 +55,12 @@ use std::marker::Model;
 /// The sizes that the fields of a block may have together.
 const MAX_SIZES: usize = 65536;
 
-/// For how many fields a block's memory is taken at once, if it has as many bytes: no field has none.
+/// For how many fields a block's memory is taken at once, if it has as many bytes: no field has
+/// none.
 const MOST_AT_ONCE: usize = 16;
 
-/// Reads the blocks of one connection in their order. A clause sees the dynamic table, and none once it is dead.
+/// Reads the blocks of one connection in order. A clause sees the dynamic table, and none once it
+/// is dead.
 #[derive(Drop)]
 pub struct Decoder {
     alloc: Global,
@@ -92,7 +126,7 @@ impl Decoder {
     }
 }
 
-/// Makes the changes of size that a block begins with, and answers what is behind them.
+/// Makes the changes of size with which a block begins, and answers what follows them.
 fn updates<'b>(table: &mut DynamicTable, block: &'b [u8]) -> Result<&'b [u8], HpackFault>
     ensures ok { IfOk result (λ rest. TakesUpdates table.old block.now table.new rest.now) }
     ensures err { IfErr result (λ fault. IsUpdatesFault fault table.old block.now) }
@@ -163,7 +197,7 @@ fn keep(
     Ok(())
 }
 
-/// The first field, whether it becomes an entry, and the bytes behind it.
+/// The first field, whether it becomes an entry, and the bytes after it.
 fn field_at<'b>(
     alloc: Global,
     table: &DynamicTable,

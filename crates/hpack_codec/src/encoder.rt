@@ -1,12 +1,41 @@
 //! Writing a header block (RFC 7541, sections 3.2 and 6).
 //!
-//! A field of the tables is its index. Any other is a literal with the index of its name, if there is one, and becomes an
-//! entry, unless it is too large for that or private. `block` looks at the lengths of all fields before it takes memory,
-//! so `too_large` is exact, and then reserves what the block needs.
-ghost use Rattle.std.specs.Prelude.{◌≡◌, ◌<◌, ◌^◌, ◌≤◌, ◌⊎◌, ◌↔◌, ◌+◌, min, length, Some, None, Any, IfOk, IfErr, OnOk, OnErr, IsErrOf, IsSome, IsTrue};
+//! A field of the tables is written as its index. Any other field is a literal with the index of
+//! its name, if there is one, and becomes an entry, unless it is too large for that or private.
+//! `block` looks at the lengths of all fields before it takes memory, so `too_large` is exact, and
+//! then reserves what the block needs.
+ghost use Rattle.std.specs.Prelude.{
+  ◌≡◌,
+  ◌<◌,
+  ◌^◌,
+  ◌≤◌,
+  ◌⊎◌,
+  ◌↔◌,
+  ◌+◌,
+  min,
+  length,
+  Some,
+  None,
+  Any,
+  IfOk,
+  IfErr,
+  OnOk,
+  OnErr,
+  IsErrOf,
+  IsSome,
+  IsTrue,
+};
 ghost use Rattle.hpack_codec.specs.Table.{Table, size_of, sizes_of};
 ghost use Rattle.hpack_codec.specs.Block.{IsLiteral, Represents, AreFields};
-ghost use Rattle.hpack_codec.specs.Codec.{first_encoding, limited, Writes, IsTooLong, IsPrivate, HoldsNoPrivate, NonePrivate};
+ghost use Rattle.hpack_codec.specs.Codec.{
+  first_encoding,
+  limited,
+  Writes,
+  IsTooLong,
+  IsPrivate,
+  HoldsNoPrivate,
+  NonePrivate,
+};
 ghost use Rattle.hpack_codec.specs.Reading.{Appends, IsNameAt, Changes};
 
 use crate::fault::HpackFault;
@@ -29,7 +58,8 @@ const MOST_UPDATE: usize = 3;
 /// The longest name or value that can be written.
 const MAX_LEN: usize = u32::MAX as usize;
 
-/// Writes the blocks of one connection in their order. A clause sees what it keeps, and nothing once it is dead.
+/// Writes the blocks of one connection in their order. A clause sees what it keeps, and nothing
+/// once it is dead.
 #[derive(Drop)]
 pub struct Encoder {
     alloc: Global,
@@ -60,17 +90,18 @@ impl Encoder {
         }
     }
 
-    /// Sets a limit for the table, as the peer announced it. A table never grows: only a lower limit matters.
+    /// Sets a limit for the table, as the peer announced it. A table never grows: only a lower
+    /// limit matters.
     pub fn limit(&mut self, limit: u32)
         ensures { self.new ≡ limited self.old limit }
     {
         self.least = self.least.min(limit);
     }
 
-    /// A block of these fields. If the least limit that was set since the last block is below the table's,
-    /// it begins with the change to that.
+    /// A block of these fields. If the least limit that was set since the last block is below the
+    /// table's, it begins with the change to that.
     pub fn block(&mut self, fields: &[Field]) -> Result<Vec<u8>, HpackFault>
-        // A decoder with the same table reads these fields in it.
+        // A decoder with the same table reads these fields in the block.
         ensures ok { IfOk result (λ block. Writes self.old fields.now block.items self.new) }
 
         // Only a name or a value of more than 4,294,967,295 bytes can't be written.
@@ -106,7 +137,8 @@ fn any_too_long(fields: &[Field]) -> bool
     fields.iter().any(|field| field.name.len() > MAX_LEN || field.value.len() > MAX_LEN)
 }
 
-/// More bytes than the block of these fields has: no field is spelled in more bytes than its size counts.
+/// More bytes than the block of these fields has: no field is spelled in more bytes than its size
+/// counts.
 fn most_bytes(fields: &[Field]) -> usize
     ensures { result ≡ min (sizes_of fields.now + 3) usize.MAX }
 {
@@ -117,7 +149,7 @@ fn most_bytes(fields: &[Field]) -> usize
     most
 }
 
-/// Changes the table's limit to the least, and writes that, where it is a change.
+/// Changes the table's limit to the least, and writes the change, if there is one.
 fn push_update(out: &mut Vec<u8>, table: &mut SearchTable, least: u32) -> Result<(), AllocError>
     requires lower { least ≤ table.old.limit }
     requires lawful { table.old.limit ≤ 4096 }
@@ -167,8 +199,8 @@ fn push_field(out: &mut Vec<u8>, table: &mut SearchTable, field: &Field) -> Resu
     }
 }
 
-/// Writes a literal, whose name has this index or is spelled out. It becomes an entry, unless it is larger than the table
-/// or private: a larger one would empty the table.
+/// Writes a literal, whose name has this index or is spelled out. It becomes an entry, unless it is
+/// larger than the table or private: a larger one would empty the table.
 fn push_literal(
     out: &mut Vec<u8>,
     table: &mut SearchTable,
@@ -194,7 +226,8 @@ fn push_literal(
     table.insert(field, size)
 }
 
-/// Whether a field of this name never becomes an entry: its value is what a request said, or bytes of an application.
+/// Whether a field of this name never becomes an entry: its value is a text from a request, or
+/// bytes of an application.
 fn is_private(name: &[u8]) -> bool
     ensures { IsTrue result ↔ IsPrivate name.now }
 {

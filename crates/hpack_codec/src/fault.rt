@@ -18,7 +18,7 @@ pub enum HpackFault {
     /// A text isn't codes of bytes and then fewer than eight ones.
     #[error("a text is no Huffman text")]
     Huffman,
-    /// A change of the table's size is over 4,096 or stands after a field.
+    /// A change of the table's size is over 4,096 or comes after a field.
     #[error("a size update is too large or too late")]
     SizeUpdate,
     /// The block ends inside a representation.

@@ -1,5 +1,20 @@
 //! Huffman texts (RFC 7541, section 5.2 and appendix B), read from a register of bits.
-ghost use Rattle.std.specs.Prelude.{◌≡◌, ℕ, ◌<◌, ◌≤◌, ◌^◌, ◌/◌, ◌-◌, ◌*◌, min, IfSome, IfNone, IfOk, IfErr, IsTrue};
+ghost use Rattle.std.specs.Prelude.{
+  ◌≡◌,
+  ℕ,
+  ◌<◌,
+  ◌≤◌,
+  ◌^◌,
+  ◌/◌,
+  ◌-◌,
+  ◌*◌,
+  min,
+  IfSome,
+  IfNone,
+  IfOk,
+  IfErr,
+  IsTrue,
+};
 ghost use Rattle.hpack_codec.specs.Huffman.{code_length, code_number, IsHuffman};
 ghost use Rattle.hpack_codec.specs.CodeTable.{is_code_table};
 ghost use Rattle.hpack_codec.specs.Reading.{Drains, IsTextFault};
@@ -14,11 +29,12 @@ pub struct Codes {
     /// The first number, and the first one after the last.
     pub first: u64,
     pub above: u64,
-    /// Where the symbol of the first one stands in `SYMBOLS`.
+    /// The place of the first one's symbol in `SYMBOLS`.
     pub place: usize,
 }
 
-/// The lengths that are used, in ascending order. The end of string, the last code of 30 bits, is none here.
+/// The codes of each length that is used, in ascending order, without the end of string, the last
+/// code of 30 bits.
 static CODES: [Codes; 21] = [
     Codes {
         len: 5,
@@ -168,7 +184,8 @@ static SYMBOLS: [u8; 256] = [
 /// The longest code.
 const MAX_LEN: u32 = 30;
 
-/// The byte whose code the register begins with, and the length of that code. The register has this many bits.
+/// The byte with whose code the register begins, and the length of that code. The register has
+/// `count` bits.
 fn symbol_at(register: u64, count: u32) -> Option<(u8, u32)>
     requires { count < 64 }
     ensures octet { IfSome result (λ found. found.0 < 256) }
@@ -204,7 +221,8 @@ fn symbol_by(codes: &[Codes], symbols: &[u8], register: u64, count: u32) -> Opti
     None
 }
 
-/// Moves the bytes whose codes stand at the front of the register to the end of the list, and answers what is left.
+/// Moves the bytes whose codes are at the front of the register to the end of the list, and answers
+/// what is left.
 fn drain(octets: &mut Vec<u8>, mut register: u64, mut count: u32) -> Result<(u64, u32), AllocError>
     requires count { count < 64 }
     requires register { register < 2 ^ count }
@@ -219,7 +237,8 @@ fn drain(octets: &mut Vec<u8>, mut register: u64, mut count: u32) -> Result<(u64
     Ok((register, count))
 }
 
-/// How many bytes a text of this length stands for at most, and up to eight more: the shortest code has five bits.
+/// How many bytes a text of this length stands for at most, and up to eight more: the shortest code
+/// has five bits.
 fn most_octets(len: usize) -> usize
     ensures { min (8 * len) usize.MAX ≤ 5 * result }
 {

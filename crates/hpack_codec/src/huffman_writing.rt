@@ -98,7 +98,8 @@ pub fn push_text(out: &mut Vec<u8>, octets: &[u8]) -> Result<(), AllocError>
     Ok(())
 }
 
-/// Moves the whole bytes at the front of a register to the end of the list, and answers what is left of it.
+/// Moves the whole bytes at the front of a register to the end of the list, and answers what is
+/// left of it.
 fn flush(out: &mut Vec<u8>, mut register: u64, mut count: u32) -> Result<(u64, u32), AllocError>
     requires count { count < 64 }
     requires register { register < 2 ^ count }

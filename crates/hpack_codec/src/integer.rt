@@ -10,7 +10,7 @@ use std::alloc::AllocError;
 /// How many bytes may follow the first one.
 const MAX_MORE: usize = 5;
 
-/// The number at the front, and the bytes behind it. The prefix is the low bits of the first byte.
+/// The number at the front, and the bytes after it. The prefix is the low bits of the first byte.
 pub fn integer(prefix_bits: u32, bytes: &[u8]) -> Result<(u32, &[u8]), HpackFault>
     requires { prefix_bits < 8 }
     ensures ok { IfOk result (λ taken. TakesInteger prefix_bits bytes.now taken.0 taken.1.now) }
@@ -32,7 +32,7 @@ pub fn integer(prefix_bits: u32, bytes: &[u8]) -> Result<(u32, &[u8]), HpackFaul
     Ok((number as u32, rest))
 }
 
-/// What the bytes behind a greatest prefix add to it.
+/// What the bytes after a prefix of all ones add to it.
 fn continuation(bytes: &[u8]) -> Result<(u64, &[u8]), HpackFault>
     ensures ok { IfOk result (λ taken. TakesMore bytes.now taken.0 taken.1.now) }
     ensures bound { IfOk result (λ taken. taken.0 < 2 ^ 35) }

@@ -1,4 +1,5 @@
-//! Laws of the definitions, for whoever builds on them: functions that do nothing, and whose contracts are the laws.
+//! Laws of the definitions, for code that builds on them. The functions do nothing: their contracts
+//! are the laws.
 
 ghost use Rattle.std.specs.Prelude.{◌≡◌, ◌≢◌, ◌<◌, ◌⊎◌, ℕ, List, All, Option};
 ghost use Rattle.hpack_codec.specs.declared.fault.HpackFault.{HpackFault};
@@ -8,10 +9,11 @@ ghost use Rattle.hpack_codec.specs.Table.{Table};
 ghost use Rattle.hpack_codec.specs.Block.{IsBlock};
 ghost use Rattle.hpack_codec.specs.Codec.{Reads, IsFirstFault};
 
-/// A block has at most one reading over what a decoder kept, at most one first fault, and never both. That memory runs
-/// out is no fault of a block, and is left aside.
+/// A block has at most one reading over what a decoder kept, at most one first fault, and never
+/// both. Want of memory is no fault of a block, and is left aside.
 pub fn one_answer()
-    // A block spells one list of fields over a table, and leads to one table, whatever its fields' sizes.
+    // A block spells one list of fields over a table, and leads to one table, whatever its fields'
+    // sizes.
     ensures block { (table next other : Table) (block : List ℕ) (fields others : List Field)
         → IsBlock table block fields next → IsBlock table block others other → (fields ≡ others)
         × (next ≡ other) }
@@ -26,7 +28,8 @@ pub fn one_answer()
         → fault ≢ OutOfMemory → Reads kept block fields next → IsFirstFault fault kept block → ⊥ }
 {}
 
-/// Each block of bytes has a reading over what a decoder kept, or a first fault. That memory runs out is none.
+/// Each block of bytes has a reading over what a decoder kept, or a first fault. Want of memory is
+/// no such fault.
 pub fn some_answer()
     ensures { (kept : Option Table) (block : List ℕ) → All (λ byte. byte < 256) block →
         ((fields : List Field) × (next : Option Table) × Reads kept block fields next)

@@ -17,8 +17,8 @@ const NEWEST: u32 = 62;
 /// How many marks a text has.
 const SPAN: u32 = 65536;
 
-/// A dynamic table, and a mark of each entry, newest first. The marks tell where a search has to look: most other
-/// entries are passed without a look at their bytes. A clause sees the table alone.
+/// A dynamic table, and a mark of each entry, newest first. The marks say where a search has to
+/// look: it passes most other entries without a look at their bytes. A clause sees the table alone.
 #[derive(Drop)]
 pub struct SearchTable {
     table: DynamicTable,
@@ -49,7 +49,7 @@ impl SearchTable {
         self.table.limit()
     }
 
-    /// Changes the limit. The oldest entries go where there is no room.
+    /// Changes the limit. The oldest entries go if there is no room.
     pub fn resize(&mut self, limit: u32)
         ensures { self.new ≡ resize self.old limit }
     {
@@ -57,7 +57,7 @@ impl SearchTable {
         self.marks.truncate(self.table.len());
     }
 
-    /// Puts an entry first. The oldest go where there is no room.
+    /// Puts an entry first. The oldest go if there is no room.
     pub fn insert(&mut self, field: &Field, size: usize) -> Result<(), AllocError>
         requires { size ≡ size_of field.now }
         ensures { OnOk result (self.new ≡ insert_entry self.old field.now) }
@@ -69,8 +69,8 @@ impl SearchTable {
         Ok(())
     }
 
-    /// Where a field stands: an entry of its name and value, or else the least index of its name, the static table first.
-    /// No field stands whole in both tables.
+    /// Where the tables have a field: an entry of its name and value, or else the least index of
+    /// its name, the static table first. No field is whole in both tables.
     pub fn find(&self, name: &[u8], value: &[u8]) -> Found
         ensures { IsFound self.now result name.now value.now }
     {

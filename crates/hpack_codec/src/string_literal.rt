@@ -14,13 +14,13 @@ use std::alloc::{AllocError, Global};
 /// The bit of the first byte that says that a text is Huffman's.
 const HUFFMAN: u8 = 0x80;
 
-/// The bits above the prefix where it is none.
+/// The bits above the prefix where the text isn't Huffman's.
 const PLAIN: u8 = 0;
 
 /// The prefix of a text's length.
 const LEN_PREFIX: u32 = 7;
 
-/// The string at the front, and the bytes behind it.
+/// The string at the front, and the bytes after it.
 pub fn string(alloc: Global, bytes: &[u8]) -> Result<(Octets, &[u8]), HpackFault>
     ensures ok { IfOk result (λ taken. TakesString bytes.now taken.0 taken.1.now) }
     ensures err { IfErr result (λ fault. OrMemory fault (IsStringFault fault bytes.now)) }
@@ -43,7 +43,7 @@ pub fn string(alloc: Global, bytes: &[u8]) -> Result<(Octets, &[u8]), HpackFault
     Ok((Octets::from(octets), rest))
 }
 
-/// Writes octets at the end: their Huffman text where that is shorter, or else as they are.
+/// Writes octets at the end: as their Huffman text if that is shorter, or else as they are.
 pub fn push_string(out: &mut Vec<u8>, octets: &[u8]) -> Result<(), AllocError>
     requires { length octets.now < 2 ^ 32 }
     ensures { OnOk result (Appends out.old.items out.new.items (λ text. IsString text octets.now)) }

@@ -1,7 +1,29 @@
 //! The table of entries that blocks name by index (RFC 7541, sections 2.3 and 4).
-ghost use Rattle.std.specs.Prelude.{◌≡◌, ◌<◌, ◌≤◌, ◌^◌, ◌+◌, length, slice_get, Some, None, MatchOption, IfOk, OnOk, min};
+ghost use Rattle.std.specs.Prelude.{
+  ◌≡◌,
+  ◌<◌,
+  ◌≤◌,
+  ◌^◌,
+  ◌+◌,
+  length,
+  slice_get,
+  Some,
+  None,
+  MatchOption,
+  IfOk,
+  OnOk,
+  min,
+};
 ghost use Rattle.hpack_codec.specs.StaticTable.{entry};
-ghost use Rattle.hpack_codec.specs.Table.{size_of, entry_at, insert_entry, resize, empty_table, sizes_of, fitting};
+ghost use Rattle.hpack_codec.specs.Table.{
+  size_of,
+  entry_at,
+  insert_entry,
+  resize,
+  empty_table,
+  sizes_of,
+  fitting,
+};
 
 use crate::static_table;
 use lists::Field;
@@ -76,7 +98,8 @@ impl DynamicTable {
         }
     }
 
-    /// The field at an index of both tables. It takes no memory where the entry shares its bytes, or the static table has it.
+    /// The field at an index of both tables. It takes no memory where the entry shares its bytes,
+    /// or the static table has it.
     pub fn field(&self, index: u32) -> Result<Option<Field>, AllocError>
         ensures { IfOk result (λ found. entry_at self.now index ≡ found) }
     {
@@ -100,8 +123,8 @@ impl DynamicTable {
         }
     }
 
-    /// Puts an entry first. The oldest go where there is no room, all of them for one larger than the table.
-    /// The field is copied where it becomes an entry.
+    /// Puts an entry first. The oldest go if there is no room, and all of them for a field larger
+    /// than the table. The field is copied if it becomes an entry.
     pub fn insert(&mut self, field: &Field, size: usize) -> Result<(), AllocError>
         requires { size ≡ size_of field.now }
         ensures { OnOk result (self.new ≡ insert_entry self.old field.now) }
@@ -119,7 +142,7 @@ impl DynamicTable {
         Ok(())
     }
 
-    /// Changes the limit. The oldest entries go where there is no room.
+    /// Changes the limit. The oldest entries go if there is no room.
     pub fn resize(&mut self, limit: u32)
         ensures { self.new ≡ resize self.old limit }
     {
@@ -150,7 +173,7 @@ fn copy_of(field: &Field) -> Result<Field, AllocError>
     field.clone()
 }
 
-/// The size of a field, where that can be counted.
+/// The size of a field, up to the greatest that can be counted.
 pub fn capped_size(field: &Field) -> usize
     ensures { result ≡ min (size_of field.now) usize.MAX }
 {

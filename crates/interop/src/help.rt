@@ -3,7 +3,7 @@
 
 use std::io;
 
-/// A command, as it is told.
+/// A command, as the help shows it.
 #[derive(Clone, Copy)]
 pub struct Command {
     name: &'static str,

@@ -3,19 +3,25 @@
 //! It has nine commands:
 //!
 //! - `interop serve --port P` serves `grpc.testing.TestService` on a port of this machine.
-//! - `interop misbehave NAME --port P` misbehaves as a server, and says whether the client does right.
-//! - `interop case NAME --port P` runs test cases as a client, against whatever server listens there.
-//! - `interop wire CASES --port P` sends a server what no client should, and judges what it answers.
+//! - `interop misbehave NAME --port P` misbehaves as a server, and says whether the client does
+//!   right.
+//! - `interop case NAME --port P` runs test cases as a client, against whatever server listens
+//!   there.
+//! - `interop wire CASES --port P` sends a server what no client should, and judges what it
+//!   answers.
 //! - `interop self` runs the test cases against a server of its own.
 //! - `interop drain` drains a server of its own while a client has a call.
-//! - `interop parts` serves the bytes of one connection, read as hexadecimal text, and prints what they are answered with.
+//! - `interop parts` serves the bytes of one connection, read as hexadecimal text, and prints what
+//!   they are answered with.
 //! - `interop frames` prints the frames in the bytes of connections, a line each.
-//! - `interop body --cut N` reads the joined DATA bytes of one call as hexadecimal text, takes them in pieces of N bytes, and
-//!   prints the messages that they spell (gRPC over HTTP/2, "Length-Prefixed-Message"), then the end or the fault. It reads all of
-//!   its input before it prints anything, and its text is a function of that input, in whatever pieces.
+//! - `interop body --cut N` reads the joined DATA bytes of one call as hexadecimal text, takes them
+//!   in pieces of N bytes, and prints the messages that they spell (gRPC over HTTP/2,
+//!   "Length-Prefixed-Message"), then the end or the fault. It reads all of its input before it
+//!   prints anything, and its text is a function of that input, in whatever pieces.
 //!
-//! The crate `words` reads its words, and the crates `commands`, `trials` and `frames` do what they say. Here is what reaches for the
-//! process: its words, its standard input and output, and its exit status.
+//! The crate `words` reads its words, and the crates `commands`, `trials` and `frames` do what they
+//! say. Here is what reaches for the process: its words, its standard input and output, and its
+//! exit status.
 #![tactic(auto)]
 
 ghost use Rattle.std.specs.Prelude.{◌<◌};
@@ -176,7 +182,8 @@ enum Server<'a> {
     Drain(u16),
 }
 
-// Does what a command says over the methods of `grpc.testing.TestService`, and answers the exit status.
+// Does what a command says over the methods of `grpc.testing.TestService`, and answers the exit
+// status.
 fn obey_server<R>(rt: R, server: Server<'_>) -> Result<u8, AllocError>
 where
     R: Net<Stream = TcpStream, Listener = TcpListener> + Input<Reader = StdinLock<'static>>,
@@ -282,7 +289,8 @@ where
     }
 }
 
-// Does what the words after the program's name say, and answers the exit status. Where `is_shown`, standard error is a terminal.
+// Does what the words after the program's name say, and answers the exit status. Where `is_shown`,
+// standard error is a terminal.
 fn obey<R>(rt: &R, words: &[String], is_shown: bool) -> u8
 where
     R: Net<Stream = TcpStream, Listener = TcpListener> + Input<Reader = StdinLock<'static>>,

@@ -1,4 +1,5 @@
-//! The command `misbehave`: a server that misbehaves, for authors of clients (the crate `misbehave`).
+//! The command `misbehave`: a server that misbehaves, for authors of clients (the crate
+//! `misbehave`).
 
 use device::ConnWrite;
 use misbehave::{Misbehaviour, Place, Played, RunFault, Stage, list, misbehaviours};
@@ -15,8 +16,8 @@ use std::time::Clock;
 use trials::{TrialFault, Verdict, choice_of, end_run, refuse_choice};
 use words::{LOOPBACK, MisbehaveRun, MisbehaveWords};
 
-/// Lists the misbehaviours, or runs those that the words choose, and tells what came of each. Where `is_shown`, standard error is
-/// a terminal, and shows how far it is.
+/// Lists the misbehaviours, or runs those that the words choose, and reports each outcome. If
+/// `is_shown`, standard error is a terminal, and shows how far the run is.
 pub fn run_misbehave<R, W>(
     rt: R,
     words: MisbehaveWords<'_>,
@@ -60,7 +61,7 @@ where
 
 /// Says that there is no misbehaviour of this name, and which there are.
 fn refuse_name<R: Eprint>(rt: &R, plays: &[Misbehaviour], name: &str) -> Verdict {
-    // The exit status tells of it even where nothing can be said here.
+    // The exit status reports it even if nothing can be written here.
     let _said = eprint!(rt; "interop: there is no misbehaviour {name}: all");
     for play in plays {
         let known = play.name;
@@ -76,7 +77,7 @@ fn refuse_port<R: Eprint>(rt: &R, words: &MisbehaveRun<'_>, last: usize) -> Verd
         [name] => *name,
         _ => "this",
     };
-    // The exit status tells of it even where nothing can be said here.
+    // The exit status reports it even if nothing can be written here.
     let _said = eprintln!(rt; "interop: bad arguments");
     let _said = eprintln!(rt; "interop: {what} needs ports up to {last}, and the last is 65535");
     Verdict::UnknownCase
@@ -118,8 +119,10 @@ fn picked(
     Ok(picked)
 }
 
-/// Listens on a port of this network for each of the misbehaviours at these places, and runs them one after another.
-// (they are made here once more: a call that passes a network which borrows may pass no type with texts of the program's own)
+/// Listens on a port of this network for each of the misbehaviours at these places, and runs them
+/// one after another.
+// (they are made here once more: a call that passes a network which borrows may pass no type with
+// texts of the program's own)
 fn run_chosen<R, N, W>(
     rt: R,
     net: N,
@@ -168,8 +171,8 @@ where
     Ok(Verdict::from(sinks.close(output)?))
 }
 
-/// Writes the files that tell that the ports are listened on: the number of the first, and a line with the name and the address of
-/// each.
+/// Writes the files that tell that the ports are listened on: the number of the first, and a line
+/// with the name and the address of each.
 fn tell_ready<R, N>(
     rt: &R,
     alloc: Global,
@@ -201,7 +204,7 @@ where
     Ok(())
 }
 
-/// Runs the misbehaviour at a place, and tells what the client is to do, and what came of it.
+/// Runs the misbehaviour at a place, and prints what the client is to do, and what came of it.
 fn run_play<R, N, W>(
     stage: &mut Stage<N>,
     at: usize,
@@ -225,7 +228,7 @@ where
 fn told<R: Eprint>(rt: &R, host: &str, fault: RunFault) -> TrialFault {
     match fault {
         RunFault::Port(port, error) => {
-            // The exit status tells of it even where nothing can be said here.
+            // The exit status reports it even if nothing can be written here.
             let _said = if host == LOOPBACK {
                 eprintln!(rt; "interop: port {port} can't be had: {error}")
             } else {

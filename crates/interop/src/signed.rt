@@ -1,8 +1,9 @@
-//! A port that is written with a sign. Numbers are read with a plus or without, but no port is written so.
+//! A port that is written with a sign. Numbers are read with a plus or without, but no port is
+//! written so.
 
 use words::Reason;
 
-/// Why the port of these words is none, where it has a sign.
+/// Why the port of these words isn't one, if it has a sign.
 pub fn signed_port(words: &[String]) -> Option<Reason<'_>> {
     let mut is_next = false;
     for word in words {
@@ -26,7 +27,7 @@ pub fn signed_port(words: &[String]) -> Option<Reason<'_>> {
     None
 }
 
-/// Whether it is a number behind a sign.
+/// Whether it is a number after a sign.
 fn is_signed(value: &str) -> bool {
     match value.as_bytes() {
         [b'+' | b'-', digits @ ..] => {

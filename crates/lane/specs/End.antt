@@ -4,7 +4,7 @@ use Rattle.lane.specs.declared.lane.End.{End}
 use Rattle.lane.specs.declared.lane.End.TheVariants.{Open, Shut}
 
 module _ {I S : Type 0} where
-  -- what an end shows: its name, or what was put by it
+  -- what an end shows, such as its name or what it put
   abbrev pub of_end : {X : Type 0} → (I → X) → (S → X) → End I S → X
   of_end of_open of_shut (Open tx) = of_open tx
   of_end of_open of_shut (Shut shut) = of_shut shut

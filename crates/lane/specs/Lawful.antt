@@ -1,13 +1,29 @@
 -- What a queue from one writer to one reader may do.
-use Rattle.std.specs.Prelude.{ℕ, ◌+◌, ◌≤◌, min, Bool, true, false, List, [], ◌∷◌, Option, None, Some, length}
+use Rattle.std.specs.Prelude.{
+  ℕ,
+  ◌+◌,
+  ◌≤◌,
+  min,
+  Bool,
+  true,
+  false,
+  List,
+  [],
+  ◌∷◌,
+  Option,
+  None,
+  Some,
+  length,
+}
 use mathlib.Core.List.{IsPrefix}
 
--- how many items of the queue's room `last` takes beside it
+-- 1 where `last` placed its item, which needs none of the room
 abbrev pub last_count : Bool → ℕ
 last_count true = 1
 last_count false = 0
 
--- What was got, oldest first, begins what was put; and of what was put all but `room` items, and the one that `last` placed, were got
+-- What was got, oldest first, begins what was put. All that was put was got, but at most `room`
+-- items and the one that `last` placed.
 pub record IsLawful {T : Type 0} (room : ℕ) (has_last : Bool) (put got : List T) : Type 0 where
   pub begins : IsPrefix got put
   pub within : length put ≤ length got + room + last_count has_last

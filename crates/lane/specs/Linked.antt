@@ -27,7 +27,8 @@ Linked in_name out_name None (Some tx) = ⊥
 Linked in_name out_name (Some rx) None = ⊥
 Linked in_name out_name (Some rx) (Some tx) = in_name tx ≡ out_name rx
 
-pub Linked-prop : {I O N : Type 0} → (in_name : I → N) (out_name : O → N) → ((a b : N) → IsProp (a ≡ b)) → (rx : Option O) (tx : Option I)
+pub Linked-prop : {I O N : Type 0} → (in_name : I → N) (out_name : O → N)
+    → ((a b : N) → IsProp (a ≡ b)) → (rx : Option O) (tx : Option I)
     → IsProp (Linked in_name out_name rx tx)
 Linked-prop in_name out_name set None None = Unit-prop
 Linked-prop in_name out_name set None (Some tx) = λ p q. absurd p

@@ -15,13 +15,15 @@ module _ {T : Type 0} where
   item_of (OutOfMemory item) = item
   item_of (NotTaken item) = item
 
-  -- Full tells how many of the items that were put had not been seen taken, and there are at least as many as the queue has room for. Of the other faults a queue has those that are its own
+  -- Full has how many of the items that were put hadn't been seen taken, and they are at least
+  -- `room`. Each queue says which of the other faults it may have.
   abbrev pub MayRefuse : (ℕ → Type 0) → Type 0 → ℕ → ℕ → ℕ → PutFault T → Type 0
-  MayRefuse WantsMemory MayMiss room put seen_taken (Full item waiting) = (waiting + seen_taken ≡ put) × (room ≤ waiting)
+  MayRefuse WantsMemory MayMiss room put seen_taken (Full item waiting) =
+      (waiting + seen_taken ≡ put) × (room ≤ waiting)
   MayRefuse WantsMemory MayMiss room put seen_taken (OutOfMemory item) = WantsMemory room
   MayRefuse WantsMemory MayMiss room put seen_taken (NotTaken item) = MayMiss
 
-  -- the one refusal of a ring: as many items as it has slots were put and not seen taken
+  -- the one refusal of a ring: for each of its slots an item was put and not seen taken
   abbrev pub IsFull : ℕ → ℕ → ℕ → PutFault T → Type 0
   IsFull slots put seen_taken (Full item waiting) = (waiting ≡ slots) × (put ≡ seen_taken + slots)
   IsFull slots put seen_taken (OutOfMemory item) = ⊥

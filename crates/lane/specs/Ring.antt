@@ -21,7 +21,7 @@ module _ {T : Type 0} where
   abbrev pub seen_taken : RingIn T → ℕ
   seen_taken tx = popped_count tx.producer
 
-  -- a slot is free: of what was put, fewer items than it has slots were not seen taken
+  -- a slot is free: fewer items than the ring has slots were put and not seen taken
   abbrev pub HasRoom : RingIn T → Type 0
   HasRoom tx = length (put_in tx) < seen_taken tx + slots_of (in_name tx)
 
@@ -29,6 +29,6 @@ module _ {T : Type 0} where
   abbrev pub taken : RingOut T → List T
   taken rx = received rx.consumer
 
-  -- what the next takes give for sure
+  -- what the next takes are sure to give
   abbrev pub ahead : RingOut T → List T
   ahead rx = known_items rx.consumer

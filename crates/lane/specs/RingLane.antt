@@ -33,7 +33,7 @@ module _ {T : Type 0} where
   abbrev pub out_name : RingLaneOut T → LaneName
   out_name rx = (consumer_name rx.first, rx.room)
 
-  -- through the first ring, and then through the second
+  -- what was put through the first ring, and then through the second
   abbrev pub put_in : RingLaneIn T → List T
   put_in tx = pieces (sent tx.first) ++ of_second second.put_in tx.second
 
@@ -46,7 +46,7 @@ module _ {T : Type 0} where
   abbrev pub got : RingLaneOut T → List T
   got rx = pieces (received rx.first) ++ of_second second.got rx.second
 
-  -- what the next polls give, once the reader went on or before
+  -- what the next polls give, after the reader went on, or before
   abbrev pub ahead_at : Option (SecondOut T) → List (Step T) → List T
   ahead_at None known = ahead_of known
   ahead_at (Some out) known = second.ahead out

@@ -35,6 +35,6 @@ module _ {T : Type 0} where
   abbrev pub got : SecondOut T → List T
   got rx = received rx.consumer
 
-  -- what the next polls give for sure
+  -- what the next polls are sure to give
   abbrev pub ahead : SecondOut T → List T
   ahead rx = known_items rx.consumer

@@ -28,7 +28,8 @@ module _ {T : Type 0} where
   closed (Next next ∷ []) = true
   closed (Next next ∷ step ∷ steps) = false
 
-  -- what the next polls give for sure, where these steps are known to be in the ring: the items before the way on
+  -- what the next polls are sure to give, if these steps are known to be in the ring: the items
+  -- before the way on
   abbrev pub ahead_of : List (Step T) → List T
   ahead_of [] = []
   ahead_of (Piece item ∷ steps) = item ∷ ahead_of steps

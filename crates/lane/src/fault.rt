@@ -11,11 +11,11 @@ use std::fmt::Debug;
 #[derive(Debug, Drop)]
 pub enum PutFault<T> {
     /// The reader has to take items first. `waiting` is how many of the items that were put this
-    /// end had not seen taken, in this call.
+    /// end hadn't seen taken when it looked.
     Full { item: T, waiting: u64 },
     /// Memory for the item was refused.
     OutOfMemory(T),
-    /// The item's place was taken already. Tests show that it doesn't come.
+    /// The item's place was taken already. Tests show that it doesn't occur.
     NotTaken(T),
 }
 

@@ -1,11 +1,34 @@
-//! What a queue from one writer to one reader is.
+//! The trait of a queue from one writer to one reader.
 //!
-//! Which `open` an end is of is an equation of names, `in_name tx ≡ out_name rx`: each call says that the name stays, and
-//! `settle` requires the equation. The room is a function of the name, so every end knows it.
+//! Two ends are of one `open` where their names are equal, `in_name tx ≡ out_name rx`. Each
+//! function keeps the name, and `settle` requires that they are equal. The room is a function of
+//! the name, so every end knows it.
 //!
-//! `Settled`: `put` and `got` stop at 2^64 - 1, so equal counts there don't say that all was got; `left` is exact, and
-//! `left = 0` gives `got = put`.
-ghost use Rattle.std.specs.Prelude.{◌≡◌, ℕ, ◌+◌, ◌≤◌, ◌<◌, List, [], ◌∷◌, ◌++◌, Bool, true, false, length, ⊤, Some, IfOk, OnOk, IfErr, OnErr, MatchOption, MatchBool};
+//! In `Settled`, `put` and `got` stop at 2^64 - 1, so equal counts there don't say that all was
+//! got. `left` is exact, and 0 only where all was got.
+ghost use Rattle.std.specs.Prelude.{
+  ◌≡◌,
+  ℕ,
+  ◌+◌,
+  ◌≤◌,
+  ◌<◌,
+  List,
+  [],
+  ◌∷◌,
+  ◌++◌,
+  Bool,
+  true,
+  false,
+  length,
+  ⊤,
+  Some,
+  IfOk,
+  OnOk,
+  IfErr,
+  OnErr,
+  MatchOption,
+  MatchBool,
+};
 ghost use Rattle.std.specs.Borrow.{sem};
 ghost use denote.Follow.{follows_so};
 ghost use mathlib.Core.Option.{none};
@@ -31,17 +54,17 @@ pub enum End<I, S> {
 pub struct Settled {
     /// How many items were put. A number over the greatest `u64` counts as that.
     pub put: u64,
-    /// How many items were got, counted in the same way.
+    /// How many items were got. A number over the greatest `u64` counts as that.
     pub got: u64,
-    /// How many of the items that were put were not got. It is exact, since they are at most as many
-    /// as the queue has room for, and a last one.
+    /// How many of the items that were put were not got. It is exact: they are at most `room` and a
+    /// last one.
     pub left: u64,
 }
 
 /// A queue from one writer to one reader.
 ///
-/// Its two ends may go to threads of their own. What each does is known to that end alone, until
-/// `settle` brings the ends together. No call waits for the other end.
+/// Its two ends may go to threads of their own. Each end knows only what it did itself, until
+/// `settle` brings the ends together. No function waits for the other end.
 pub trait Lane {
     type Item: Send + Sync + Drop;
 
@@ -57,7 +80,8 @@ pub trait Lane {
     /// Which `open` an end is of.
     ghost Name: { Type 0 };
 
-    /// For a struct that has two ends of one `open`, and says so in a ghost field.
+    /// Names are a set. A struct needs that which has two ends of one `open` and says so in a ghost
+    /// field.
     ghost name_set: { (a b : Name) → IsProp (a ≡ b) };
 
     ghost in_name: { Self.In → Name };
@@ -83,13 +107,13 @@ pub trait Lane {
     /// What was got, oldest first.
     ghost got: { Self.Out → List Self.Item };
 
-    /// What the next polls give for sure.
+    /// What the next polls are sure to give.
     ghost ahead: { Self.Out → List Self.Item };
 
     /// Whether `put` of a queue with this room may want memory.
     ghost WantsMemory: { ℕ → Type 0 };
 
-    /// Whether the place of an item may be taken already.
+    /// Whether an item's place may be taken already.
     ghost MayMiss: { Type 0 };
 
     /// Makes an empty queue with room for `room` items and one last item.
@@ -99,8 +123,9 @@ pub trait Lane {
         ensures empty { IfOk result (λ r. (put_in r.0 ≡ []) × (got r.1 ≡ [])) }
         ensures seen { IfOk result (λ r. seen_taken r.0 ≡ 0) };
 
-    /// Whether there is room for an item beside the last one: if not, how many of the items that were
-    /// put this end had not seen taken, in this call. After `Ok` the next `put` isn't `Full`. It takes no memory.
+    /// Whether there is room for an item beside the last one; `Err` has how many of the items that
+    /// were put this end hadn't seen taken when it looked. After `Ok` the next `put` isn't `Full`.
+    /// It takes no memory.
     fn check_room(tx: &mut Self::In) -> Result<(), u64>
         ensures name { in_name tx.new ≡ in_name tx.old }
         ensures seen { seen_taken tx.old ≤ seen_taken tx.new }
@@ -111,7 +136,9 @@ pub trait Lane {
             (λ waiting. (waiting + seen_taken tx.new ≡ length (put_in tx.new))
             × (room_of (in_name tx.new) ≤ waiting)) };
 
-    /// Puts the item after all others, or hands it back and changes nothing.
+    /// Puts the item after all others, or hands it back and changes nothing. It answers `Full` only
+    /// where `room` items or more were put and not seen taken. A ring with room for 16 or fewer
+    /// never lacks memory.
     fn put(tx: &mut Self::In, item: Self::Item) -> Result<(), PutFault<Self::Item>>
         ensures name { in_name tx.new ≡ in_name tx.old }
         ensures seen { seen_taken tx.old ≤ seen_taken tx.new }
@@ -122,7 +149,7 @@ pub trait Lane {
             (MayRefuse WantsMemory MayMiss (room_of (in_name tx.old))
             (length (put_in tx.old)) (seen_taken tx.new)) };
 
-    /// Puts the item after all others, where `placed` then says so. It takes no memory.
+    /// Puts the item after all others, if `placed` says so after it. It takes no memory.
     fn last(tx: Self::In, item: Self::Item) -> Self::Shut
         ensures name { shut_name result ≡ in_name tx }
         ensures put { MatchBool (was_placed result)
@@ -143,14 +170,15 @@ pub trait Lane {
             (λ r. (got n ≡ got rx.old ++ r.now ∷ [])
             × (0 < length (ahead rx.old) → ahead rx.old ≡ r.now ∷ ahead n)))) };
 
-    /// The item that was got last, for a caller who could not make use of it. It takes no memory.
+    /// The last item that was got, for a caller who couldn't make use of it. It takes no memory.
     fn polled(rx: &mut Self::Out) -> Option<&Self::Item>
         ensures* after { sem 𝓛
             (follows_so Self.Out.row Self.Out.row rx.entry.ghost_name none (λ _ _. ⊤)
             (λ n. (out_name n ≡ out_name rx.old) × (got n ≡ got rx.old) × (ahead n ≡ ahead rx.old)
             × MatchOption result (got rx.old ≡ []) (λ r. last_of (got rx.old) ≡ Some r.now))) };
 
-    /// Brings the two ends of one `open` together.
+    /// Brings the two ends of one `open` together. What was got is a prefix of what was put: all of
+    /// it but at most `room` items and the last one.
     fn settle(end: End<Self::In, Self::Shut>, rx: Self::Out) -> Settled
         requires { of_end in_name shut_name end ≡ out_name rx }
         ensures put { result.put ≡ count_of (of_end put_in put_shut end) }

@@ -6,14 +6,14 @@ use crate::fault::PutFault;
 use rtrb::{Consumer, Producer, RingBuffer};
 use std::alloc::{AllocError, Global};
 
-/// The end of a ring that puts.
+/// The putting end of a ring.
 #[derive(Drop)]
 pub struct RingIn<T> {
     producer: Producer<T>,
     ghost filled: { producer_capacity producer ≤ length (sent producer) + known_free producer },
 }
 
-/// The end of a ring that takes.
+/// The taking end of a ring.
 #[derive(Drop)]
 pub struct RingOut<T> {
     consumer: Consumer<T>,
@@ -40,8 +40,8 @@ impl Ring {
         Ok((RingIn { producer }, RingOut { consumer }))
     }
 
-    /// What was taken, and then as many items as it answers, which `take` gives from now on, are
-    /// what was put.
+    /// How many items are still to take. What was taken and then these items, which `take` gives
+    /// from now on, are what was put.
     pub fn meet<T>(tx: &mut RingIn<T>, rx: &mut RingOut<T>) -> u64
         requires { in_name tx.old ≡ out_name rx.old }
         ensures writer { (in_name tx.new ≡ in_name tx.old) × (put_in tx.new ≡ put_in tx.old) }
@@ -73,7 +73,7 @@ impl<T> RingIn<T> {
         !self.producer.is_full()
     }
 
-    /// Puts the item behind all others, or hands it back. It takes no memory.
+    /// Puts the item after all others, or hands it back. It takes no memory.
     pub fn put(&mut self, item: T) -> Result<(), PutFault<T>>
         ensures name { in_name self.new ≡ in_name self.old }
         ensures seen { seen_taken self.old ≤ seen_taken self.new }

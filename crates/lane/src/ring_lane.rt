@@ -1,13 +1,14 @@
-//! A lane over a ring, which the reader empties for the writer, and over a second, larger one once more items wait than
-//! the first has places for.
+//! A lane over a ring, and over a second, larger one once more items wait than the first has places
+//! for.
 //!
-//! The writer keeps one place of the first ring free, for the last item or for the way on: the reading end of the second
-//! ring. So `last` always finds a place, and the reader needs no memory.
+//! The writer keeps one place of the first ring free, for the last item or for the way on, which is
+//! the reading end of the second ring. So `last` always finds a place, and the reader needs no
+//! memory.
 //!
-//! `polled`: an item has to be moved out before its place is free, and a reference to it is answered: so it lives in the
-//! reading end until the next poll that finds one.
+//! An item has to be moved out of the ring before its place is free, and `poll` answers a reference
+//! to it. So the item stays in the reading end (`polled`) until the next poll that finds one.
 //!
-//! `meet`: not in the trait, since a `RowLane` can't answer it.
+//! `meet` isn't in the trait, since a `RowLane` can't answer it.
 ghost use Rattle.std.specs.Prelude.{◌≡◌, ◌+◌, ◌<◌, ◌≤◌, ◌^◌, ◌++◌, min, true, length};
 ghost use Rattle.std.specs.Coded.{Coded-set, coded_option};
 ghost use Rattle.rtrb.specs.Ring.{sent, known_free, producer_capacity, received};
@@ -16,7 +17,17 @@ ghost use Rattle.lane.specs.RingEnds.{RingName_set};
 ghost use Rattle.lane.specs.Steps.{pieces, link, closed};
 ghost use Rattle.lane.specs.Linked.{of_second, count_second, count_or, kept, Linked, Linked-prop};
 ghost use Rattle.lane.specs.Firsts.{seen_first};
-ghost use Rattle.lane.specs.Second.{in_name as second_in_name, out_name as second_out_name, shut_name as second_shut_name, put_in as second_put_in, put_shut as second_put_shut, seen_taken as second_seen_taken, seen_shut as second_seen_shut, got as second_got, room_of as second_room_of};
+ghost use Rattle.lane.specs.Second.{
+  in_name as second_in_name,
+  out_name as second_out_name,
+  shut_name as second_shut_name,
+  put_in as second_put_in,
+  put_shut as second_put_shut,
+  seen_taken as second_seen_taken,
+  seen_shut as second_seen_shut,
+  got as second_got,
+  room_of as second_room_of,
+};
 
 mod meeting;
 mod reading;
@@ -35,14 +46,14 @@ use std::alloc::{AllocError, Global};
 use std::marker::PhantomData;
 use step::Step;
 
-/// How many places a first ring has at most. So a lane with room for 16 items has no second one.
+/// How many places a first ring has at most. So a lane with room for 16 items has no second ring.
 const FIRST_PLACES: usize = 17;
 
 /// The writing end of a `RingLane`.
 #[derive(Drop)]
 pub struct RingLaneIn<T> {
     first: Producer<Step<T>>,
-    // Where the writer went on to it.
+    // The second ring, once the writer went on to it.
     second: Option<SecondIn<T>>,
     room: usize,
     // How many items went through the first ring.
@@ -54,9 +65,12 @@ pub struct RingLaneIn<T> {
     ghost one_free: { kept second ≤ known_free first },
     ghost counted: { count ≡ count_of (pieces (sent first)) },
     ghost closed: { closed (sent first) ≡ true },
-    ghost linked: { Linked second_in_name (λ fresh. second_out_name fresh.out.value) (link (sent first)) second } by { Linked-prop second_in_name (λ fresh. second_out_name fresh.out.value) RingName_set (link (sent first)) second },
+    ghost linked: { Linked second_in_name (λ fresh. second_out_name fresh.out.value)
+        (link (sent first)) second } by { Linked-prop second_in_name
+            (λ fresh. second_out_name fresh.out.value) RingName_set (link (sent first)) second },
     ghost same_room: { count_or (λ tx. second_room_of (second_in_name tx)) room second ≡ room },
-    ghost bound: { length (pieces (sent first)) + length (of_second second_put_in second) ≤ seen_first first + count_second second_seen_taken second + room },
+    ghost bound: { length (pieces (sent first)) + length (of_second second_put_in second)
+        ≤ seen_first first + count_second second_seen_taken second + room },
 }
 
 /// What is left of the writing end after `last`.
@@ -70,31 +84,40 @@ pub struct RingLaneShut<T> {
     ghost filled: { producer_capacity first ≤ length (sent first) + known_free first },
     ghost counted: { count ≡ count_of (pieces (sent first)) },
     ghost closed: { closed (sent first) ≡ true },
-    ghost linked: { Linked second_shut_name (λ fresh. second_out_name fresh.out.value) (link (sent first)) second } by { Linked-prop second_shut_name (λ fresh. second_out_name fresh.out.value) RingName_set (link (sent first)) second },
-    ghost bound: { length (pieces (sent first)) + length (of_second second_put_shut second) ≤ seen_first first + count_second second_seen_shut second + room + 1 },
+    ghost linked: { Linked second_shut_name (λ fresh. second_out_name fresh.out.value)
+        (link (sent first)) second } by { Linked-prop second_shut_name
+            (λ fresh. second_out_name fresh.out.value) RingName_set (link (sent first)) second },
+    ghost bound: { length (pieces (sent first)) + length (of_second second_put_shut second)
+        ≤ seen_first first + count_second second_seen_shut second + room + 1 },
 }
 
 /// The reading end of a `RingLane`.
 #[derive(Drop)]
 pub struct RingLaneOut<T> {
     first: Consumer<Step<T>>,
-    // Where the way on was taken.
+    // The second ring, once the way on was taken.
     second: Option<SecondOut<T>>,
     room: usize,
     // How many items came through the first ring.
     count: u64,
-    // The item that was got last, which the caller may still look at.
+    // The last item that was got, which the caller may still look at.
     polled: Option<T>,
     ghost counted: { count ≡ count_of (pieces (received first)) },
-    ghost linked: { Linked second_out_name (λ fresh. second_out_name fresh.out.value) (link (received first)) second } by { Linked-prop second_out_name (λ fresh. second_out_name fresh.out.value) RingName_set (link (received first)) second },
-    ghost kept: { polled ≡ last_of (pieces (received first) ++ of_second second_got second) } by { Coded-set (coded_option T.code) polled (last_of (pieces (received first) ++ of_second second_got second)) },
+    ghost linked: { Linked second_out_name (λ fresh. second_out_name fresh.out.value)
+        (link (received first)) second } by { Linked-prop second_out_name
+            (λ fresh. second_out_name fresh.out.value) RingName_set
+            (link (received first)) second },
+    ghost kept: { polled
+        ≡ last_of (pieces (received first) ++ of_second second_got second) } by { Coded-set
+            (coded_option T.code) polled
+            (last_of (pieces (received first) ++ of_second second_got second)) },
 }
 
-/// A lane over a ring of 17 places, or of `room + 1` where that is less, and over a ring of `room + 1` places once 16 items
-/// wait in the first and there is room for more.
+/// A lane over a ring of 17 places, or of `room + 1` if that is less; and over a ring of `room + 1`
+/// places once 16 items wait in the first and there is room for more.
 ///
-/// `put` takes memory for the second ring alone, once for a lane, and never where the room is 16 or less. It has room again
-/// as items are got.
+/// `put` takes memory only for the second ring, once, and never where the room is 16 or less. It
+/// has room again as items are got.
 pub struct RingLane<T> {
     marker: PhantomData<T>,
 }
@@ -103,7 +126,19 @@ impl<T: Send + Sync + Drop> Lane for RingLane<T> {
     ghost use Rattle.std.specs.Prelude.{[], ◌∷◌};
     ghost use Rattle.lane.specs.End.{of_end, has_last};
     ghost use Rattle.lane.specs.Lawful.{IsLawful};
-    ghost use Rattle.lane.specs.RingLane.{LaneName, LaneName_set, room_of, in_name, shut_name, out_name, put_in, put_shut, seen_taken, got, ahead};
+    ghost use Rattle.lane.specs.RingLane.{
+      LaneName,
+      LaneName_set,
+      room_of,
+      in_name,
+      shut_name,
+      out_name,
+      put_in,
+      put_shut,
+      seen_taken,
+      got,
+      ahead,
+    };
 
     type Item = T;
 
@@ -267,8 +302,8 @@ impl<T: Drop> RingLane<T> {
     ghost use mathlib.Core.List.{IsPrefix};
     ghost use Rattle.lane.specs.RingLane.{in_name, out_name, put_in, seen_taken, got, ahead};
 
-    /// What was got, and then as many items as it answers, which `poll` gives from now on, begin what was put. Where it answers
-    /// 0 all was got.
+    /// How many items `poll` gives for sure from now on. What was got and then these items begin
+    /// what was put. At 0 all was got.
     pub fn meet(tx: &mut RingLaneIn<T>, rx: &mut RingLaneOut<T>) -> u64
         requires { in_name tx.old ≡ out_name rx.old }
         ensures writer { (in_name tx.new ≡ in_name tx.old) × (put_in tx.new ≡ put_in tx.old) }

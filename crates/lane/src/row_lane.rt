@@ -1,7 +1,7 @@
 //! A lane over a row of cells, each of which is set once.
 //!
-//! Notes of cells say that two looks at a cell agree, and not that only the writer sets cells; with the marks no more
-//! is got than was put, without a premise.
+//! Notes of cells say that two looks at a cell agree, but not that only the writer sets cells. By
+//! the marks no more is got than was put, without a premise.
 ghost use Rattle.std.specs.Prelude.{◌≡◌, ℕ, ◌+◌, ◌≤◌, length, take, vec_len, vec_capacity};
 ghost use Rattle.std.specs.Arc.{arc_value};
 ghost use Rattle.rtrb.specs.Ring.{sent, known_free, producer_capacity, received};
@@ -65,12 +65,12 @@ pub struct RowLaneOut<T> {
     ghost behind: { vec_len got ≤ marked },
 }
 
-/// A lane over `room + 1` cells, each of which is set once, so it is full for good once `room` items
+/// A lane over `room + 1` cells, each of which is set once. So it is full forever once `room` items
 /// were put.
 ///
-/// The ends keep a note of each cell that they set or saw set, and notes of one cell agree. A ring of
-/// marks beside the cells, one pushed after a cell is set and popped before it is looked at, shows
-/// that no more is got than was put.
+/// Each end keeps a note of each cell that it set or saw set, and notes of one cell agree. Beside
+/// the cells is a ring of marks: the writer pushes one after it sets a cell, and the reader pops
+/// one before it looks at the cell. So no more is got than was put.
 pub struct RowLane<T> {
     marker: PhantomData<T>,
 }
@@ -80,7 +80,18 @@ impl<T: Send + Sync + Drop> Lane for RowLane<T> {
     ghost use Rattle.std.specs.Prelude.{[], ◌∷◌, ◌++◌, ⊤};
     ghost use Rattle.lane.specs.End.{of_end, has_last};
     ghost use Rattle.lane.specs.Lawful.{IsLawful, count_of};
-    ghost use Rattle.lane.specs.RowLane.{RowName, RowName_set, room_of, in_name, shut_name, out_name, put_in, put_shut, was_placed, got};
+    ghost use Rattle.lane.specs.RowLane.{
+      RowName,
+      RowName_set,
+      room_of,
+      in_name,
+      shut_name,
+      out_name,
+      put_in,
+      put_shut,
+      was_placed,
+      got,
+    };
 
     type Item = T;
 

@@ -67,7 +67,7 @@ impl Octets {
         self.as_slice().is_empty()
     }
 
-    /// The same bytes. Those that have memory of their own are copied, the others take none.
+    /// A copy. Bytes in memory of their own are copied, and the others take no memory.
     pub fn copy(&self) -> Result<Octets, AllocError>
         ensures { IfOk result (λ copy. copy ≡ self.now) }
     {
@@ -79,7 +79,7 @@ impl Octets {
         }
     }
 
-    /// The same bytes, of which no copy takes memory. They stay where they are.
+    /// These bytes, made so that no copy of them takes memory. They stay where they are.
     pub fn share(self) -> Result<Octets, AllocError>
         ensures { IfOk result (λ shared. shared ≡ self) }
     {
@@ -93,7 +93,7 @@ impl Octets {
     }
 }
 
-/// One call, so that a proof of who drops octets doesn't ask where they are.
+/// One function, so that a proof about code that drops octets doesn't ask where they are.
 impl Drop for Octets {
     fn drop(self) {
         let Octets { holding } = self;

@@ -52,7 +52,7 @@ impl<T> Sequence<T> {
 }
 
 impl Sequence<Field> {
-    /// The same fields, in memory of their own.
+    /// A copy of the fields, in memory of its own.
     pub fn copy(&self) -> Result<Sequence<Field>, AllocError>
         ensures { IfOk result (λ copy. copy ≡ self.now) }
     {

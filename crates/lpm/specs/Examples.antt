@@ -3,14 +3,24 @@ use Rattle.std.specs.Prelude.{◌≡◌, ℕ, List, [], ◌∷◌, refl, Some}
 use Rattle.std.proofs.Common.{arith}
 use Rattle.lpm.specs.declared.fault.LpmFault.TheVariants.{Compressed, TooLong}
 use Rattle.lpm.specs.Messages.{frame, frames, announced, IsUnfinished, IsFaulty}
-use Rattle.lpm.specs.Reading.{front_of_message, front_of_length, front_of, reading_within, reading_of, messages_of, fault_of}
+use Rattle.lpm.specs.Reading.{
+  front_of_message,
+  front_of_length,
+  front_of,
+  reading_within,
+  reading_of,
+  messages_of,
+  fault_of,
+}
 
 -- an empty message, and one of two bytes
-pub empty_and_two : frames ([] ∷ (8 ∷ 1 ∷ []) ∷ []) ≡ 0 ∷ 0 ∷ 0 ∷ 0 ∷ 0 ∷ 0 ∷ 0 ∷ 0 ∷ 0 ∷ 2 ∷ 8 ∷ 1 ∷ []
+pub empty_and_two : frames ([] ∷ (8 ∷ 1 ∷ []) ∷ [])
+    ≡ 0 ∷ 0 ∷ 0 ∷ 0 ∷ 0 ∷ 0 ∷ 0 ∷ 0 ∷ 0 ∷ 2 ∷ 8 ∷ 1 ∷ []
 unfolding frame
 empty_and_two = refl
 
-pub messages_of-empty_and_two : messages_of (0 ∷ 0 ∷ 0 ∷ 0 ∷ 0 ∷ 0 ∷ 0 ∷ 0 ∷ 0 ∷ 2 ∷ 8 ∷ 1 ∷ []) ≡ [] ∷ (8 ∷ 1 ∷ []) ∷ []
+pub messages_of-empty_and_two : messages_of (0 ∷ 0 ∷ 0 ∷ 0 ∷ 0 ∷ 0 ∷ 0 ∷ 0 ∷ 0 ∷ 2 ∷ 8 ∷ 1 ∷ [])
+    ≡ [] ∷ (8 ∷ 1 ∷ []) ∷ []
 unfolding announced front_of_message front_of_length front_of reading_within reading_of
 messages_of-empty_and_two = refl
 

@@ -1,7 +1,13 @@
--- The numbers by which the faults are known outside.
+-- The numbers by which programs print the faults.
 use Rattle.std.specs.Prelude.{ℕ}
 use Rattle.lpm.specs.declared.fault.LpmFault.{LpmFault}
-use Rattle.lpm.specs.declared.fault.LpmFault.TheVariants.{Compressed, BadFlag, TooLong, CutAtEnd, OutOfMemory}
+use Rattle.lpm.specs.declared.fault.LpmFault.TheVariants.{
+  Compressed,
+  BadFlag,
+  TooLong,
+  CutAtEnd,
+  OutOfMemory,
+}
 
 abbrev pub code_of : LpmFault → ℕ
 code_of Compressed = 1

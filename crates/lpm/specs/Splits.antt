@@ -1,12 +1,27 @@
--- What a splitter answers, of the bytes that it was given and whose messages it hasn't answered yet.
+-- What a splitter answers, by the bytes that it was given, without those of the messages that it
+-- answered.
 use Rattle.std.specs.Prelude.{◌≡◌, ℕ, List, [], ◌∷◌, ◌++◌, All}
 use Rattle.lpm.specs.declared.fault.LpmFault.{LpmFault}
-use Rattle.lpm.specs.declared.fault.LpmFault.TheVariants.{Compressed, BadFlag, TooLong, CutAtEnd, OutOfMemory}
+use Rattle.lpm.specs.declared.fault.LpmFault.TheVariants.{
+  Compressed,
+  BadFlag,
+  TooLong,
+  CutAtEnd,
+  OutOfMemory,
+}
 use Rattle.lpm.specs.declared.splitter.Split.{Split}
 use Rattle.lpm.specs.declared.splitter.Split.TheVariants.{Message, More, Fault}
-use Rattle.lpm.specs.Messages.{frame, frames, IsMessage, IsUnfinished, IsFaulty, Spells, IsFaultyAfter}
+use Rattle.lpm.specs.Messages.{
+  frame,
+  frames,
+  IsMessage,
+  IsUnfinished,
+  IsFaulty,
+  Spells,
+  IsFaultyAfter,
+}
 
--- a fault stands in the bytes, unless it is the want of memory
+-- the bytes have the fault, unless it is want of memory
 abbrev pub Stands : LpmFault → Type 0 → Type 0
 Stands OutOfMemory there = Unit {0}
 Stands Compressed there = there
@@ -20,9 +35,10 @@ Answers old (Message message) new = IsMessage message × (old ≡ frame message 
 Answers old More new = IsUnfinished old × (new ≡ old)
 Answers old (Fault fault) new = Stands fault (IsFaulty old fault) × (new ≡ old)
 
--- the same, of all bytes that were given so far and the messages that were answered before
+-- one answer, by all bytes that were given so far and the messages that were answered before
 abbrev pub Continues : List ℕ → List (List ℕ) → Split → List ℕ → Type 0
 Continues bytes messages (Message message) left =
     All IsMessage (messages ++ message ∷ []) × (bytes ≡ frames (messages ++ message ∷ []) ++ left)
 Continues bytes messages More left = Spells bytes messages left
-Continues bytes messages (Fault fault) left = Stands fault (IsFaultyAfter bytes messages fault) × (bytes ≡ frames messages ++ left)
+Continues bytes messages (Fault fault) left =
+    Stands fault (IsFaultyAfter bytes messages fault) × (bytes ≡ frames messages ++ left)

@@ -1,10 +1,11 @@
--- What is left behind the last whole message of some bytes. The words of the crate's own functions.
+-- What is left after the last whole message of some bytes. Only the crate's own functions use these
+-- words.
 use Rattle.std.specs.Prelude.{◌≡◌, ℕ, List, ◌++◌, length, take, All}
 use Rattle.lpm.specs.declared.tail.Tail.{Tail}
 use Rattle.lpm.specs.declared.fault.LpmFault.{LpmFault}
 use Rattle.lpm.specs.Messages.{frames, IsMessage, IsFaultyAfter, Spells}
 
--- behind whole messages there is this many bytes, of which the first five are known
+-- after whole messages there are `len` bytes, of which the first five are known
 pub record Leaves (bytes : List ℕ) (tail : Tail) : Type 0 where
   pub messages : List (List ℕ)
   pub rest : List ℕ

@@ -22,7 +22,7 @@ pub enum LpmFault {
     /// The bytes end inside a message.
     #[error("the bytes end inside a message")]
     CutAtEnd,
-    /// No memory was to be had.
+    /// There is no memory.
     #[error("out of memory")]
     OutOfMemory,
 }

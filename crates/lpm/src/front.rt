@@ -1,6 +1,7 @@
 //! The message at the front of some bytes.
 //!
-//! `is_frame` and `is_frame_with`: public, since whoever is handed one message with its length prefix needs the test.
+//! `is_frame` and `is_frame_with` are public: a caller who gets one message with its length prefix
+//! needs the test.
 
 ghost use Rattle.std.specs.Prelude.{◌≡◌, ◌↔◌, ◌++◌, take, replicate, IsTrue};
 ghost use Rattle.lpm.specs.Messages.{AreBytes, IsFrame};
@@ -15,7 +16,7 @@ pub(crate) const PREFIX_LEN: usize = 5;
 /// The flag of a message that isn't compressed.
 pub(crate) const UNCOMPRESSED: u8 = 0;
 
-/// The flag of one that is.
+/// The flag of a message that is compressed.
 const COMPRESSED: u8 = 1;
 
 /// Whether these bytes are one message with its prefix, and nothing else. It takes constant time.
@@ -26,9 +27,10 @@ pub fn is_frame(bytes: &[u8]) -> bool
     is_frame_with(bytes, 0)
 }
 
-/// Whether these bytes with `zeros` zero bytes after them are one message with its prefix, and nothing else.
+/// Whether these bytes with `zeros` zero bytes after them are one message with its prefix, and
+/// nothing else.
 ///
-/// The prefix may lie in the zeros, whole or in part. The test takes constant time.
+/// The prefix may be in the zeros, wholly or in part. The test takes constant time.
 pub fn is_frame_with(front: &[u8], zeros: u32) -> bool
     ensures frame { IsTrue result ↔ IsFrame (front.now ++ replicate zeros 0) }
     ensures computed { result ≡ is_frame (front.now ++ replicate zeros 0) }
@@ -51,8 +53,8 @@ fn padded(front: &[u8]) -> [u8; PREFIX_LEN]
     prefix
 }
 
-/// How many bytes the message at the front has, its prefix included, as far as these bytes say: until
-/// its length is there, those of the prefix alone.
+/// How many bytes the message at the front has with its prefix. Until its length is there, these
+/// are the bytes of the prefix alone.
 pub(crate) fn frame_len(front: &[u8]) -> Result<usize, LpmFault>
     ensures extent { result ≡ extent_of front.now }
     ensures means { IsExtent front.now result }

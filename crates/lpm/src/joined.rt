@@ -11,7 +11,7 @@ use std::mem;
 #[derive(Drop)]
 pub(crate) struct Joined {
     bytes: Vec<u8>,
-    // No more than the message that begins there.
+    // It has no more than the message that begins there.
     ghost within: { (total : ℕ) → extent_of bytes.items ≡ Ok total → length bytes.items ≤ total },
 }
 
@@ -25,7 +25,7 @@ impl Joined {
         }
     }
 
-    /// Where the memory for the bytes comes from.
+    /// The allocator of the bytes.
     pub(crate) fn allocator(&self) -> Global {
         *self.bytes.allocator()
     }
@@ -47,9 +47,10 @@ impl Joined {
         Ok(())
     }
 
-    /// Moves bytes from the front of the piece to the end of these, until there are `len` or the piece ends.
+    /// Moves bytes from the front of the piece to the end of these, until there are `len` of them
+    /// or the piece ends.
     ///
-    /// It makes the room for `len` bytes first, once and with no fill.
+    /// It makes room for `len` bytes first, once, without filling it.
     pub(crate) fn append(&mut self, piece: &mut Bytes, len: usize) -> Result<(), AllocError>
         requires extent { extent_of self.old.bytes.items ≡ Ok len }
         requires unfinished { length self.old.bytes.items < len }

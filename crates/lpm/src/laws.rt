@@ -1,13 +1,23 @@
-//! Laws of the definitions, for whoever builds on them: functions that do nothing, and whose contracts are the laws.
+//! Laws of the definitions, for code that builds on them. The functions do nothing: their contracts
+//! are the laws.
 
 ghost use Rattle.std.specs.Prelude.{◌≡◌, ℕ, List, ◌++◌, length, Some, None, MatchOption, All};
 ghost use Rattle.lpm.specs.declared.fault.LpmFault.{LpmFault};
 ghost use Rattle.lpm.specs.declared.TheConstants.{MAX_MESSAGE_LEN};
-ghost use Rattle.lpm.specs.Messages.{frame, frames, max_message_len, prefix_of, IsMessage, Spells, IsFaultyAfter, AreBytes};
+ghost use Rattle.lpm.specs.Messages.{
+  frame,
+  frames,
+  max_message_len,
+  prefix_of,
+  IsMessage,
+  Spells,
+  IsFaultyAfter,
+  AreBytes,
+};
 ghost use Rattle.lpm.specs.Reading.{messages_of, rest_of, fault_of};
 
-/// Of every list of bytes exactly one holds: it spells messages and an unfinished rest, or it is faulty behind
-/// messages; and that with one list of messages, `messages_of`.
+/// Every list of bytes spells messages and an unfinished rest, or is faulty after messages: exactly
+/// one of both, and with one list of messages, `messages_of`.
 pub fn one_reading()
     ensures some { (bytes : List ℕ) → AreBytes bytes → MatchOption (fault_of bytes)
         (Spells bytes (messages_of bytes) (rest_of bytes))
@@ -35,7 +45,7 @@ pub fn longer_reading()
         → IsFaultyAfter bytes messages fault → IsFaultyAfter (bytes ++ more) messages fault }
 {}
 
-/// The prefix of a message, and the message right behind it, are its spelling.
+/// The prefix of a message, and then the message, are its spelling.
 pub fn prefix_and_message()
     ensures { (message : List ℕ) → prefix_of (length message) ++ message ≡ frame message }
 {}

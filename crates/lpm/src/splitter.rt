@@ -1,13 +1,30 @@
 //! Messages out of pieces.
 //!
-//! The bytes of an unfinished message are copied out of their pieces when `next` is asked: sharing them would save one
-//! copy, and let one byte hold on to a whole buffer. They are copied once, into room that is made for the whole message
-//! when its prefix is known.
+//! `next` copies the bytes of an unfinished message out of their pieces. Sharing them would save
+//! one copy, but let one byte keep a whole buffer. They are copied once, into room for the whole
+//! message, which is made once its prefix is known.
 //!
-//! `Splitter::end`: it reads the waiting bytes again, in time linear in the pieces and messages that wait. It is asked
-//! once a call, when little waits.
+//! `Splitter::end` reads the waiting bytes again, in time linear in the pieces and messages that
+//! wait. It is called once for each gRPC call, when little waits.
 
-ghost use Rattle.std.specs.Prelude.{◌≡◌, ℕ, ◌<◌, ◌≤◌, List, [], ◌++◌, length, All, IfErr, IfSome, OnErr, OnOk, IfNone, IfOk, Ok};
+ghost use Rattle.std.specs.Prelude.{
+  ◌≡◌,
+  ℕ,
+  ◌<◌,
+  ◌≤◌,
+  List,
+  [],
+  ◌++◌,
+  length,
+  All,
+  IfErr,
+  IfSome,
+  OnErr,
+  OnOk,
+  IfNone,
+  IfOk,
+  Ok,
+};
 ghost use Rattle.lpm.specs.declared.fault.LpmFault.TheVariants.{CutAtEnd, OutOfMemory};
 ghost use Rattle.lpm.specs.Messages.{frames, IsCut, IsMessage, IsNotCut};
 ghost use Rattle.lpm.specs.Splits.{Answers, Continues};
@@ -22,26 +39,27 @@ use std::alloc::{AllocError, Global};
 use std::collections::VecDeque;
 use std::marker::Model;
 
-/// What stands at the front of the bytes that a `Splitter` was given.
+/// What is at the front of the bytes that a `Splitter` was given.
 #[derive(Debug, Drop)]
 pub enum Split {
     /// The next message, without its prefix.
     Message(Bytes),
     /// The next message isn't whole yet.
     More,
-    /// No message can follow, or memory was wanting.
+    /// No message can follow, or there is no memory.
     Fault(LpmFault),
 }
 
 /// Splits the DATA bytes of a call into messages, in whatever pieces they come.
 ///
-/// A contract sees it as a list: the bytes that it was given and that no message which it answered took.
-/// A message that lies in one shared piece is a slice of it; one that is cut over pieces is joined, once.
+/// A contract sees it as a list: the bytes that it was given, without those of the messages that it
+/// answered. A message in one shared piece is a slice of the piece. A message that is cut over
+/// pieces is joined, once.
 #[derive(Drop)]
 pub struct Splitter {
     /// The bytes of a message that is cut over pieces, as far as they were looked at.
     joined: Joined,
-    /// The piece that follows them, as far as it wasn't looked at.
+    /// The rest of the piece that follows them, which wasn't looked at yet.
     piece: Bytes,
     /// The pieces that follow it.
     later: VecDeque<Bytes>,
@@ -94,12 +112,14 @@ impl Splitter {
         Ok(())
     }
 
-    /// The next message, or why there is none.
+    /// The next message, or why there is none. It answers `More` only where what is left is
+    /// unfinished.
     ///
-    /// After a fault of the bytes it answers that fault again. After `Fault(OutOfMemory)` it may be called again.
+    /// A fault of the bytes stays at their front, and each later call answers it again.
+    /// `Fault(OutOfMemory)` loses nothing: it may be called again.
     pub fn next(&mut self) -> Split
         ensures answer { Answers self.old result self.new }
-        // Of all bytes that were given so far, however they were cut into pieces.
+        // For all bytes that were given so far, however they were cut into pieces.
         ensures however_cut { (bytes : List ℕ) (messages : List (List ℕ)) → All IsMessage messages
             → bytes ≡ frames messages ++ self.old → Continues bytes messages result self.new }
     {
@@ -116,8 +136,8 @@ impl Splitter {
 
     /// Whether the bytes that were given so far end without cutting a message.
     ///
-    /// It is `Err(CutAtEnd)` exactly where an unfinished message is left, whether or not `next` has answered
-    /// the messages before it. Where the bytes are faulty nothing unfinished is left. It takes no memory.
+    /// It is `Err(CutAtEnd)` exactly where the bytes end inside a message, whether or not `next`
+    /// has answered the messages before it. Bytes with a fault aren't cut. It takes no memory.
     pub fn end(&self) -> Result<(), LpmFault>
         ensures ok { OnOk result (IsNotCut self.now) }
         ensures cut { OnErr result (IsCut self.now) }
@@ -129,7 +149,7 @@ impl Splitter {
         }
     }
 
-    /// What is left behind the last whole message, or the fault that stands there.
+    /// What is left after the last whole message, or the fault there.
     fn tail(&self) -> Result<Tail, LpmFault>
         ensures ok { IfOk result (Leaves self.now) }
         ensures fault { IfErr result (IsFaultySomewhere self.now) }
@@ -173,7 +193,8 @@ fn turn(joined: &mut Joined, piece: &mut Bytes, later: &mut VecDeque<Bytes>) -> 
     join(joined, piece, len)
 }
 
-/// A message begins where a piece does: it is a slice of the piece, or its bytes are to be joined.
+/// A message begins at the front of a piece: it is a slice of the piece, or its bytes are to be
+/// joined.
 fn start(joined: &mut Joined, piece: &mut Bytes) -> Option<Split>
     requires begins { joined.old.bytes.items ≡ [] }
     requires some { 0 < length piece.old }
@@ -197,7 +218,8 @@ fn start(joined: &mut Joined, piece: &mut Bytes) -> Option<Split>
     join(joined, piece, PREFIX_LEN)
 }
 
-/// Moves bytes of the piece to the end of the joined ones, up to the end of the prefix or of the message that it announces.
+/// Moves bytes of the piece to the end of the joined ones, up to the end of the prefix or of the
+/// message that it announces.
 fn join(joined: &mut Joined, piece: &mut Bytes, len: usize) -> Option<Split>
     requires extent { extent_of joined.old.bytes.items ≡ Ok len }
     requires unfinished { length joined.old.bytes.items < len }

@@ -1,6 +1,22 @@
 //! Where bytes end: inside a message, or not.
 
-ghost use Rattle.std.specs.Prelude.{◌≡◌, ℕ, ◌+◌, ◌<◌, ◌≤◌, List, [], ◌++◌, length, take, IfErr, IfOk, OnOk, OnErr, Ok};
+ghost use Rattle.std.specs.Prelude.{
+  ◌≡◌,
+  ℕ,
+  ◌+◌,
+  ◌<◌,
+  ◌≤◌,
+  List,
+  [],
+  ◌++◌,
+  length,
+  take,
+  IfErr,
+  IfOk,
+  OnOk,
+  OnErr,
+  Ok,
+};
 ghost use Rattle.std.specs.List.{concat};
 ghost use Rattle.lpm.specs.declared.fault.LpmFault.TheVariants.{CutAtEnd};
 ghost use Rattle.lpm.specs.Messages.{IsCut, IsNotCut};
@@ -11,14 +27,14 @@ use crate::front::{PREFIX_LEN, frame_len};
 use bytes::Bytes;
 use std::collections::VecDeque;
 
-/// What is left behind the last whole message of the bytes that were read: how many bytes, and the
+/// What is left after the last whole message of the bytes that were read: how many bytes, and the
 /// first five of them.
 #[derive(Drop)]
 pub(crate) struct Tail {
     prefix: [u8; PREFIX_LEN],
     len: usize,
     ghost five: { length prefix ≡ 5 },
-    // No more than the message that begins there.
+    // It has no more than the message that begins there.
     ghost within: { (total : ℕ) → extent_of (take len prefix) ≡ Ok total → len ≤ total },
 }
 
@@ -50,7 +66,7 @@ impl Tail {
         Ok(())
     }
 
-    /// Reads on, over pieces in their order.
+    /// Reads on, over pieces in order.
     pub(crate) fn read_pieces(&mut self, pieces: &VecDeque<Bytes>) -> Result<(), LpmFault>
         ensures ok { (bytes : List ℕ) → Leaves bytes self.old
             → OnOk result (Leaves (bytes ++ concat pieces.now.items) self.new) }
@@ -91,7 +107,7 @@ impl Tail {
         &self.prefix[..self.len.min(PREFIX_LEN)]
     }
 
-    /// Reads some bytes of a piece, and says how many.
+    /// Reads some bytes of a piece, and answers how many.
     fn take(&mut self, piece: &[u8]) -> Result<usize, LpmFault>
         requires { 0 < length piece.now }
         ensures some { IfOk result (λ count. (0 < count) × (count ≤ length piece.now)) }
@@ -132,7 +148,7 @@ impl Tail {
     }
 }
 
-/// The first `len` bytes of a prefix, and more behind them.
+/// The first `len` bytes of a prefix, and then more.
 fn extended(prefix: [u8; PREFIX_LEN], len: usize, more: &[u8]) -> [u8; PREFIX_LEN]
     requires { len + length more.now ≤ 5 }
     ensures front { take (len + length more.now) result ≡ take len prefix ++ more.now }

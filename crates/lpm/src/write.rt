@@ -9,7 +9,8 @@ use crate::{LpmFault, MAX_MESSAGE_LEN};
 
 /// Appends the message with its prefix: the flag 0, four bytes of length, the message.
 ///
-/// The bytes of `message` are copied once. Refuses a message of more than `MAX_MESSAGE_LEN` bytes.
+/// The bytes of `message` are copied once. Memory aside, it refuses only a message of more than
+/// `MAX_MESSAGE_LEN` bytes.
 pub fn write_message(message: &[u8], out: &mut Vec<u8>) -> Result<(), LpmFault>
     ensures ok { OnOk result (out.new.items ≡ out.old.items ++ frame message.now) }
     ensures within { OnOk result (IsMessage message.now) }
@@ -25,10 +26,11 @@ pub fn write_message(message: &[u8], out: &mut Vec<u8>) -> Result<(), LpmFault>
     Ok(())
 }
 
-/// Appends the prefix of a message of `len` bytes, for whoever writes the message itself right behind it, so that message
-/// and prefix lie in one buffer.
+/// Appends the prefix of a message of `len` bytes, for a caller who writes the message itself right
+/// after it, so that prefix and message are in one buffer.
 ///
-/// Refuses a message of more than `MAX_MESSAGE_LEN` bytes. The memory for the message is the caller's to reserve.
+/// It refuses a message of more than `MAX_MESSAGE_LEN` bytes. The caller reserves the memory for
+/// the message.
 pub fn write_prefix(len: usize, out: &mut Vec<u8>) -> Result<(), LpmFault>
     ensures ok { OnOk result (out.new.items ≡ out.old.items ++ prefix_of len) }
     ensures within { OnOk result (len ≤ max_message_len) }

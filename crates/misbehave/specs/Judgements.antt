@@ -5,7 +5,7 @@ use Rattle.misbehave.specs.declared.misbehaviour.Duty.TheVariants as duty
 use Rattle.misbehave.specs.declared.verdict.Judgement.{Judgement}
 use Rattle.misbehave.specs.declared.verdict.Judgement.TheVariants as judgement
 
--- it is told as wrong
+-- the client is reported as wrong
 abbrev pub IsAccused : Judgement → Type 0
 IsAccused judgement.Right = ⊥
 IsAccused (judgement.Wrong fault) = ⊤

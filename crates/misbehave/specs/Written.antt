@@ -10,7 +10,8 @@ head_text kind flags stream len = bytes_high_first 3 len ++ kind ∷ flags ∷ b
 abbrev pub frame_text : ℕ → ℕ → ℕ → List ℕ → List ℕ
 frame_text kind flags stream content = head_text kind flags stream (length content) ++ content
 
--- a short text: its length in one byte, which isn't of Huffman's code, and its bytes (RFC 7541, section 5.2)
+-- a short text: its length in one byte, which isn't of Huffman's code, and its bytes (RFC 7541,
+-- section 5.2)
 abbrev pub text_of : List ℕ → List ℕ
 text_of bytes = length bytes ∷ bytes
 

@@ -50,7 +50,7 @@ pub struct Call {
 }
 
 impl Call {
-    /// A call whose head came, with a window of so many bytes.
+    /// A call whose head came, with a window of this size.
     pub fn new(alloc: Global, stream: StreamId, window: i64, acks: u32) -> Call
         ensures { result.stream ≡ stream }
     {
@@ -79,7 +79,7 @@ impl Call {
         self.reset.is_none() && !(self.is_over && (self.is_whole || self.is_reset))
     }
 
-    /// Whether its request has been whole for so many milliseconds.
+    /// Whether its request has been whole for this many milliseconds.
     pub fn has_been_whole(&self, now: u64, milliseconds: u64) -> bool {
         match self.whole_at {
             Some(at) => now.saturating_sub(at) >= milliseconds,

@@ -179,7 +179,7 @@ impl<L: Line> Connection<L> {
         Ok(number)
     }
 
-    /// A PING was answered, which may be one of the fence. What comes after it in the same bytes is
+    /// A PING was answered, which may be one of the fence. What comes after it in these bytes is
     /// judged by that.
     fn pass(&mut self, number: u64) {
         match self.fence {
@@ -204,7 +204,7 @@ impl<L: Line> Connection<L> {
         }
     }
 
-    /// Gives credit for so many bytes of a call.
+    /// Gives credit for bytes of a call.
     pub fn credit(&mut self, stream: StreamId, increment: u32) -> Result<(), Halt> {
         if let Some(call) = call_on(&mut self.calls, stream) {
             call.window = call.window.saturating_add(i64::from(increment));
@@ -322,7 +322,7 @@ impl<L: Line> Connection<L> {
         Ok(())
     }
 
-    /// Takes what a frame tells.
+    /// Takes what a frame says.
     fn take(&mut self, told: Told) -> Result<(), Halt> {
         match told {
             Told::Head(stream, last, is_updated) => self.head(stream, last, is_updated),
@@ -454,8 +454,8 @@ impl<L: Line> Connection<L> {
         Ok(())
     }
 
-    /// The client's windows have another size at first. One that grows is not made use of unless
-    /// the client is told that its SETTINGS hold.
+    /// The client's windows get another initial size. One that grows isn't used if this server
+    /// acknowledges no SETTINGS.
     fn resize(&mut self, size: u32) -> Result<(), Halt> {
         if !self.rules.acknowledges && size >= USUAL_WINDOW {
             return Ok(());
@@ -484,8 +484,8 @@ impl<L: Line> Connection<L> {
         self.judge_windows(change)
     }
 
-    /// Sends DATA of the right reply, as the windows let them through, up to so many bytes in a
-    /// frame; behind them so much padding. Answers whether a frame was sent.
+    /// Sends DATA of the right reply in one frame, of at most `most` bytes and as far as the
+    /// windows let them through. Answers whether a frame was sent.
     pub fn send_piece(&mut self, index: usize, most: usize) -> Result<bool, Halt> {
         let Some(call) = self.calls.get_mut(index) else {
             return Ok(false);
@@ -525,14 +525,14 @@ pub fn open_calls(calls: &[Call]) -> usize {
     calls.iter().filter(|call| call.is_open()).count()
 }
 
-/// The windows of all calls change by so much.
+/// Changes the windows of all calls by this much.
 fn move_windows(calls: &mut Vec<Call>, change: i64) {
     for call in calls.iter_mut() {
         call.window = call.window.saturating_add(change);
     }
 }
 
-/// Takes DATA of a call, which count so much.
+/// Takes DATA of a call, and how much they count for flow control.
 fn take_data(call: &mut Call, last: bool, len: u32, bytes: &[u8]) -> Result<(), Halt>
     ensures { OnOk result (0 < len → pos 0 ≤ℤ call.new.window) }
 {

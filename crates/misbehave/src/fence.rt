@@ -20,5 +20,5 @@ pub enum Fence {
 /// How many milliseconds are between the first answer and the second PING.
 pub const SETTLING: u64 = 200;
 
-/// The same, where a client has to reject what was sent before.
+/// How long the fence waits if a client has to reject what was sent before.
 pub const REJECTION: u64 = 1_000;

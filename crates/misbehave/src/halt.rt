@@ -66,8 +66,8 @@ impl From<FragmentFault> for Halt {
     }
 }
 
-/// Each reader of integers has a limit of its own (RFC 7541, section 5.1), so one past this server's
-/// breaks no rule.
+/// Each reader of integers has a limit of its own (RFC 7541, section 5.1), so one past this
+/// server's breaks no rule.
 impl From<HpackFault> for Halt {
     fn from(fault: HpackFault) -> Halt {
         match fault {

@@ -19,7 +19,7 @@ const NEWEST_ENTRY: &[u8] = &[0x80 | 62];
 /// section 6.3).
 const NO_TABLE: u8 = 0x20;
 
-/// What a frame tells, or a header block.
+/// What a frame or a header block says.
 #[derive(Drop)]
 pub enum Told {
     /// A whole header block of a stream; whether nothing follows on it; and whether it begins with
@@ -74,7 +74,7 @@ impl Intake {
         Ok(())
     }
 
-    /// What is told next, if something is.
+    /// What comes next, if something does.
     pub fn next(&mut self) -> Result<Option<Told>, Halt> {
         for _ in 0..u64::MAX {
             let Some(answer) = self.reader.next() else {
@@ -88,7 +88,7 @@ impl Intake {
         Ok(None)
     }
 
-    /// What a frame tells.
+    /// Takes a frame, and what it says.
     fn take(&mut self, frame: Frame) -> Result<Option<Told>, Halt> {
         if let Some(block) = self.block.take() {
             return self.go_on(block, &frame);
@@ -142,7 +142,7 @@ impl Intake {
     }
 }
 
-/// What DATA or RST_STREAM tells.
+/// What DATA or RST_STREAM says.
 fn told_of_stream(frame: Frame) -> Option<Told> {
     let Frame { head, content } = frame;
     match head.kind {
@@ -155,7 +155,7 @@ fn told_of_stream(frame: Frame) -> Option<Told> {
     }
 }
 
-/// What a frame of the connection tells.
+/// What a frame of the connection says.
 fn told_of_connection(frame: Frame) -> Option<Told> {
     let Frame { head, content } = frame;
     let is_ack = head.flags.contains(Flags::ACK);

@@ -1,11 +1,10 @@
 //! A server that misbehaves, for authors of clients.
 //!
 //! A misbehaviour is a short list of steps in a table: what the server sends and what it waits for,
-//! what the client is to do, and which sentence binds it then. A `Stage` plays some of them
-//! against whatever client calls: the eight of gRPC's negative HTTP/2 tests by their names and
-//! rules, and more. What a client did is seen on the wire. A client is told as wrong only where a
-//! sentence forbids what it did, which is printed; and as not tested where it didn't do what the
-//! case needs.
+//! what the client is to do, and which sentence binds it then. A `Stage` plays some of them against
+//! whatever client calls: the eight of gRPC's negative HTTP/2 tests by their names and rules, and
+//! more. What a client did is seen on the wire. A client is reported as wrong only if a sentence
+//! forbids what it did, which is printed; and as not tested if it didn't do what the case needs.
 //!
 //! To add one, write its entry in `official`, `responses`, `framing`, `windows` or `closing`, and
 //! its sentence in `sentences`.

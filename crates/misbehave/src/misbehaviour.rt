@@ -14,7 +14,7 @@ pub enum Calls {
 }
 
 impl Calls {
-    /// What the client is told to do.
+    /// What the client is to do, as text.
     pub fn text(self) -> &'static str {
         match self {
             Calls::One => "call UnaryCall as large_unary does, wait for its end, and close the \

@@ -232,8 +232,8 @@ impl<L: Line> Player<L> {
         self.answer(0)
     }
 
-    /// Whether the client has read all that was sent, and so many milliseconds have passed since.
-    /// What was sent up to the first question is the misbehaviour.
+    /// Whether the client has read all that was sent, and `settling` milliseconds have passed
+    /// since. What was sent up to the first question is the misbehaviour.
     fn is_read(&mut self, settling: u64) -> Result<bool, Halt> {
         self.is_shown = self.is_shown || !self.is_cut;
         match self.connection.fence {
@@ -250,7 +250,7 @@ impl<L: Line> Player<L> {
         Ok(matches!(self.connection.fence, Fence::Past))
     }
 
-    /// Answers the calls that no step is about, once their requests have been whole for so many
+    /// Answers the calls that no step is about, once their requests have been whole for a number of
     /// milliseconds.
     fn answer(&mut self, milliseconds: u64) -> Result<(), Halt> {
         for index in 0..self.connection.calls.len() {
@@ -269,7 +269,7 @@ impl<L: Line> Player<L> {
         is_free && self.has_been_whole(call, milliseconds)
     }
 
-    /// Whether a request has been whole for so many milliseconds.
+    /// Whether a request has been whole for a number of milliseconds.
     fn has_been_whole(&self, call: &Call, milliseconds: u64) -> bool {
         if milliseconds == 0 {
             return call.is_whole;
@@ -396,7 +396,7 @@ impl<L: Line> Player<L> {
         }
     }
 
-    /// Whether so many bytes came of the call.
+    /// Whether `count` bytes came of the call.
     fn await_bytes(&self, count: usize) -> Result<bool, Halt> {
         let Some(call) = self.current_call() else {
             return Ok(true);

@@ -1,4 +1,4 @@
-//! What the client may send, by what it was told: SETTINGS, GOAWAY and PINGs; and what it owes.
+//! What the client may send, after the SETTINGS, GOAWAY and PINGs that it got; and what it owes.
 
 ghost use Rattle.std.specs.Prelude.{◌≡◌, ◌≤◌, ◌<◌, false, OnOk};
 
@@ -166,7 +166,7 @@ impl Rules {
         self.is_goaway_read = self.has_goaway;
     }
 
-    /// A call comes while so many are open.
+    /// A call comes while `live` calls are open.
     pub fn call_comes(&self, live: usize) -> Result<(), Halt>
         ensures allowed { OnOk result (live < self.now.calls) }
         ensures open { OnOk result (self.now.is_goaway_read ≡ false) }

@@ -230,8 +230,8 @@ fn has_long_reply<L: Line>(connection: &mut Connection<L>, index: usize) -> Resu
     }
 }
 
-/// Sends the right reply in frames of so many bytes, as the windows let them through. Whether all
-/// of it was sent.
+/// Sends the right reply in frames of a size, as far as the windows let them through. Answers
+/// whether all of it was sent.
 fn send_in<L: Line>(
     connection: &mut Connection<L>,
     index: usize,
@@ -258,7 +258,7 @@ fn reply_len<L: Line>(connection: &mut Connection<L>, index: usize) -> Result<us
     Ok(call.reply_len())
 }
 
-/// How many bytes of the right reply are still to be sent, up to so many.
+/// How many bytes of the right reply are still to be sent, up to a number.
 fn left_of<L: Line>(
     connection: &mut Connection<L>,
     index: usize,
@@ -271,8 +271,8 @@ fn left_of<L: Line>(
     }
 }
 
-/// Sends the first so many bytes of the right reply, as the windows let them through. Whether all
-/// of them were sent.
+/// Sends the first bytes of the right reply, up to a number, as far as the windows let them
+/// through. Answers whether all of them were sent.
 fn send_up_to<L: Line>(
     connection: &mut Connection<L>,
     index: usize,
@@ -321,8 +321,8 @@ fn send_bytewise<L: Line>(connection: &mut Connection<L>, index: usize) -> Resul
     Ok(true)
 }
 
-/// Sends the right reply in padded frames of so many bytes of it at most, and in so many frames at
-/// least.
+/// Sends the right reply in padded frames, each with at most a number of its bytes, and in at least
+/// a number of frames.
 fn send_padded<L: Line>(
     connection: &mut Connection<L>,
     index: usize,
@@ -345,7 +345,7 @@ fn send_padded<L: Line>(
     Ok(false)
 }
 
-/// Sends so many bytes of the right reply in a padded frame, if the windows let all of it through.
+/// Sends bytes of the right reply in a padded frame, if the windows let all of it through.
 fn send_padded_piece<L: Line>(
     connection: &mut Connection<L>,
     index: usize,
@@ -383,7 +383,7 @@ fn too_long<L: Line>(connection: &mut Connection<L>, stream: StreamId) -> Result
     Ok(())
 }
 
-/// Appends so many zero bytes.
+/// Appends `count` zero bytes.
 fn push_zeros(out: &mut Vec<u8>, count: u32) -> Result<(), AllocError> {
     for _ in 0..count / 16_384 {
         out.extend_from_slice(&ZEROS)?;

@@ -54,7 +54,7 @@ pub struct Place<'a> {
     pub seconds: u16,
 }
 
-/// Prints the names of all misbehaviours, a line each; or what is told of each before its client
+/// Prints the names of all misbehaviours, a line each; or what is printed of each before its client
 /// comes.
 pub fn list<W: ConnWrite>(alloc: Global, is_verbose: bool, output: &mut W) -> Result<(), RunFault> {
     let mut text = String::new(alloc);
@@ -139,7 +139,8 @@ impl<R: Net + Clock + Copy + Drop> Stage<R> {
         Ok(text)
     }
 
-    /// The lines that say what the server does at a place, what the client is to do, and on which port.
+    /// The lines that say what the server does at a place, what the client is to do, and on which
+    /// port.
     pub fn heading(&self, at: usize) -> Result<String, AllocError> {
         let mut text = String::new(self.alloc);
         if let Some(play) = self.plays.as_slice().get(at) {
@@ -151,8 +152,8 @@ impl<R: Net + Clock + Copy + Drop> Stage<R> {
         Ok(text)
     }
 
-    /// Runs the misbehaviour at a place until the client has gone, or its time is over: nothing
-    /// where there is none.
+    /// Runs the misbehaviour at a place until the client has gone, or its time is over. Nothing if
+    /// there is none.
     pub fn play(&mut self, at: usize) -> Result<Option<Played>, AllocError> {
         let Some(play) = self.plays.as_slice().get(at).copied() else {
             return Ok(None);

@@ -43,17 +43,17 @@ pub enum Last {
     None,
 }
 
-/// A step. A pause is told in milliseconds.
+/// A step. A pause is in milliseconds.
 #[derive(Clone, Copy)]
 pub enum Step {
     /// Waits for the head of the next call.
     AwaitCall,
-    /// The same, of a call that is made after the last SETTINGS were acknowledged. Its header block
+    /// Waits for a call that is made after the last SETTINGS were acknowledged. Its header block
     /// has to begin with the change of the table's size to 0.
     AwaitUpdatedCall,
     /// Waits until the call's request is whole.
     AwaitRequest,
-    /// Waits until so many bytes of DATA came of the call, which has to be as long.
+    /// Waits until this many bytes of DATA came of the call, which has to be as long.
     AwaitBytes(usize),
     /// Waits until all SETTINGS that were sent are acknowledged.
     AwaitAcks,
@@ -61,19 +61,19 @@ pub enum Step {
     AwaitPongs,
     /// Waits until the client has read what was sent, which is the misbehaviour.
     AwaitReading,
-    /// The same, where the client has to reject that: until it has, or went on for a second.
+    /// Waits until the client, which has to reject that, has done so, or went on for a second.
     AwaitRejection,
-    /// Waits until so many calls were answered, each after a pause.
+    /// Waits until this many calls were answered, each after a pause.
     AnswerSlowly(usize),
     /// Answers no call until two are open at once, or one was long alone.
     AwaitTwoCalls,
-    /// Waits for so many milliseconds.
+    /// Waits for this many milliseconds.
     Pause(u64),
     /// The call's request has to go on still.
     Unfinished,
     /// Sends SETTINGS.
     Settings(&'static [Setting]),
-    /// Sends credit for so many bytes of the call.
+    /// Sends credit for this many bytes of the call.
     Credit(u32),
     /// From here on the bytes of all calls are given back as they come.
     GiveBack,

@@ -67,7 +67,8 @@ pub fn judge(play: &Misbehaviour, deeds: &Deeds) -> Judgement
     // Who did right broke no rule, was shown the misbehaviour, and did what the case needs.
     ensures lawful { result ≡ judgement.Right → deeds.now.breach ≡ None }
     ensures shown { result ≡ judgement.Right → deeds.now.is_shown ≡ true }
-    // Ending the connection is a reaction where it comes in place of an answer of the PING after it.
+    // Ending the connection is a reaction where it comes in place of an answer of the PING after
+    // it.
     ensures ended { result ≡ judgement.Right → HasToEnd play.now.duty
         → IsSome deeds.now.reset ⊎ (IsSome deeds.now.goaway
         ⊎ ((deeds.now.has_left ≡ true) × (deeds.now.has_read ≡ false))) }
@@ -76,7 +77,8 @@ pub fn judge(play: &Misbehaviour, deeds: &Deeds) -> Judgement
     ensures at_once { result ≡ judgement.Right → play.now.need ≡ needs.CallsAtOnce
         → deeds.now.has_overlap ≡ true }
 
-    // Who broke no rule that binds each client is told as wrong only where a duty is more.
+    // A client that broke no rule which binds each client is reported as wrong only if it has a
+    // further duty.
     ensures free { IsAccused result → IsFree play.now.duty
         → IsSome deeds.now.breach ⊎ IsSome deeds.now.overdue }
     ensures kept { IsAccused result → HasToEnd play.now.duty → deeds.now.breach ≡ None
@@ -233,7 +235,7 @@ fn ends(fault: Fault, deeds: &Deeds) -> Judgement
     Judgement::Right
 }
 
-/// Whether a client did what has to be seen before it is told as right.
+/// Whether a client did what has to be seen before it is reported as right.
 fn judge_need(need: Need, deeds: &Deeds) -> Judgement
     ensures fair { ¬ IsAccused result }
     ensures elsewhere { result ≡ judgement.Right → need ≡ needs.CallElsewhere

@@ -1,5 +1,16 @@
 -- The fragments of a header block (RFC 9113, section 4.3).
-use Rattle.std.specs.Prelude.{Bool, true, nat_le, length, take, drop, Option, Some, None, if◌then◌else◌}
+use Rattle.std.specs.Prelude.{
+  Bool,
+  true,
+  nat_le,
+  length,
+  take,
+  drop,
+  Option,
+  Some,
+  None,
+  if◌then◌else◌,
+}
 use Rattle.h2frame.specs.declared.frame.Frame.{Frame}
 use Rattle.outwriter.specs.declared.blocks.HeaderBlock.{HeaderBlock}
 use Rattle.outwriter.specs.Frames.{headers_frame, continuation_frame}
@@ -14,7 +25,13 @@ frame_of block =
     if block.begun then continuation_frame block.id (is_short block) (take 16384 block.rest)
     else headers_frame block.id block.ends (is_short block) (take 16384 block.rest)
 
--- the block behind that frame
+-- the block after that frame
 abbrev pub rest_of : HeaderBlock → Option HeaderBlock
 rest_of block =
-    if is_short block then None else Some (record { id = block.id; ends = block.ends; begun = true; rest = drop 16384 block.rest })
+    if is_short block then None
+    else Some (record {
+      id = block.id;
+      ends = block.ends;
+      begun = true;
+      rest = drop 16384 block.rest;
+    })

@@ -1,4 +1,5 @@
--- The credit of a run (RFC 9113, section 6.9): what was granted on a stream, and what its WINDOW_UPDATE frames tell.
+-- The credit of a run (RFC 9113, section 6.9): what was granted on a stream, and what its
+-- WINDOW_UPDATE frames give.
 use Rattle.std.specs.Prelude.{ℕ, ◌==◌, List, sum_by, if◌then◌else◌}
 use Rattle.outwriter.specs.Frames.{update_on}
 use Rattle.outwriter.specs.Steps.{Step, Granted, frames_of}

@@ -1,8 +1,24 @@
--- How a server stops while its calls go on (RFC 9113, section 6.8). It warns: by a GOAWAY without an error that names the greatest number
--- of a stream, so that no stream is behind it, and by a PING, whose answer tells that the warning was read. Then a GOAWAY names the
--- greatest stream whose call was admitted, 0 for none; streams behind that are refused.
--- Runs have the latest step first.
-use Rattle.std.specs.Prelude.{◌≡◌, ℕ, ◌^◌, ◌-◌, ◌||◌, Bool, true, false, List, [], ◌∷◌, Option, None, Some}
+-- How a server stops while its calls go on (RFC 9113, section 6.8). It warns its peer by a GOAWAY
+-- without an error that names stream 2^31 - 1, so that no stream comes after it, and by a PING,
+-- whose acknowledgement shows that the warning was read. Then a GOAWAY names the greatest stream
+-- whose call was admitted, 0 for none; streams after that are refused. Runs have the latest step
+-- first.
+use Rattle.std.specs.Prelude.{
+  ◌≡◌,
+  ℕ,
+  ◌^◌,
+  ◌-◌,
+  ◌||◌,
+  Bool,
+  true,
+  false,
+  List,
+  [],
+  ◌∷◌,
+  Option,
+  None,
+  Some,
+}
 use Rattle.std.specs.List.{find}
 use Rattle.std.specs.Option.{is_some, option_or}
 use Rattle.h2frame.specs.declared.error_code.ErrorCode.TheVariants.{NoError}
@@ -27,12 +43,12 @@ warning = Goaway greatest_stream (Code NoError)
 
 -- ---- which GOAWAY is the last
 
--- the GOAWAY that an order obliges to
+-- the GOAWAY that an order asks for
 abbrev pub goaway_by : Order → Option Frame
 goaway_by (Goaway last reason) = Some (goaway_frame last reason)
 goaway_by _ = None
 
--- that of the Goaway which was taken last, where one was
+-- the GOAWAY of the Goaway that was taken last, if one was
 abbrev pub ordered_goaway : List Step → Option Frame
 ordered_goaway [] = None
 ordered_goaway (Taken order ∷ before) = option_or (goaway_by order) (ordered_goaway before)
@@ -68,13 +84,14 @@ has_failed (Granted id n ∷ before) = has_failed before
 has_failed (Written frame ∷ before) = has_failed before
 has_failed (Returned id items ∷ before) = has_failed before
 
--- which of a Goaway, a PING of the server's own, and a Goaway with an error were taken, as far as noted: what is not noted was not
+-- what is noted of a Goaway, a PING of the server's own, and a Goaway with an error: what isn't
+-- noted wasn't taken
 pub record IsUnsaid (run : List Step) (leaving probed failed : Bool) : Type 0 where
   pub goaway : leaving ≡ false → is_going_away run ≡ false
   pub probe : probed ≡ false → was_probed run ≡ false
   pub error : failed ≡ false → has_failed run ≡ false
 
--- the GOAWAY that was written last, where one was
+-- the GOAWAY that was written last, if one was
 abbrev pub last_goaway : List Step → Option Frame
 last_goaway run = find (λ frame. is_goaway frame.head.kind) (frames_of run)
 

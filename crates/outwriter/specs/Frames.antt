@@ -1,14 +1,45 @@
--- The frames of a server's connection (RFC 9113, section 6), and what is read off a frame.
-use Rattle.std.specs.Prelude.{◌≡◌, bit_and, drop, take, ◌+◌, ℕ, ◌==◌, ◌&&◌, not, Bool, true, false, List, [], ◌++◌, length, if◌then◌else◌, None}
+-- The frames of a server's connection (RFC 9113, section 6), and what a frame says.
+use Rattle.std.specs.Prelude.{
+  ◌≡◌,
+  bit_and,
+  drop,
+  take,
+  ◌+◌,
+  ℕ,
+  ◌==◌,
+  ◌&&◌,
+  not,
+  Bool,
+  true,
+  false,
+  List,
+  [],
+  ◌++◌,
+  length,
+  if◌then◌else◌,
+  None,
+}
 use Rattle.std.specs.Int.{bytes_high_first, from_be_bytes, w32}
 use Rattle.h2frame.specs.declared.error_code.ErrorCode.{ErrorCode}
 use Rattle.h2frame.specs.declared.frame.Frame.{Frame}
 use Rattle.h2frame.specs.declared.kind.FrameKind.{FrameKind}
-use Rattle.h2frame.specs.declared.kind.FrameKind.TheVariants.{Data, Headers, RstStream, Settings, Ping, GoAway, WindowUpdate, Continuation}
+use Rattle.h2frame.specs.declared.kind.FrameKind.TheVariants.{
+  Data,
+  Headers,
+  RstStream,
+  Settings,
+  Ping,
+  GoAway,
+  WindowUpdate,
+  Continuation,
+}
 use Rattle.h2frame.specs.ErrorCode.{error_number}
 use Rattle.h2frame.specs.Faults.{frame_fault, increment_of}
 use Rattle.flow.specs.declared.TheConstants.{MAX_LIVE}
-use Rattle.h2frame.specs.declared.setting.SettingId.TheVariants.{MaxConcurrentStreams, MaxHeaderListSize}
+use Rattle.h2frame.specs.declared.setting.SettingId.TheVariants.{
+  MaxConcurrentStreams,
+  MaxHeaderListSize,
+}
 use Rattle.h2frame.specs.Setting.{setting_code}
 use Rattle.h2frame.specs.Flags.{has, ack, end_stream, end_headers}
 use Rattle.h2frame.specs.Spelling.{IsWritable}
@@ -19,7 +50,15 @@ use Rattle.reasons.specs.Texts.{text_of}
 -- a frame without padding or priority
 abbrev pub frame_with : FrameKind → ℕ → ℕ → List ℕ → Frame
 frame_with kind bits stream content =
-    record { head = record { kind = kind; flags = record { bits = bits }; stream = stream; length = length content }; content = content }
+    record {
+      head = record {
+        kind = kind;
+        flags = record { bits = bits };
+        stream = stream;
+        length = length content;
+      };
+      content = content;
+    }
 
 -- ---- the frames that a writer makes
 
@@ -30,9 +69,11 @@ parameter id value = bytes_high_first 2 id ++ bytes_high_first 4 value
 abbrev pub max_field_bytes : ℕ
 max_field_bytes = 16384
 
--- at most so many streams at once, and so many bytes of fields (section 6.5.2)
+-- the limits of streams at once and of bytes of fields (section 6.5.2)
 abbrev pub first_settings : Frame
-first_settings = frame_with Settings 0 0 (parameter (setting_code MaxConcurrentStreams) MAX_LIVE ++ parameter (setting_code MaxHeaderListSize) max_field_bytes)
+first_settings =
+    frame_with Settings 0 0 (parameter (setting_code MaxConcurrentStreams) MAX_LIVE
+    ++ parameter (setting_code MaxHeaderListSize) max_field_bytes)
 
 abbrev pub settings_ack : Frame
 settings_ack = frame_with Settings ack 0 []
@@ -47,9 +88,12 @@ ping_frame bytes = frame_with Ping 0 0 bytes
 abbrev pub reset_frame : ℕ → ErrorCode → Frame
 reset_frame id code = frame_with RstStream 0 id (bytes_high_first 4 (error_number code))
 
--- the last stream, the code, and as debug data why (section 6.8)
+-- the last stream, the code, and why, as debug data (section 6.8)
 abbrev pub goaway_frame : ℕ → Reason → Frame
-goaway_frame last reason = frame_with GoAway 0 0 ((bytes_high_first 4 last ++ bytes_high_first 4 (error_number (code_of reason))) ++ text_of reason)
+goaway_frame last reason =
+    frame_with GoAway 0 0
+    ((bytes_high_first 4 last ++ bytes_high_first 4 (error_number (code_of reason)))
+    ++ text_of reason)
 
 abbrev pub update_frame : ℕ → ℕ → Frame
 update_frame id increment = frame_with WindowUpdate 0 id (bytes_high_first 4 increment)
@@ -97,11 +141,11 @@ resets id frame = is_reset frame.head.kind && (id == frame.head.stream)
 abbrev pub ends : ℕ → Frame → Bool
 ends id frame = ends_stream frame && (id == frame.head.stream)
 
--- the error that a GOAWAY tells, behind the last stream (section 6.8)
+-- the error of a GOAWAY, after the last stream (section 6.8)
 abbrev pub goaway_error : List ℕ → ℕ
 goaway_error content = from_be_bytes w32 (take 4 (drop 4 content))
 
--- a GOAWAY that tells an error
+-- a GOAWAY with an error
 abbrev pub is_last_kind : FrameKind → List ℕ → Bool
 is_last_kind GoAway content = not (goaway_error content == 0)
 is_last_kind _ content = false
@@ -109,19 +153,20 @@ is_last_kind _ content = false
 abbrev pub is_last : Frame → Bool
 is_last frame = is_last_kind frame.head.kind frame.content
 
--- the increment that a WINDOW_UPDATE tells
+-- the increment of a WINDOW_UPDATE
 abbrev pub update_kind : FrameKind → List ℕ → ℕ
 update_kind WindowUpdate content = increment_of content
 update_kind _ content = 0
 
--- what a frame tells as credit on a stream, or on the connection as stream 0
+-- the credit that a frame gives on a stream, or on the connection as stream 0
 abbrev pub update_on : ℕ → Frame → ℕ
-update_on id frame = if id == frame.head.stream then update_kind frame.head.kind frame.content else 0
+update_on id frame =
+    if id == frame.head.stream then update_kind frame.head.kind frame.content else 0
 
 -- ---- what each frame must be, whatever came before it
 
--- the flags of a type of frame, but for those of padding and priority (sections 6.1, 6.2, 6.5, 6.7 and 6.10); of types that a server
--- never writes none count
+-- the flags of a type of frame, but for those of padding and priority (sections 6.1, 6.2, 6.5, 6.7
+-- and 6.10); types that a server never writes have none here
 abbrev pub flags_of : FrameKind → ℕ
 flags_of Data = end_stream
 flags_of Headers = end_stream + end_headers
@@ -132,11 +177,11 @@ flags_of _ = 0
 
 -- the frame keeps the rules of its type (sections 4.1, 4.2 and 6)
 pub record IsSound (frame : Frame) : Type 0 where
-  -- it can be spelled: its type is that of its code, the number of its stream has 31 bits, all of its payload is content, and nothing is
-  -- padded or has a priority (section 4.1)
+  -- it can be spelled: its type is that of its code, its stream's number has 31 bits, all of its
+  -- payload is content, and it has no padding or priority (section 4.1)
   pub writable : IsWritable frame
-  -- a reader of its bytes has no fault with it: it has at most 16,384 bytes, and such a length, a stream and an increment as its type may
-  -- have (sections 4.2 and 6)
+  -- a reader of its bytes finds no fault: it has at most 16,384 bytes, and a length, a stream and
+  -- an increment that its type may have (sections 4.2 and 6)
   pub faultless : frame_fault frame ≡ None
-  -- no flag is set that means nothing on its type: a sender must leave those unset (section 4.1)
+  -- it has no flag without a meaning on its type, which a sender must leave unset (section 4.1)
   pub flags : bit_and frame.head.flags.bits (flags_of frame.head.kind) ≡ frame.head.flags.bits

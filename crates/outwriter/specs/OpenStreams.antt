@@ -1,5 +1,20 @@
--- What is kept of open streams: where the sender of each stands, and what is in hand.
-use Rattle.std.specs.Prelude.{◌≡◌, ℕ, ◌==◌, Bool, true, false, List, [], ◌∷◌, Option, None, Some, is_some, if◌then◌else◌}
+-- What is kept of open streams: the place of each one's sender, and what is in hand.
+use Rattle.std.specs.Prelude.{
+  ◌≡◌,
+  ℕ,
+  ◌==◌,
+  Bool,
+  true,
+  false,
+  List,
+  [],
+  ◌∷◌,
+  Option,
+  None,
+  Some,
+  is_some,
+  if◌then◌else◌,
+}
 use Rattle.outwriter.specs.declared.stream.OpenStream.{OpenStream}
 
 -- a stream that is open, by its number
@@ -31,9 +46,10 @@ SameHands old new = (k : ℕ) → shows new k ≡ shows old k
 
 -- this is in hand of one stream now
 abbrev pub HandIs : ℕ → Option (List ℕ) → OpenStreams → OpenStreams → Type 0
-HandIs id hand old new = (k : ℕ) → shows new k ≡ (if k == id then with_hand hand (shows old k) else shows old k)
+HandIs id hand old new =
+    (k : ℕ) → shows new k ≡ (if k == id then with_hand hand (shows old k) else shows old k)
 
--- what is in hand of a message, where any is left of it
+-- what is in hand of a message, if any of it is left
 abbrev pub kept : List ℕ → Option (List ℕ)
 kept [] = None
 kept (byte ∷ bytes) = Some (byte ∷ bytes)
@@ -42,7 +58,7 @@ kept (byte ∷ bytes) = Some (byte ∷ bytes)
 abbrev pub Closes : ℕ → OpenStreams → OpenStreams → Type 0
 Closes id old new = (k : ℕ) → new k ≡ (if k == id then None else old k)
 
--- the same, where it ends
+-- a stream isn't open any more, if it ends
 abbrev pub Removes : ℕ → Bool → OpenStreams → OpenStreams → Type 0
 Removes id true old new = Closes id old new
 Removes id false old new = SameHands old new
@@ -51,10 +67,11 @@ Removes id false old new = SameHands old new
 abbrev pub stream_at : ℕ → OpenStream
 stream_at place = record { place = place; in_hand = None; in_turn = false }
 
--- a sender stands at another place
+-- a sender moves to another place
 abbrev pub with_place : ℕ → ℕ → Shown → Shown
 with_place from to None = None
 with_place from to (Some s) = Some (if s.0 == from then to else s.0, s.1)
 
 abbrev pub PlaceIs : ℕ → ℕ → ℕ → OpenStreams → OpenStreams → Type 0
-PlaceIs id from to old new = (k : ℕ) → shows new k ≡ (if k == id then with_place from to (shows old k) else shows old k)
+PlaceIs id from to old new =
+    (k : ℕ) → shows new k ≡ (if k == id then with_place from to (shows old k) else shows old k)

@@ -13,7 +13,8 @@ abbrev pub block_item : Bool → List Field → OutItem
 block_item true fields = Trailers fields
 block_item false fields = Head fields
 
--- what is still to be written of what is ahead of a sender: nothing, where the item that it got last says that its call was left
+-- what is still to be written of what is ahead of a sender: nothing, if its last item says that its
+-- call was left
 abbrev pub to_write : Option OutItem → List OutItem → List OutItem
 to_write (Some Left) ahead = []
 to_write (Some (Head fields)) ahead = ahead
@@ -21,18 +22,23 @@ to_write (Some (Message bytes)) ahead = ahead
 to_write (Some (Trailers fields)) ahead = ahead
 to_write None ahead = ahead
 
-abbrev pub coming : {Out : Type 0} → (Out → List OutItem) → (Out → List OutItem) → Out → List OutItem
+abbrev pub coming : {Out : Type 0} → (Out → List OutItem) → (Out → List OutItem)
+    → Out → List OutItem
 coming got ahead rx = to_write (last_of (got rx)) (ahead rx)
 
--- nothing was got, or that the call was left
+-- nothing was got, or only that the call was left
 abbrev pub GotNone : {A : Type 0} → A → A → A → Type 0
 GotNone before left after = (after ≡ before) ⊎ (after ≡ left)
 
--- Of a lane from which the items of `before` were got, and then those of `after`, nothing was found but that the call was
--- left, and nothing is to be written; or one more item: a message, or fields, of which an encoder that kept `from` wrote
--- the block, and keeps `to`.
-abbrev pub Polls : List OutItem → List OutItem → List OutItem → Option Encoding → Option Encoding → Polled → Type 0
-Polls before after coming from to polled.Nothing = GotNone before (before ++ Left ∷ []) after × (coming ≡ []) × (to ≡ from)
-Polls before after coming from to (polled.Message bytes) = (after ≡ before ++ Message bytes ∷ []) × (to ≡ from)
+-- A lane had given the items of `before`, and then those of `after`. A poll found nothing, or that
+-- the call was left, and nothing is to be written; or one more item: a message, or fields, whose
+-- block an encoder that kept `from` wrote, and now keeps `to`.
+abbrev pub Polls : List OutItem → List OutItem → List OutItem → Option Encoding
+    → Option Encoding → Polled → Type 0
+Polls before after coming from to polled.Nothing =
+    GotNone before (before ++ Left ∷ []) after × (coming ≡ []) × (to ≡ from)
+Polls before after coming from to (polled.Message bytes) =
+    (after ≡ before ++ Message bytes ∷ []) × (to ≡ from)
 Polls before after coming from to (polled.Block bytes ends) =
-    (fields : List Field) × (after ≡ before ++ block_item ends fields ∷ []) × Writes from fields bytes to
+    (fields : List Field) × (after ≡ before ++ block_item ends fields ∷ [])
+    × Writes from fields bytes to

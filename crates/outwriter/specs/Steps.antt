@@ -4,7 +4,18 @@ use Rattle.std.specs.Prelude.{ℕ, List, [], ◌∷◌}
 use Rattle.account.specs.declared.call.OutItem.{OutItem}
 use Rattle.h2frame.specs.declared.frame.Frame.{Frame}
 use Rattle.outwriter.specs.declared.control.Control.{Control}
-use Rattle.outwriter.specs.declared.control.Control.TheVariants.{Settings, Ping, Probe, Window, Open, Refuse, Reset, Goaway, InputEnded, Close}
+use Rattle.outwriter.specs.declared.control.Control.TheVariants.{
+  Settings,
+  Ping,
+  Probe,
+  Window,
+  Open,
+  Refuse,
+  Reset,
+  Goaway,
+  InputEnded,
+  Close,
+}
 use Rattle.outwriter.specs.declared.control.OutFault.{OutFault}
 use Rattle.outwriter.specs.declared.control.OutFault.TheVariants.{OutOfMemory, PeerWindow}
 
@@ -30,9 +41,9 @@ module _ {S : Type 0} where
   fault_code (OutOfMemory control) = 1
   fault_code (PeerWindow id) = 2
 
--- A control is taken; credit is granted to be written on a stream, or on the connection as stream 0; a frame is written; the sender of a
--- call is given back, which had given these items.
--- A run is a list of steps, the latest first.
+-- A control is taken; credit is granted on a stream, or on the connection as stream 0; a frame is
+-- written; or the sender of a call, which had given these items, is given back. A run is a list of
+-- steps, the latest first.
 pub data Step : Type 0 where
   Taken : Order → Step
   Granted : ℕ → ℕ → Step

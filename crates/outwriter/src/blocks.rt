@@ -14,7 +14,7 @@ use std::marker::Model;
 /// The most bytes of a fragment.
 const MAX_FRAGMENT: usize = MAX_PAYLOAD as usize;
 
-/// A header block of which some is to be written.
+/// A header block that isn't written to its end.
 #[derive(Drop)]
 pub(crate) struct HeaderBlock {
     pub(crate) id: StreamId,
@@ -22,7 +22,7 @@ pub(crate) struct HeaderBlock {
     pub(crate) ends: bool,
     /// Whether its HEADERS were written.
     pub(crate) begun: bool,
-    /// The bytes that weren't.
+    /// The bytes that weren't written.
     pub(crate) rest: Bytes,
 }
 
@@ -38,7 +38,8 @@ impl Model for HeaderBlock {
 }
 
 impl HeaderBlock {
-    /// Its next frame, of at most 16,384 bytes, and the block with what is left then, if anything is.
+    /// Its next frame, with a payload of at most 16,384 bytes, and the rest of the block, if there
+    /// is any.
     pub(crate) fn cut(self) -> Result<(OutFrame, Option<HeaderBlock>), AllocError>
         ensures frame { IfOk result (λ r. r.0 ≡ frame_of self) }
         ensures sound { IfOk result (λ r. IsSound r.0) }

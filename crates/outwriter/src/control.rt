@@ -1,34 +1,36 @@
-//! What the writer's core is told, and why it refuses (RFC 9113, sections 5.4 and 6).
+//! The controls of a writer's core, and why it refuses one (RFC 9113, sections 5.4 and 6).
 
 use h2frame::{ErrorCode, PeerSettings, StreamId};
 use lists::{Field, Sequence};
 use reasons::Reason;
 use std::fmt;
 
-/// What the core is told, by the peer or by its own side. `S` is the sender of a call.
+/// What the peer says to the core, or its own side. `S` is the sender of a call.
 #[derive(Drop)]
 pub enum Control<S> {
-    /// The peer's SETTINGS, which are applied and then acknowledged (section 6.5.3).
+    /// The peer's SETTINGS, which the core applies and then acknowledges (section 6.5.3).
     Settings(PeerSettings),
-    /// A PING of the peer, whose eight bytes are sent back (section 6.7).
+    /// A PING of the peer, whose eight bytes the core sends back (section 6.7).
     Ping([u8; 8]),
     /// A PING of the server's own with these eight bytes, which the peer sends back (section 6.7).
     Probe([u8; 8]),
-    /// The peer credits so many bytes to a stream, or to the connection where it is 0 (section 6.9).
+    /// The peer credits this many bytes to a stream, or to the connection where it is 0 (section
+    /// 6.9).
     Window(StreamId, u32),
-    /// A call begins, whose items are written on its stream. On 0, or on a number over 2^31 - 1, nothing is written: so it is of
-    /// the next two.
+    /// A call begins, whose items are written on its stream. On 0, or on a number over 2^31 - 1,
+    /// nothing is written, here and for the next two.
     Open(StreamId, S),
-    /// A stream is answered by one header block that ends it (section 8.1).
+    /// One header block answers a stream and ends it (section 8.1).
     Refuse(StreamId, Sequence<Field>),
-    /// A stream ends by an error, which is told to the peer by RST_STREAM where it is to be written (section 6.4).
+    /// A stream ends by an error, which RST_STREAM gives the peer if it is to be written (section
+    /// 6.4).
     Reset {
         id: StreamId,
         code: ErrorCode,
         written: bool,
     },
-    /// The connection ends, and the peer is told why: `last`, below 2^31, is the greatest stream that was looked at. Where the code of the
-    /// reason is other than 0 it is the last frame (section 6.8).
+    /// The connection ends, and GOAWAY says why. `last`, below 2^31, is the greatest stream that
+    /// was looked at. If the code of the reason isn't 0, GOAWAY is the last frame (section 6.8).
     Goaway {
         last: StreamId,
         reason: Reason,
@@ -42,10 +44,10 @@ pub enum Control<S> {
 /// Why the core refuses.
 #[derive(Drop)]
 pub enum OutFault<S> {
-    /// Out of memory. The control that was not taken comes back; without one the core is dead.
+    /// Out of memory. A control that wasn't taken comes back; without one the core is dead.
     OutOfMemory(Option<Control<S>>),
-    /// A window would be over 2^31 - 1 bytes, the stream's or, at 0, the connection's or that of SETTINGS. No window
-    /// changes; the control counts as taken.
+    /// A window would be larger than 2^31 - 1 bytes: the stream's, or at 0 the connection's, or by
+    /// SETTINGS some stream's. No window changes; the control counts as taken.
     PeerWindow(StreamId),
 }
 

@@ -1,10 +1,10 @@
-//! What controls oblige to write, in their order.
+//! The frames that controls ask for, in order.
 
 use h2frame::{ErrorCode, StreamId};
 use lists::{Field, Sequence};
 use reasons::Reason;
 
-/// What is to be written before anything of the open calls.
+/// A frame that is to be written before anything of the open calls.
 #[derive(Drop)]
 pub(crate) enum Due {
     SettingsAck,

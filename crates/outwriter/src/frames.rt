@@ -1,7 +1,19 @@
 //! The frames that a writer makes (RFC 9113, section 6).
 
 ghost use Rattle.std.specs.Prelude.{◌≡◌, ◌≤◌, ◌<◌, length, IfOk};
-ghost use Rattle.outwriter.specs.Frames.{first_settings, settings_ack, ping_ack, ping_frame, reset_frame, goaway_frame, update_frame, data_frame, headers_frame, continuation_frame, block_bits};
+ghost use Rattle.outwriter.specs.Frames.{
+  first_settings,
+  settings_ack,
+  ping_ack,
+  ping_frame,
+  reset_frame,
+  goaway_frame,
+  update_frame,
+  data_frame,
+  headers_frame,
+  continuation_frame,
+  block_bits,
+};
 
 use crate::out_frame::OutFrame;
 use bytes::Bytes;
@@ -16,7 +28,8 @@ const MAX_CONCURRENT_STREAMS: u8 = 3;
 
 const MAX_HEADER_LIST_SIZE: u8 = 6;
 
-/// The most bytes of fields that the peer is told to put into a header block; the decoder takes more.
+/// The most bytes of fields that SETTINGS let the peer put into a header block. The decoder takes
+/// more.
 const MAX_FIELD_BYTES: u32 = 16_384;
 
 /// The payload of the first SETTINGS: of each parameter its number and its value.
@@ -127,7 +140,8 @@ pub(crate) fn make_data(id: StreamId, bytes: ZeroTail) -> OutFrame
     OutFrame::new(FrameKind::Data, Flags::NONE, id, bytes)
 }
 
-/// The first fragment of a header block; whether the block ends its stream, and whether the fragment is the last.
+/// The first fragment of a header block. `ends` says whether the block ends its stream, and `whole`
+/// whether the fragment is the last.
 pub(crate) fn make_headers(id: StreamId, ends: bool, whole: bool, fragment: Bytes) -> OutFrame
     requires { length fragment ≤ 16384 }
     ensures { result ≡ headers_frame id ends whole fragment }

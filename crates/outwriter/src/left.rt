@@ -18,15 +18,15 @@ impl<L: Lane<Item = OutItem>> OutCore<L> {
         self.sending.senders.len()
     }
 
-    /// The stream of the call whose sender stands at this place, where that gave last that the call was left: so all
-    /// else that was given of it was taken. It takes no memory.
+    /// The stream of the call whose sender is at this place, if the sender gave last that the call
+    /// was left: so all else that it gave was taken. It takes no memory.
     pub fn left_at(&mut self, place: usize) -> Option<StreamId>
         ensures left { IfSome result (λ id. WasLeft id
             (calls L.got self.new.sending.senders.items)) }
         ensures not_left { IfNone result (WasNotLeftAt place
             (calls L.got self.new.sending.senders.items)) }
 
-        // Nothing more is got of a sender, so whatever run led to the core leads to it still.
+        // No sender gives anything more, so whatever run led to the core still does.
         ensures calls { calls L.got self.new.sending.senders.items
             ≡ calls L.got self.old.sending.senders.items }
         ensures senders { lanes L.out_name self.new.sending.senders.items

@@ -1,9 +1,23 @@
 //! Which frame is next.
 //!
-//! An open stream that isn't among those that take turns is looked at once in a while, one of them with each frame. A
-//! stream that a window holds isn't among them, so it costs the others that look and no more.
+//! Streams that had something when they were last looked at take turns. Of the other open streams
+//! one is looked at with each frame. A stream that a window holds takes no turns, so it costs the
+//! others no more than that look.
 
-ghost use Rattle.std.specs.Prelude.{◌≡◌, ◌<◌, ℕ, List, true, false, None, Err, IfOk, IfErr, IfSome, IfNone};
+ghost use Rattle.std.specs.Prelude.{
+  ◌≡◌,
+  ◌<◌,
+  ℕ,
+  List,
+  true,
+  false,
+  None,
+  Err,
+  IfOk,
+  IfErr,
+  IfSome,
+  IfNone,
+};
 
 use crate::control::OutFault;
 use crate::out_core::OutCore;
@@ -39,13 +53,14 @@ impl<L: Lane<Item = OutItem>> OutCore<L> {
     ghost use Rattle.outwriter.specs.Polls.{coming};
     ghost use Rattle.outwriter.specs.Steps.{Step};
 
-    /// The next frame, of at most 16,384 bytes. Once it was out of memory the core is dead, and answers that again; a field whose
-    /// name or value has more than 4,294,967,295 bytes counts as that.
+    /// The next frame, of at most 16,384 bytes. Once it was out of memory the core is dead, and
+    /// answers that again. A field whose name or value has more than 4,294,967,295 bytes counts as
+    /// want of memory.
     pub fn next_frame(&mut self) -> Result<Next, OutFault<Sender<L>>>
-        // A frame that comes is the next step of the run.
+        // The frame is the next step of the run.
         ensures leads { LeadsNext L.got result self.old self.new }
 
-        // It keeps the rules of its type, so that `write_frame` takes it.
+        // The frame keeps the rules of its type, so that `write_frame` takes it.
         ensures sound { IfOk result (λ next. (frame : FrameOf) → next ≡ next_kind.Frame frame
             → IsSound frame) }
         ensures dead { self.old.is_dead ≡ true → result ≡ Err (out_fault.OutOfMemory None) }
@@ -58,12 +73,12 @@ impl<L: Lane<Item = OutItem>> OutCore<L> {
         ensures senders { lanes L.out_name self.new.sending.senders.items
             ≡ lanes L.out_name self.old.sending.senders.items }
 
-        // None forgets that its call was left.
+        // No sender forgets that its call was left.
         ensures left { (id : ℕ) → GaveLeft id (calls L.got self.old.sending.senders.items)
             → GaveLeft id (calls L.got self.new.sending.senders.items) }
 
-        // Where none comes, all was written that could be, what was found ahead of the senders included. It is over exactly where a Close was
-        // taken: that no more comes from the peer is none.
+        // Where no frame comes, all was written that could be, including what was found ahead of
+        // the senders. It is over exactly where a Close was taken; an InputEnded isn't enough.
         ensures rests { IfOk result (λ next. (run : List Step) → Leads L.got run self.old
             → RestsNext (coming L.got L.ahead) run next self.new) }
     {
@@ -87,10 +102,20 @@ impl<L: Lane<Item = OutItem>> OutCore<L> {
 impl<L: Lane<Item = OutItem>> Sending<L> {
     ghost use Rattle.outwriter.specs.Frames.{IsSound};
     ghost use Rattle.outwriter.specs.Polls.{coming};
-    ghost use Rattle.outwriter.specs.StreamLooks.{AllStuck, GetsQuiet, GetsStuck, Gives, HoldsOn, LooksAt, Picks, frame_in};
+    ghost use Rattle.outwriter.specs.StreamLooks.{
+      AllStuck,
+      GetsQuiet,
+      GetsStuck,
+      Gives,
+      HoldsOn,
+      LooksAt,
+      Picks,
+      frame_in,
+    };
     ghost use Rattle.outwriter.specs.RunState.{IsSpent, Progresses, IsBetween};
 
-    /// SETTINGS first; the rest of a header block; what is due; credit; and then the streams.
+    /// Chooses the next frame: SETTINGS first; then the rest of a header block; what is due;
+    /// credit; and then the streams.
     pub(crate) fn choose(&mut self) -> Result<Option<OutFrame>, AllocError>
         ensures sound { IfOk result (λ o. IfSome o IsSound) }
         ensures frame { IfOk result (λ o. Progresses o self.old.outbound self.new.outbound) }
@@ -112,7 +137,8 @@ impl<L: Lane<Item = OutItem>> Sending<L> {
         self.stream_frame()
     }
 
-    /// A frame of an open stream: of one out of turn, so that none is overlooked, or else of the first that has one.
+    /// A frame of an open stream: of one out of turn, so that no stream is overlooked, or else of
+    /// the first in turn that has one.
     fn stream_frame(&mut self) -> Result<Option<OutFrame>, AllocError>
         requires { IsBetween self.old.outbound }
         ensures picks { IfOk result (λ o. Picks L.got o self.old self.new) }
@@ -129,8 +155,8 @@ impl<L: Lane<Item = OutItem>> Sending<L> {
         self.frame_of_any()
     }
 
-    /// A frame of the stream at the cursor, if it isn't in the queue anyway. With as many in the queue as there are senders, none
-    /// is out of turn.
+    /// A frame of the stream at the cursor, unless the stream is in the queue. Where all senders'
+    /// streams are in the queue, none is out of turn.
     fn frame_out_of_turn(&mut self) -> Result<Option<OutFrame>, AllocError>
         requires { IsBetween self.old.outbound }
         ensures picks { IfOk result (λ o. Picks L.got o self.old self.new) }
@@ -152,7 +178,8 @@ impl<L: Lane<Item = OutItem>> Sending<L> {
         self.frame_of(id)
     }
 
-    /// A frame of the first stream in the queue that has one, which goes behind the others. Those that have none leave the queue.
+    /// A frame of the first stream in the queue that has one. That stream goes to the end of the
+    /// queue; those that have none leave it.
     fn frame_in_turn(&mut self) -> Result<Option<OutFrame>, AllocError>
         requires { IsBetween self.old.outbound }
         ensures picks { IfOk result (λ o. Picks L.got o self.old self.new) }
@@ -171,7 +198,8 @@ impl<L: Lane<Item = OutItem>> Sending<L> {
         Ok(None)
     }
 
-    /// A frame of the first open stream that has one, in the order of the senders. Each open stream has its own.
+    /// A frame of the first open stream that has one, in the order of the senders. Each open stream
+    /// has its own.
     fn frame_of_any(&mut self) -> Result<Option<OutFrame>, AllocError>
         requires { IsBetween self.old.outbound }
         ensures picks { IfOk result (λ o. Picks L.got o self.old self.new) }
@@ -206,8 +234,9 @@ impl<L: Lane<Item = OutItem>> Sending<L> {
         Ok(Some(frame))
     }
 
-    /// A frame of this stream, if it is open and has one that may be written now. For a message without bytes nothing is
-    /// written; more than 4,294,967,295 of them, one behind another, count as one that there is no memory for.
+    /// A frame of this stream, if it is open and has one that may be written now. A message without
+    /// bytes has no frame. More than 4,294,967,295 such messages, one after another, count as want
+    /// of memory.
     fn look(&mut self, id: StreamId) -> Result<Option<OutFrame>, AllocError>
         requires { IsBetween self.old.outbound }
         ensures picks { IfOk result (λ o. Picks L.got o self.old self.new) }
@@ -225,7 +254,7 @@ impl<L: Lane<Item = OutItem>> Sending<L> {
         Err(AllocError)
     }
 
-    /// The same for what is next on it.
+    /// A frame of what is next on this stream, or that this is a message without bytes.
     fn look_once(&mut self, id: StreamId) -> Result<Looked, AllocError>
         requires { IsBetween self.old.outbound }
         ensures picks { IfOk result (λ l. Picks L.got (frame_in l) self.old self.new) }
@@ -250,7 +279,7 @@ impl<L: Lane<Item = OutItem>> Sending<L> {
 ghost use Rattle.outwriter.specs.OpenStreams.{SameHands};
 ghost use Rattle.outwriter.specs.States.{StandAs, open_at as open_of};
 
-/// Puts a stream behind all others that take turns, if it is still open.
+/// Puts a stream after all others that take turns, if it is still open.
 fn take_turns(
     states: &mut StreamStates,
     ready: &mut VecDeque<StreamId>,

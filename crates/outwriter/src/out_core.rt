@@ -1,15 +1,43 @@
-//! The core of a connection's writer: what it is told.
+//! The core of a connection's writer: how it takes controls.
 //!
-//! `Open`: an Open opens the window of its stream unless that is open, or the stream is over or was reset, so each list of
-//! controls has a history, also one that opens a stream twice. A stream that is opened again keeps its first sender; the
-//! second comes back by `into_senders` and is never asked.
+//! An Open opens its stream's window, unless that is open, or the stream is over or was reset. So
+//! each list of controls has a history, even one that opens a stream twice. A stream that is opened
+//! again keeps its first sender; the second comes back by `into_senders` and is never asked.
 //!
-//! `control`: A dead core hands each control back, since nothing that it keeps is known to follow from its run; what
-//! was told of each call stays a prefix, so its senders can be brought back.
+//! A dead core hands each control back, since nothing that it keeps is known to follow from its
+//! run. What was written of each call stays a prefix, so its senders can be given back.
 
-ghost use Rattle.std.specs.Prelude.{◌≡◌, ◌≢◌, ◌&&◌, ◌||◌, not, ℕ, List, [], ◌∷◌, Some, None, Err, false, true, IsOk, OnOk, IfErr, IfSome};
+ghost use Rattle.std.specs.Prelude.{
+  ◌≡◌,
+  ◌≢◌,
+  ◌&&◌,
+  ◌||◌,
+  not,
+  ℕ,
+  List,
+  [],
+  ◌∷◌,
+  Some,
+  None,
+  Err,
+  false,
+  true,
+  IsOk,
+  OnOk,
+  IfErr,
+  IfSome,
+};
 ghost use Rattle.outwriter.specs.CallState.{Takes, none_is_new};
-ghost use Rattle.outwriter.specs.Cores.{Brings, Leads, LeadsControl, LeadsOn, LeadsStill, calls, open_stream, takes_credit};
+ghost use Rattle.outwriter.specs.Cores.{
+  Brings,
+  Leads,
+  LeadsControl,
+  LeadsOn,
+  LeadsStill,
+  calls,
+  open_stream,
+  takes_credit,
+};
 ghost use Rattle.outwriter.specs.declared.control.OutFault.TheVariants as out_fault;
 ghost use Rattle.outwriter.specs.Runs.{may_owe};
 ghost use Rattle.outwriter.specs.RunState.{Blames, Concerns, HasRoom, is_held};
@@ -35,9 +63,9 @@ use std::alloc::Global;
 /// What a connection's writer keeps between frames.
 #[derive(Drop)]
 pub struct OutCore<L: Lane<Item = OutItem>> {
-    /// After `next_frame` was out of memory.
+    /// Whether `next_frame` was out of memory.
     pub(crate) is_dead: bool,
-    /// Whether a GOAWAY may be written of a dead core.
+    /// Whether a dead core may still write a GOAWAY.
     pub(crate) may_part: bool,
     /// Whether Close was taken.
     pub(crate) closed: bool,
@@ -67,24 +95,28 @@ impl<L: Lane<Item = OutItem>> OutCore<L> {
         }
     }
 
-    /// Takes a control. Out of memory, it hands the control back and changes nothing; a window that would be over
-    /// 2^31 - 1 bytes is a fault of the peer, of which no window changes, and the control counts as taken. A dead core
-    /// hands each back. InputEnded and Close take no memory.
+    /// Takes a control. Out of memory, it hands the control back and changes nothing. A window that
+    /// would be larger than 2^31 - 1 bytes is a fault of the peer: no window changes, and the
+    /// control counts as taken. A dead core hands each control back. InputEnded and Close take no
+    /// memory.
     pub fn control(&mut self, control: Control<Sender<L>>) -> Result<(), OutFault<Sender<L>>>
-        // The control is the next step of the run, unless it is handed back. An Open brings a sender of which nothing was got.
+        // The control is the next step of the run, unless it is handed back. The sender of an Open
+        // has given nothing before.
         ensures leads { LeadsControl L.got result control self.old self.new }
 
-        // The sender of an Open that is taken stands behind the others, and nothing else changes them.
+        // The sender of an Open that is taken comes after the others, and nothing else changes
+        // them.
         ensures brings { Brings result control self.old.sending.senders.items
             self.new.sending.senders.items }
 
-        // A fault of the peer is answered exactly where it stands.
+        // A fault of the peer is answered exactly where there is one.
         ensures fault { IfErr result (λ fault. (run : List Step) → Leads L.got run self.old
             → Blames fault control run) }
         ensures room { OnOk result ((run : List Step) → Leads L.got run self.old
             → HasRoom control run) }
 
-        // It is that of the stream to which the peer gave credit, or of the connection where its SETTINGS are.
+        // The fault is of the stream to which the peer gave credit; for SETTINGS it is of the
+        // connection.
         ensures whose { IfErr result (λ fault. Concerns fault control) }
         ensures alive { self.new.is_dead ≡ self.old.is_dead }
         ensures ended { self.old.is_dead ≡ false → control ≡ order.InputEnded → IsOk result }
@@ -93,7 +125,8 @@ impl<L: Lane<Item = OutItem>> OutCore<L> {
             → result ≡ Err (out_fault.OutOfMemory (Some control)) }
         ensures dead_stays { self.old.is_dead ≡ true → self.new ≡ self.old }
 
-        // The limits of the header table that SETTINGS set are told to the encoder, whose next header block sets the least.
+        // The encoder gets the limits that SETTINGS set for the header table, and its next header
+        // block sets the least.
         ensures limits { TakesLimits result control self.old.sending.outbound.encoder
             self.new.sending.outbound.encoder }
     {
@@ -110,7 +143,7 @@ impl<L: Lane<Item = OutItem>> OutCore<L> {
         }
     }
 
-    /// The same of a control for which room is needed.
+    /// Takes a control that needs room.
     fn obey(&mut self, control: Control<Sender<L>>) -> Result<(), OutFault<Sender<L>>>
         requires living { self.old.is_dead ≡ false }
         requires goes_on { control ≢ order.InputEnded }
@@ -166,8 +199,8 @@ impl<L: Lane<Item = OutItem>> OutCore<L> {
         }
     }
 
-    /// Whether the peer may be told that this side ends the connection, as it wasn't told so before (RFC 9113, section 6.8): the core
-    /// lives, and no Goaway was taken.
+    /// Whether a GOAWAY that warns the peer may be sent (RFC 9113, section 6.8): the core lives,
+    /// and no Goaway was taken.
     pub fn may_leave(&self) -> bool
         ensures unsaid { result ≡ true → (run : List Step) → Leads L.got run self.now
             → is_going_away run ≡ false }
@@ -185,7 +218,8 @@ impl<L: Lane<Item = OutItem>> OutCore<L> {
         !self.is_dead && !self.has_probed
     }
 
-    /// Whether no error was told, nor is to be: the core lives, and no Goaway with an error was taken.
+    /// Whether no GOAWAY with an error was written or is to be: the core lives, and no Goaway with
+    /// an error was taken.
     pub fn is_faultless(&self) -> bool
         ensures none { result ≡ true → (run : List Step) → Leads L.got run self.now
             → has_failed run ≡ false }
@@ -194,28 +228,30 @@ impl<L: Lane<Item = OutItem>> OutCore<L> {
         !self.is_dead && !self.has_failed
     }
 
-    /// Whether a Goaway with an error was taken, with one for this reason.
+    /// Whether a Goaway with an error was taken, once one for this reason is.
     fn fails_by(&self, reason: Reason) -> bool
-        ensures { (last : ℕ) → result ≡ (self.now.has_failed || is_last (goaway_frame last reason)) }
+        ensures { (last : ℕ)
+            → result ≡ (self.now.has_failed || is_last (goaway_frame last reason)) }
     {
         self.has_failed || reason.number() != 0
     }
 
-    /// The last word of a core that is dead, once: GOAWAY, where SETTINGS were written, no header block is unfinished and no GOAWAY
-    /// with an error was written. What else was due goes unsaid. Out of memory, nothing is said.
+    /// The last word of a dead core, once: GOAWAY, if SETTINGS were written, no header block is
+    /// unfinished and no GOAWAY with an error was written. What else was due stays unwritten.
+    /// Without memory there is no last word.
     pub fn farewell(&mut self, last: StreamId, reason: Reason) -> Option<OutFrame>
         ensures goaway { IfSome result (λ frame. frame ≡ goaway_frame last reason) }
 
-        // It is the next step of the run, behind the control that asks for it.
+        // The control that asks for it and then the frame are the next steps of the run.
         ensures leads { IfSome result (λ frame. (run : List Step) → Leads L.got run self.old
             → Leads L.got (Written frame ∷ Taken (order.Goaway last reason) ∷ run) self.new) }
 
-        // A frame that is not written is no step.
+        // Without a frame there is no step.
         ensures still { LeadsStill L.got self.old self.new }
         ensures sound { IfSome result IsSound }
         ensures dead { self.old.is_dead ≡ false → result ≡ None }
 
-        // Behind it nothing more is said.
+        // After it nothing more is said.
         ensures spent { self.old.may_part ≡ false → result ≡ None }
         ensures rest { self.new ≡ record self.old { may_part = self.new.may_part } }
         ensures once { self.new.may_part ≡ false }
@@ -231,8 +267,8 @@ impl<L: Lane<Item = OutItem>> OutCore<L> {
         }
     }
 
-    /// Whether credit that is granted on a stream counts: its Open was taken, and it wasn't reset. On the connection, which is
-    /// stream 0, it always does.
+    /// Whether credit that is granted on a stream counts: its Open was taken, and it wasn't reset.
+    /// On the connection, which is stream 0, credit always counts.
     pub fn takes_credit(&self, id: StreamId) -> bool
         ensures value { result ≡ takes_credit self.now id }
         ensures owes { self.now.is_dead ≡ false → (run : List Step) → Leads L.got run self.now
@@ -241,10 +277,11 @@ impl<L: Lane<Item = OutItem>> OutCore<L> {
         self.sending.outbound.states.pays(id)
     }
 
-    /// Owes n bytes more of credit, which a WINDOW_UPDATE will tell: on a stream, or on the connection where it is 0. At
-    /// most 2^31 - 1 are owed at once. Nothing changes of a dead core, nor where credit doesn't count on the stream.
+    /// Owes n bytes more of credit, for a WINDOW_UPDATE, on a stream, or on the connection where it
+    /// is 0. At most 2^31 - 1 are owed at once. Nothing changes in a dead core, or where credit
+    /// doesn't count on the stream.
     pub fn grant(&mut self, id: StreamId, n: u32)
-        // That it is granted is the next step of the run, by which what is owed is counted.
+        // The grant is the next step of the run, which counts what is owed.
         ensures leads { LeadsOn L.got (Granted id n) self.old self.new }
         ensures dead_stays { self.old.is_dead ≡ true → self.new ≡ self.old }
 
@@ -265,7 +302,8 @@ impl<L: Lane<Item = OutItem>> OutCore<L> {
         }
     }
 
-    /// Whether an item of the stream is in hand that a window keeps back. Of what its sender has yet nothing is said.
+    /// Whether an item of the stream is in hand that a window keeps back. It says nothing of what
+    /// the stream's sender still has.
     pub fn held(&self, id: StreamId) -> bool
         ensures { result ≡ is_held (open_stream self.now id)
             (room self.now.sending.outbound.states.windows id) }
@@ -273,18 +311,18 @@ impl<L: Lane<Item = OutItem>> OutCore<L> {
         self.sending.outbound.states.has_hand(id) && self.sending.outbound.states.room(id) == 0
     }
 
-    /// The senders that are kept: of each call whose sender wasn't given back.
+    /// The senders of all calls whose senders weren't given back.
     pub fn into_senders(self) -> Vec<(StreamId, Sender<L>)>
         ensures senders { result ≡ self.sending.senders }
 
-        // What was told of each call begins what the items that were got of its sender spell.
+        // The frames of each call begin what the items spell that its sender gave.
         ensures fronts { (run : List Step) → Leads L.got run self
             → TellFronts run (calls L.got result.items) }
 
-        // So does what was told of each call whose sender was given back.
+        // The frames of each call whose sender was given back do so too.
         ensures returned { (run : List Step) → Leads L.got run self → TellReturned run }
 
-        // Of a stream that was never opened nothing was told, a reset, or what a Refuse asked for.
+        // A stream that was never opened has no frame, a reset, or what a Refuse asked for.
         ensures others { (run : List Step) → Leads L.got run self → TellOthers run }
     {
         let OutCore { sending, .. } = self;

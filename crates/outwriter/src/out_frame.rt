@@ -12,7 +12,7 @@ use zeros::{ZeroBuffer, ZeroTail};
 #[derive(Debug, Drop)]
 pub struct OutFrame {
     head: FrameHead,
-    /// The payload. That of DATA may end with zeros that take no memory.
+    /// The payload. The payload of DATA may end with zeros that take no memory.
     content: ZeroTail,
 }
 

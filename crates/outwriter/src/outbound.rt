@@ -1,13 +1,51 @@
-//! The server's side of a connection, as far as it was written: all that says which frames may come next.
+//! The server's side of a connection, as far as it was written: all that decides which frames may
+//! come next.
 //!
-//! The connection's state without the calls. Each frame leaves through one call of it, whose clause is the law for
-//! that frame: whatever run led to the state before, the frame might be written behind it, and the run with the frame
-//! leads to the state behind it.
+//! It is the connection's state without the calls. Each frame leaves through one function of it,
+//! whose clause is the law for that frame: whatever run led to the state before, the frame may be
+//! written after it, and the run with the frame leads to the state after it.
 
-ghost use Rattle.std.specs.Prelude.{Err, ◌==◌, ◌∷◌, if◌then◌else◌, ◌≢◌, ◌≡◌, ◌<◌, ◌^◌, ◌&&◌, ◌||◌, not, true, false, nat_lt, nat_le, ℕ, All, List, [], Some, None, OnOk, OnErr, IfErr};
+ghost use Rattle.std.specs.Prelude.{
+  Err,
+  ◌==◌,
+  ◌∷◌,
+  if◌then◌else◌,
+  ◌≢◌,
+  ◌≡◌,
+  ◌<◌,
+  ◌^◌,
+  ◌&&◌,
+  ◌||◌,
+  not,
+  true,
+  false,
+  nat_lt,
+  nat_le,
+  ℕ,
+  All,
+  List,
+  [],
+  Some,
+  None,
+  OnOk,
+  OnErr,
+  IfErr,
+};
 ghost use Rattle.flow.specs.WindowHistory.{Follows, CanCredit, CanResize, Closing};
 ghost use Rattle.flow.specs.WindowHistory.{Step as WindowStep};
-ghost use Rattle.outwriter.specs.States.{Moves, SameOpen, SameOver, opening, open_at, is_heard, is_reset, knows, owed_on, nothing_known, pays};
+ghost use Rattle.outwriter.specs.States.{
+  Moves,
+  SameOpen,
+  SameOver,
+  opening,
+  open_at,
+  is_heard,
+  is_reset,
+  knows,
+  owed_on,
+  nothing_known,
+  pays,
+};
 ghost use Rattle.outwriter.specs.OpenStreams.{stream_at};
 ghost use Rattle.outwriter.specs.Histories.{is_stream as is_number, table_sizes};
 ghost use Rattle.outwriter.specs.TableLimits.{limited_by};
@@ -49,7 +87,12 @@ impl Outbound {
     ghost use Rattle.outwriter.specs.Histories.{HasWindow, Overflows, window_sizes};
     ghost use Rattle.outwriter.specs.RunState.{IsBetween, MirrorsOf, MirrorsOn, Stays};
     ghost use Rattle.outwriter.specs.CallState.{Takes, none_is_new};
-    ghost use Rattle.outwriter.specs.CoreChanges.{KeptOn, becomes_open, due_reset, is_new_call as is_new_call_of};
+    ghost use Rattle.outwriter.specs.CoreChanges.{
+      KeptOn,
+      becomes_open,
+      due_reset,
+      is_new_call as is_new_call_of,
+    };
     ghost use Rattle.outwriter.specs.declared.control.OutFault.TheVariants as out_fault;
     ghost use Rattle.outwriter.specs.declared.control.Control.TheVariants as order;
     ghost use Rattle.outwriter.specs.declared.due.Due.TheVariants as due_kind;
@@ -72,14 +115,15 @@ impl Outbound {
         }
     }
 
-    /// Whether SETTINGS were written, no GOAWAY with an error was, and no header block is unfinished.
+    /// Whether SETTINGS were written, no GOAWAY with an error was, and no header block is
+    /// unfinished.
     pub(crate) fn is_between(&self) -> bool
         ensures { result ≡ true → IsBetween self.now }
     {
         self.begun && !self.gone && self.block.is_none()
     }
 
-    /// Makes room for one more that is due.
+    /// Makes room for one more frame that is due.
     pub(crate) fn make_room(&mut self) -> Result<(), AllocError>
         ensures stays { Stays self.old self.new }
         ensures room { OnOk result (deque_len self.new.due < deque_capacity self.new.due) }
@@ -90,8 +134,8 @@ impl Outbound {
         self.due.reserve(1)
     }
 
-    /// Applies SETTINGS, the limits of the table and the initial windows, and owes their acknowledgement. Where one of the
-    /// windows would be over 2^31 - 1, none changes.
+    /// Applies SETTINGS, which are the limits of the table and the initial windows, and owes their
+    /// acknowledgement. Where a window would be larger than 2^31 - 1, none changes.
     pub(crate) fn take_settings(&mut self, settings: &PeerSettings) -> Result<(), WindowFault>
         requires room { deque_len self.old.due < deque_capacity self.old.due }
         ensures taken { MirrorsOn (Taken (order.Settings settings.now)) self.old self.new }
@@ -130,7 +174,8 @@ impl Outbound {
         self.due.push_back_reserved(Due::Ping(bytes));
     }
 
-    /// Takes the peer's credit, and answers whether the window has room for it. A stream that isn't open is none to credit.
+    /// Takes the peer's credit, and answers whether the window has room for it. Credit on a stream
+    /// that isn't open changes nothing.
     pub(crate) fn take_window(&mut self, id: StreamId, increment: u32) -> bool
         ensures taken { MirrorsOn (Taken (order.Window id increment)) self.old self.new }
         ensures takes { Takes [] none_is_new [] self.old self.new }
@@ -145,8 +190,9 @@ impl Outbound {
         !is_overflow(credited)
     }
 
-    /// Opens the window of a call's stream, unless it is open, or the stream is over or was reset, and its state, if the stream is
-    /// new. It becomes open where nothing was heard of it; its sender stands at a place. Out of memory, it changes nothing.
+    /// Opens the window of a call's stream, unless that is open, or the stream is over or was
+    /// reset. A stream of which nothing was heard becomes open, with its sender at a place. Out of
+    /// memory, it changes nothing.
     pub(crate) fn take_open(&mut self, id: StreamId, place: usize) -> Result<(), AllocError>
         ensures taken { OnOk result (MirrorsOn (Taken (order.Open id tt)) self.old self.new) }
         ensures stays { OnErr result (Stays self.old self.new) }
@@ -163,7 +209,8 @@ impl Outbound {
         open_state(&mut self.states, id, place)
     }
 
-    /// Refuses a stream of which nothing was or will be written. Out of memory, it hands the control back and changes nothing.
+    /// Refuses a stream on which nothing was or will be written. Out of memory, it hands the
+    /// control back and changes nothing.
     pub(crate) fn refuse<S>(
         &mut self,
         id: StreamId,
@@ -185,7 +232,8 @@ impl Outbound {
         }
     }
 
-    /// Owes the one header block of a stream. Out of memory, it hands its fields back and changes nothing.
+    /// Owes the one header block of a stream. Out of memory, it hands its fields back and changes
+    /// nothing.
     fn take_refuse(&mut self, id: StreamId, fields: Sequence<Field>) -> Result<(), Sequence<Field>>
         requires stream { 0 < id }
         requires number { id < 2 ^ 31 }
@@ -206,8 +254,8 @@ impl Outbound {
         }
     }
 
-    /// Resets a stream, which isn't open any more. Nothing is written of one that has ended or was reset. Out of memory, it hands the control
-    /// back and changes nothing.
+    /// Resets a stream, which then isn't open. Nothing is written on one that has ended or was
+    /// reset. Out of memory, it hands the control back and changes nothing.
     pub(crate) fn reset<S>(
         &mut self,
         id: StreamId,
@@ -231,8 +279,9 @@ impl Outbound {
         }
     }
 
-    /// Resets a stream: its window is closed, no credit is owed on it, and nothing is written on it any more but RST_STREAM, where the Reset
-    /// is to be written and the stream had neither ended nor been reset. Out of memory, it changes nothing.
+    /// Resets a stream: its window is closed, no credit is owed on it, and nothing is written on it
+    /// any more but RST_STREAM, where the Reset is to be written and the stream had neither ended
+    /// nor been reset. Out of memory, it changes nothing.
     fn take_reset(&mut self, id: StreamId, code: ErrorCode, written: bool) -> Result<(), AllocError>
         requires room { deque_len self.old.due < deque_capacity self.old.due }
         ensures taken { OnOk result
@@ -280,7 +329,7 @@ impl Outbound {
     }
 }
 
-/// Whether a window would be over 2^31 - 1 bytes.
+/// Whether a window would be larger than 2^31 - 1 bytes.
 fn is_overflow(credited: Result<(), WindowFault>) -> bool
     ensures over { result ≡ true → credited ≡ Err window_fault.Overflow }
     ensures fits { result ≡ false → credited ≢ Err window_fault.Overflow }
@@ -301,7 +350,7 @@ pub(crate) fn is_stream(id: StreamId) -> bool
     0 < id && id <= MAX_WINDOW
 }
 
-/// A call begins on a stream, if it is one.
+/// A call begins on a stream, if the number is a stream's.
 fn open_state(states: &mut StreamStates, id: StreamId, place: usize) -> Result<(), AllocError>
     ensures owed { OnOk result ((other : ℕ) → owed_on states.new other ≡ owed_on states.old other) }
     ensures pays { OnOk result ((other : ℕ)
@@ -360,7 +409,7 @@ fn reset_state(states: &mut StreamStates, id: StreamId) -> Result<(), AllocError
     states.reset(id)
 }
 
-/// Tells the encoder the limits that SETTINGS have for its table.
+/// Gives the encoder the limits that SETTINGS have for its table.
 fn limit_table(encoder: &mut Encoder, settings: &[PeerSetting])
     ensures { encoder.new ≡ limited_by encoder.old (table_sizes settings.now) }
 {

@@ -1,7 +1,8 @@
-//! Whose sender is given back.
+//! The senders that are given back.
 //!
-//! A call is through where its end was written, or a Reset of it was taken: of its stream nothing more is told, but perhaps
-//! a reset. What is still ahead of its sender nobody asks for any more, so whoever gets the sender polls that away.
+//! A call is through where its end was written, or a Reset of it was taken: nothing more is written
+//! on its stream, but perhaps a reset. The core no longer asks for what is ahead of its sender, so
+//! whoever gets the sender polls that away.
 
 ghost use Rattle.std.specs.Prelude.{◌≡◌, true, false, IfSome, IfNone, OnSome};
 
@@ -19,20 +20,21 @@ impl<L: Lane<Item = OutItem>> OutCore<L> {
     ghost use Rattle.outwriter.specs.RunState.{SameButOpen};
     ghost use Rattle.outwriter.specs.Steps.{Returned};
 
-    /// Gives back the sender of a call that is through: its stream isn't open any more, and no header block of it is
-    /// unfinished. It takes no memory, and looks through the senders. A stream that was opened
-    /// twice has two.
+    /// Gives back the sender of a call that is through: its stream isn't open any more, and no
+    /// header block of it is unfinished. It takes no memory, and looks through the senders. A
+    /// stream that was opened twice has two.
     pub fn release(&mut self, id: StreamId) -> Option<Sender<L>>
-        // That it is given back, with what it has given, is the next step of the run.
+        // The next step of the run is that the sender is given back, with what it has given.
         ensures leads { IfSome result
             (λ sender. LeadsOn L.got (Returned id (L.got sender.rx)) self.old self.new) }
 
-        // It is the first of this stream's that are kept, and the last takes its place.
+        // It is the first of this stream's senders that are kept, and the last sender takes its
+        // place.
         ensures releases { IfSome result
             (λ sender. Releases id sender self.old.sending.senders.items
             self.new.sending.senders.items) }
 
-        // It is given back exactly where the call is through, and so has ended or was reset.
+        // A sender is given back exactly where its call is through, and so has ended or was reset.
         ensures through { OnSome result (IsThrough id self.old) }
         ensures none { IfNone result (IsThrough id self.old
             → HasNone id self.old.sending.senders.items) }
@@ -46,7 +48,7 @@ impl<L: Lane<Item = OutItem>> OutCore<L> {
               };
             } }
 
-        // It changes no more than where the sender stands that takes its place.
+        // Nothing else changes but the place of the sender that takes its place.
         ensures same { SameButOpen self.old.sending.outbound self.new.sending.outbound }
     {
         if self.sending.outbound.states.is_open(id) || self.sending.is_in_block(id) {
@@ -77,7 +79,7 @@ impl<L: Lane<Item = OutItem>> Sending<L> {
         }
     }
 
-    /// Where the first sender of this stream stands.
+    /// The place of the first sender of this stream.
     pub(crate) fn place_of(&self, id: StreamId) -> Option<usize>
         ensures some { IfSome result (λ place. IsAt id place self.now.senders.items) }
         ensures first { IfSome result (λ place. HasNoneBelow place id self.now.senders.items) }
@@ -97,7 +99,7 @@ impl<L: Lane<Item = OutItem>> Sending<L> {
 ghost use Rattle.outwriter.specs.Releases.{MovedTo};
 ghost use Rattle.outwriter.specs.States.{StandAs, open_at};
 
-/// The sender that was last stands at a place now, unless that was the last.
+/// The last sender moves to a place, unless that was its own.
 fn move_last<L: Lane<Item = OutItem>>(
     states: &mut StreamStates,
     senders: &[(StreamId, Sender<L>)],

@@ -10,8 +10,8 @@ use crate::states::StreamStates;
 use flow::WindowFault;
 use h2frame::PeerSetting;
 
-/// Sets the initial windows of SETTINGS, of which the last one counts. All of them have to fit, so the greatest is tried
-/// first.
+/// Sets the initial windows of SETTINGS, of which the last counts. All of them have to fit, so the
+/// greatest is tried first.
 pub(crate) fn resize(states: &mut StreamStates, settings: &[PeerSetting]) -> Result<(), WindowFault>
     ensures rest { SameButWindows states.old states.new }
     ensures windows { OnOk result

@@ -1,6 +1,19 @@
-//! What a writer sends: what is kept of the connection, the senders of its calls, and whose turn it is.
+//! What a writer sends: the connection's state, the senders of its calls, and whose turn it is.
 
-ghost use Rattle.std.specs.Prelude.{◌≡◌, ◌<◌, List, [], ◌∷◌, Some, OnOk, OnErr, IfErr, length, vec_len, vec_capacity};
+ghost use Rattle.std.specs.Prelude.{
+  ◌≡◌,
+  ◌<◌,
+  List,
+  [],
+  ◌∷◌,
+  Some,
+  OnOk,
+  OnErr,
+  IfErr,
+  length,
+  vec_len,
+  vec_capacity,
+};
 
 use crate::control::{Control, OutFault};
 use crate::outbound::Outbound;
@@ -11,15 +24,16 @@ use lane::Lane;
 use std::alloc::{AllocError, Global};
 use std::collections::VecDeque;
 
-/// The connection's state with its calls: what was said, and who has something to say next.
+/// The connection's state with its calls: what was written, and which stream has something to write
+/// next.
 #[derive(Drop)]
 pub(crate) struct Sending<L: Lane<Item = OutItem>> {
     pub(crate) outbound: Outbound,
     /// The senders that weren't given back.
     pub(crate) senders: Vec<(StreamId, Sender<L>)>,
-    /// The open streams that had something when they were looked at last, and take turns.
+    /// The open streams that had something when they were last looked at, and take turns.
     pub(crate) ready: VecDeque<StreamId>,
-    /// Whose stream is looked at next out of turn, of the senders.
+    /// The place of the sender whose stream is looked at next out of turn.
     pub(crate) cursor: usize,
 }
 
@@ -75,7 +89,8 @@ impl<L: Lane<Item = OutItem>> Sending<L> {
         }
     }
 
-    /// All that a call needs but its sender. A stream that was refused, reset or opened before isn't opened.
+    /// Prepares all that a call needs but its sender. A stream that was refused, reset or opened
+    /// before isn't opened.
     fn prepare(&mut self, id: StreamId) -> Result<(), AllocError>
         ensures kept { OnOk result
             (KeptWith id (length self.old.senders.items) self.old.outbound self.new.outbound) }

@@ -1,20 +1,115 @@
-//! How each stream stands of which something was heard or written (RFC 9113, section 5.1), the credit that is owed to the
-//! peer, and the windows of what is sent (section 6.9).
+//! The state of each stream of which something was heard or on which something was written (RFC
+//! 9113, section 5.1), the credit that is owed to the peer, and the windows of what is sent
+//! (section 6.9).
 
-ghost use Rattle.std.specs.Prelude.{◌≡◌, ◌<◌, ◌≤◌, ◌^◌, ℕ, pos, ◌&&◌, if◌then◌else◌, List, [], ◌∷◌, Option, None, Some, false, true, not, is_some, IfSome, IfOk, OnOk, OnErr, length, nat_eq};
+ghost use Rattle.std.specs.Prelude.{
+  ◌≡◌,
+  ◌<◌,
+  ◌≤◌,
+  ◌^◌,
+  ℕ,
+  pos,
+  ◌&&◌,
+  if◌then◌else◌,
+  List,
+  [],
+  ◌∷◌,
+  Option,
+  None,
+  Some,
+  false,
+  true,
+  not,
+  is_some,
+  IfSome,
+  IfOk,
+  OnOk,
+  OnErr,
+  length,
+  nat_eq,
+};
 ghost use Rattle.std.specs.List.{list_all};
 ghost use Rattle.std.specs.Map.{lookup, values_of};
 ghost use Rattle.indexmap.specs.IndexMap.{IsUnique};
-ghost use Rattle.flow.specs.WindowHistory.{CanCredit, CanResize, Closing, Credit, Follows, Resizing};
+ghost use Rattle.flow.specs.WindowHistory.{
+  CanCredit,
+  CanResize,
+  Closing,
+  Credit,
+  Follows,
+  Resizing,
+};
 ghost use Rattle.flow.specs.WindowHistory.{Step as WindowStep};
 ghost use Rattle.flow.specs.Windows.{CreditFault, Meets, room};
-ghost use Rattle.outwriter.specs.States.{nothing_known, open_at, is_reset, pays, state_on, amount_of, by_reset, more, is_heard, can_write, balance_after as balance_after_of, fits_with, room_in, steps_of, Changes, CreditsEntry, CreditsStream, IsAfter, KeepsAmount, PutsAfter, SetsBalance, Hears, Opens, BecomesOpen, Grants, Moves, Resets, SameButWindows, SameEnds, SameOver, SameOwed, SameOpen, StandAs, SetsEnd, Edits, TakesAll, Adds, AllFit, IsSettledBut, IsSettledFrom, TakesAt, TakesLast, opened_of, opening};
+ghost use Rattle.outwriter.specs.States.{
+  nothing_known,
+  open_at,
+  is_reset,
+  pays,
+  state_on,
+  amount_of,
+  by_reset,
+  more,
+  is_heard,
+  can_write,
+  balance_after as balance_after_of,
+  fits_with,
+  room_in,
+  steps_of,
+  Changes,
+  CreditsEntry,
+  CreditsStream,
+  IsAfter,
+  KeepsAmount,
+  PutsAfter,
+  SetsBalance,
+  Hears,
+  Opens,
+  BecomesOpen,
+  Grants,
+  Moves,
+  Resets,
+  SameButWindows,
+  SameEnds,
+  SameOver,
+  SameOwed,
+  SameOpen,
+  StandAs,
+  SetsEnd,
+  Edits,
+  TakesAll,
+  Adds,
+  AllFit,
+  IsSettledBut,
+  IsSettledFrom,
+  TakesAt,
+  TakesLast,
+  opened_of,
+  opening,
+};
 ghost use Rattle.outwriter.specs.Resizes.{FitsOn};
 ghost use Rattle.outwriter.specs.Cores.{calls, lanes};
 ghost use Rattle.outwriter.specs.Data.{BeginsOnStream, LooksAtStream};
-ghost use Rattle.outwriter.specs.NextOn.{EndsStream, GetsOne, NextAtEntry, NextOnStream, TakesNext, TakesUpStream};
+ghost use Rattle.outwriter.specs.NextOn.{
+  EndsStream,
+  GetsOne,
+  NextAtEntry,
+  NextOnStream,
+  TakesNext,
+  TakesUpStream,
+};
 ghost use Rattle.outwriter.specs.Polls.{coming};
-ghost use Rattle.outwriter.specs.OpenStreams.{Closes, PlaceIs, SameHands, has_hand, kept as kept_of, shown, stream_at, with_hand, with_place};
+ghost use Rattle.outwriter.specs.OpenStreams.{
+  Closes,
+  PlaceIs,
+  SameHands,
+  has_hand,
+  kept as kept_of,
+  shown,
+  stream_at,
+  with_hand,
+  with_place,
+};
 
 use crate::stream::{Found, Hand, Looked, Opened, Polled, next_data, poll_at};
 use crate::stream_state::{Change, Over, StreamState};
@@ -33,15 +128,15 @@ use zeros::ZeroTail;
 #[derive(Drop)]
 pub(crate) struct Stream {
     state: StreamState,
-    /// What is written of it, while it is open.
+    /// What is to be written on it, while it is open.
     opened: Option<Opened>,
-    /// The balance of its window, while that is open.
+    /// The balance of its window, while the window is open.
     balance: Option<Balance>,
 }
 
 impl Stream {
-    /// Changes how it stands. An Open opens its window, unless that is open, or the stream is over or was reset; a reset and its end
-    /// close it.
+    /// Changes its state. An Open opens its window, unless that is open, or the stream is over or
+    /// was reset. A reset and the stream's end close the window.
     fn change(&mut self, change: Change)
         ensures opened { self.new.opened ≡ self.old.opened }
         ensures state { IsAfter change self.old.state self.new.state }
@@ -85,7 +180,8 @@ impl Stream {
         }
     }
 
-    /// What is next on it, if something may be written on it: DATA of what is in hand, or else what its sender has.
+    /// What is next on it, if something may be written on it: DATA of the message in hand, or else
+    /// what its sender has.
     fn next<L: Lane<Item = OutItem>>(
         &mut self,
         id: StreamId,
@@ -124,7 +220,8 @@ impl Stream {
         }
     }
 
-    /// What is written of what its sender had: of a message the first DATA, and all of a header block.
+    /// What is written of what its sender had: the first DATA of a message, or a whole header
+    /// block.
     fn take_up(
         &mut self,
         id: StreamId,
@@ -145,7 +242,7 @@ impl Stream {
         }
     }
 
-    /// Where END_STREAM is written on it, it isn't open any more, and its window closes.
+    /// If END_STREAM is written on it, it isn't open any more, and its window closes.
     fn end_if(&mut self, ends: bool)
         ensures { EndsStream ends self.old self.new }
     {
@@ -155,7 +252,7 @@ impl Stream {
         }
     }
 
-    /// The first DATA of a message, of which what is left is kept in hand, if it is open.
+    /// The first DATA of a message. The rest of the message stays in hand, if the stream is open.
     fn begin(
         &mut self,
         id: StreamId,
@@ -172,7 +269,7 @@ impl Stream {
         Ok(looked)
     }
 
-    /// What is left of a message is in hand, if it is open.
+    /// Keeps the rest of a message in hand, if the stream is open.
     fn keep(&mut self, rest: ZeroTail)
         ensures state { self.new.state ≡ self.old.state }
         ensures balance { self.new.balance ≡ self.old.balance }
@@ -183,7 +280,7 @@ impl Stream {
         }
     }
 
-    /// Whether it takes turns from now on, if it is open. It answers whether it is.
+    /// Lets it take turns from now on, or none, if it is open. Answers whether it is open.
     fn turn(&mut self, in_turn: bool) -> bool
         ensures state { self.new.state ≡ self.old.state }
         ensures balance { self.new.balance ≡ self.old.balance }
@@ -198,7 +295,7 @@ impl Stream {
         }
     }
 
-    /// Its sender stands at another place, if it is open and that stood there.
+    /// Moves the place of its sender, if it is open and its sender was at `from`.
     fn move_place(&mut self, from: usize, to: usize)
         ensures state { self.new.state ≡ self.old.state }
         ensures balance { self.new.balance ≡ self.old.balance }
@@ -210,7 +307,7 @@ impl Stream {
     }
 }
 
-/// The balance of a stream's window behind a change, if that is open.
+/// The balance of a stream's window after a change, if the window is open.
 fn balance_after(change: Change, state: StreamState, balance: Option<Balance>) -> Option<Balance>
     ensures { result ≡ balance_after_of change state balance }
 {
@@ -222,7 +319,7 @@ fn balance_after(change: Change, state: StreamState, balance: Option<Balance>) -
     }
 }
 
-/// The same behind an Open.
+/// The balance of a stream's window after an Open, if the window is open.
 fn opened(state: StreamState, balance: Option<Balance>) -> Option<Balance>
     ensures { result
         ≡ (if can_write state && not (is_some balance) then Some (pos 0) else balance) }
@@ -233,7 +330,8 @@ fn opened(state: StreamState, balance: Option<Balance>) -> Option<Balance>
     balance
 }
 
-/// The streams of a connection with their windows, and the bytes to be credited to the peer on the connection itself.
+/// The streams of a connection with their windows, and the bytes to be credited to the peer on the
+/// connection itself.
 #[derive(Drop)]
 pub(crate) struct StreamStates {
     connection: u32,
@@ -267,7 +365,7 @@ impl StreamStates {
         }
     }
 
-    /// How a stream stands. One of which nothing was heard is no call's.
+    /// The state of a stream. One of which nothing was heard is no call's.
     pub(crate) fn state(&self, id: StreamId) -> StreamState
         ensures { result ≡ state_on self.now id }
     {
@@ -294,7 +392,8 @@ impl StreamStates {
         }
     }
 
-    /// Whether credit may be owed on a stream: it is a call's that wasn't reset, or the connection, which is 0.
+    /// Whether credit may be owed on a stream: it is a call's and wasn't reset, or it is 0, the
+    /// connection.
     pub(crate) fn pays(&self, id: StreamId) -> bool
         ensures { result ≡ pays self.now id }
     {
@@ -335,9 +434,9 @@ impl StreamStates {
         }
     }
 
-    /// A call begins on a stream, and its sender stands at a place. The stream's window opens, unless it is open, or the stream is
-    /// over or was reset. The stream becomes open where nothing was heard of it, and a call's where it is none. None is owed on one
-    /// that was reset.
+    /// A call begins on a stream, with its sender at a place. The stream's window opens, unless it
+    /// is open, or the stream is over or was reset. A stream of which nothing was heard becomes
+    /// open. The stream is a call's from now on. Nothing is owed on one that was reset.
     pub(crate) fn open(&mut self, id: StreamId, place: usize) -> Result<(), AllocError>
         requires stream { 0 < id }
         requires number { id < 2 ^ 31 }
@@ -352,7 +451,7 @@ impl StreamStates {
         self.change(id, Change::Open, Some(opened))
     }
 
-    /// A stream is heard of. It stands as it did.
+    /// Notes a stream as heard of. Its state doesn't change.
     pub(crate) fn hear(&mut self, id: StreamId) -> Result<(), AllocError>
         requires stream { 0 < id }
         requires number { id < 2 ^ 31 }
@@ -366,7 +465,8 @@ impl StreamStates {
         self.change(id, Change::Hear, None)
     }
 
-    /// A stream is reset: its window closes, and nothing is owed on it, now and later. Out of memory, nothing changes.
+    /// A stream is reset: its window closes, and nothing is owed on it, now and later. Out of
+    /// memory, nothing changes.
     pub(crate) fn reset(&mut self, id: StreamId) -> Result<(), AllocError>
         requires stream { 0 < id }
         requires number { id < 2 ^ 31 }
@@ -380,7 +480,7 @@ impl StreamStates {
         self.change(id, Change::Reset, None)
     }
 
-    /// The end of a stream is written: its window closes. What is owed on it stays.
+    /// The end of a stream is written, and its window closes. What is owed on it stays.
     pub(crate) fn end(&mut self, id: StreamId, by: Over) -> Result<(), AllocError>
         requires stream { 0 < id }
         requires number { id < 2 ^ 31 }
@@ -418,7 +518,8 @@ impl StreamStates {
         credit_of(&mut self.streams, &self.window, id, increment)
     }
 
-    /// Takes a new initial size of the streams' windows. Where one of them would be over 2^31 - 1, none changes.
+    /// Takes a new initial size of the streams' windows. Where one of them would be larger than
+    /// 2^31 - 1, none changes.
     pub(crate) fn initial(&mut self, size: u32) -> Result<(), WindowFault>
         ensures ok { OnOk result (self.new
             ≡ record self.old { windows = record self.old.windows { initial = size } }) }
@@ -441,7 +542,8 @@ impl StreamStates {
         Ok(())
     }
 
-    /// Changes how a stream stands. One of which nothing was heard becomes open, where that is given.
+    /// Changes the state of a stream. One of which nothing was heard becomes open as `opened` says,
+    /// if it is given.
     fn change(
         &mut self,
         id: StreamId,
@@ -460,9 +562,10 @@ impl StreamStates {
         change_of(&mut self.streams, id, change, opened)
     }
 
-    /// What is next on a stream, if that is open and something may be written on it: DATA of what is in hand, or else what its
-    /// sender has. DATA are taken out of the windows, and what is left of their message is in hand then. A stream that a header
-    /// block ends is closed, and its end is noted.
+    /// What is next on a stream, if it is open and something may be written on it: DATA of the
+    /// message in hand, or else what its sender has. DATA are taken out of the windows, and the
+    /// rest of their message is in hand then. A stream that a header block ends is closed, and its
+    /// end is noted.
     pub(crate) fn next_on<L: Lane<Item = OutItem>>(
         &mut self,
         id: StreamId,
@@ -479,7 +582,7 @@ impl StreamStates {
         next_at(&mut self.streams, id, &mut self.window, senders, encoder)
     }
 
-    /// Whether a stream takes turns from now on, if it is open. It answers whether it is.
+    /// Lets a stream take turns from now on, or none, if it is open. Answers whether it is open.
     pub(crate) fn turn(&mut self, id: StreamId, in_turn: bool) -> bool
         ensures stands { StandAs self.old self.new }
         ensures hands { SameHands (open_at self.old) (open_at self.new) }
@@ -487,7 +590,7 @@ impl StreamStates {
         turn_of(&mut self.streams, id, in_turn)
     }
 
-    /// The sender of an open stream stands at another place, if it stood there.
+    /// Moves the place of an open stream's sender, if the sender was at `from`.
     pub(crate) fn move_place(&mut self, id: StreamId, from: usize, to: usize)
         ensures stands { StandAs self.old self.new }
         ensures place { PlaceIs id from to (open_at self.old) (open_at self.new) }
@@ -495,7 +598,7 @@ impl StreamStates {
         move_place_of(&mut self.streams, id, from, to);
     }
 
-    /// A stream isn't open any more.
+    /// Makes a stream no longer open.
     pub(crate) fn close(&mut self, id: StreamId)
         ensures stands { StandAs self.old self.new }
         ensures closes { Closes id (open_at self.old) (open_at self.new) }
@@ -503,8 +606,9 @@ impl StreamStates {
         close_of(&mut self.streams, id);
     }
 
-    /// Owes n bytes more, on a stream or on the connection where it is 0: at most 2^31 - 1 at once, the most that a
-    /// WINDOW_UPDATE tells. Nothing changes for a stream of no call, and for one that was reset.
+    /// Owes n bytes more, on a stream or on the connection where it is 0: at most 2^31 - 1 at once,
+    /// the most that a WINDOW_UPDATE gives. Nothing changes for a stream of no call, and for one
+    /// that was reset.
     pub(crate) fn grant(&mut self, id: StreamId, n: u32)
         ensures grants { Grants self.old id n self.new }
         ensures ends { SameEnds self.old self.new }
@@ -537,7 +641,8 @@ impl StreamStates {
     }
 }
 
-/// Changes how a stream stands. One of which nothing was heard becomes open, where that is given.
+/// Changes the state of a stream. One of which nothing was heard becomes open as `opened` says, if
+/// it is given.
 fn change_of(
     streams: &mut IndexMap<StreamId, Stream>,
     id: StreamId,
@@ -594,12 +699,12 @@ fn all_fit(streams: &IndexMap<StreamId, Stream>, size: u32) -> bool
         (values_of streams.now.entries) }
     ensures unique { IsUnique nat_eq streams.now }
 {
-    // That no key stands twice is said by `len`.
+    // `len` says that no key comes twice.
     let _count = streams.len();
     streams.values().all(|stream| stream.fits(size))
 }
 
-/// What is next on a stream, if that is open and something may be written on it.
+/// What is next on a stream, if it is open and something may be written on it.
 fn next_at<L: Lane<Item = OutItem>>(
     streams: &mut IndexMap<StreamId, Stream>,
     id: StreamId,
@@ -621,7 +726,7 @@ fn next_at<L: Lane<Item = OutItem>>(
     }
 }
 
-/// Whether a stream takes turns from now on, if it is open. It answers whether it is.
+/// Lets a stream take turns from now on, or none, if it is open. Answers whether it is open.
 fn turn_of(streams: &mut IndexMap<StreamId, Stream>, id: StreamId, in_turn: bool) -> bool
     ensures edits { Edits streams.old.entries id streams.new.entries }
     ensures hand { shown (opened_of (lookup (nat_eq id) streams.new.entries))
@@ -633,7 +738,7 @@ fn turn_of(streams: &mut IndexMap<StreamId, Stream>, id: StreamId, in_turn: bool
     }
 }
 
-/// The sender of an open stream stands at another place, if it stood there.
+/// Moves the place of an open stream's sender, if the sender was at `from`.
 fn move_place_of(streams: &mut IndexMap<StreamId, Stream>, id: StreamId, from: usize, to: usize)
     ensures edits { Edits streams.old.entries id streams.new.entries }
     ensures place { shown (opened_of (lookup (nat_eq id) streams.new.entries))
@@ -644,7 +749,7 @@ fn move_place_of(streams: &mut IndexMap<StreamId, Stream>, id: StreamId, from: u
     }
 }
 
-/// A stream isn't open any more.
+/// Makes a stream no longer open.
 fn close_of(streams: &mut IndexMap<StreamId, Stream>, id: StreamId)
     ensures edits { Edits streams.old.entries id streams.new.entries }
     ensures closed { opened_of (lookup (nat_eq id) streams.new.entries) ≡ None }
@@ -671,7 +776,8 @@ fn add(streams: &mut IndexMap<StreamId, Stream>, id: StreamId, n: u32) -> Option
     Some(place)
 }
 
-/// Brings the stream at a place among those on which something may be owed, and answers how many these are.
+/// Moves the stream at a place to those on which something may be owed, and answers how many these
+/// are.
 fn bring_forward(streams: &mut IndexMap<StreamId, Stream>, place: usize, owing: usize) -> usize
     requires place { place < length streams.old.entries }
     requires owing { owing ≤ length streams.old.entries }
@@ -691,7 +797,8 @@ fn bring_forward(streams: &mut IndexMap<StreamId, Stream>, place: usize, owing: 
     owing + 1
 }
 
-/// Takes what is owed at the last of the first places at which something is. Nothing is owed from there on.
+/// Takes what is owed at the last of the first `owing` places that owes something. Nothing is owed
+/// from there on.
 fn take_last(
     streams: &mut IndexMap<StreamId, Stream>,
     owing: usize,

@@ -27,15 +27,15 @@ use zeros::ZeroTail;
 /// A stream whose items are written.
 #[derive(Drop)]
 struct OpenStream {
-    /// Where its sender stands among those of all calls.
+    /// The place of its sender among those of all calls.
     place: usize,
-    /// What is left of the message that was begun.
+    /// The rest of the message that was begun.
     in_hand: Option<ZeroTail>,
-    /// Whether it is in the queue of those that take turns.
+    /// Whether it is in the queue of the streams that take turns.
     in_turn: bool,
 }
 
-/// An open stream, in a box of its own: what is kept of a stream that is over is smaller by that.
+/// An open stream, in a box of its own, so that a stream that is over takes less memory.
 #[derive(Drop)]
 pub(crate) struct Opened {
     stream: Box<OpenStream>,
@@ -50,7 +50,7 @@ impl Model for Opened {
 }
 
 impl Opened {
-    /// A stream whose sender stands at this place, and of which nothing is in hand.
+    /// A stream whose sender is at this place, with nothing in hand.
     pub(crate) fn new(alloc: Global, place: usize) -> Result<Opened, AllocError>
         ensures { IfOk result (λ opened. opened ≡ stream_at place) }
     {
@@ -71,28 +71,28 @@ impl Opened {
         self.stream.in_hand.is_some()
     }
 
-    /// Whether it is in the queue of those that take turns.
+    /// Whether it is in the queue of the streams that take turns.
     pub(crate) fn is_in_turn(&self) -> bool
         ensures { result ≡ self.now.in_turn }
     {
         self.stream.in_turn
     }
 
-    /// It takes turns from now on, or none.
+    /// Lets it take turns from now on, or none.
     pub(crate) fn turn(&mut self, in_turn: bool)
         ensures { self.new ≡ record self.old { in_turn = in_turn } }
     {
         self.stream.in_turn = in_turn;
     }
 
-    /// This is left of the message in hand.
+    /// Keeps the rest of the message in hand.
     pub(crate) fn keep(&mut self, rest: ZeroTail)
         ensures { self.new ≡ record self.old { in_hand = kept_of rest } }
     {
         self.stream.in_hand = kept(rest);
     }
 
-    /// Its sender stands at another place, if it stood there.
+    /// Moves the place of its sender, if that was `from`.
     pub(crate) fn move_place(&mut self, from: usize, to: usize)
         ensures { shown (Some self.new) ≡ with_place from to (shown (Some self.old)) }
     {
@@ -101,8 +101,8 @@ impl Opened {
         }
     }
 
-    /// Looks at what is in hand, if anything is: DATA of it are taken out of it, and out of the connection's window and its own,
-    /// of which this is the balance.
+    /// Looks at the message in hand, if there is one. DATA of it are taken out of it, out of the
+    /// connection's window and out of its own, whose balance this is.
     pub(crate) fn look(
         &mut self,
         id: StreamId,
@@ -121,19 +121,19 @@ impl Opened {
     }
 }
 
-/// What is in hand of a message of which this is left.
+/// What is in hand of a message with this rest.
 pub(crate) fn kept(rest: ZeroTail) -> Option<ZeroTail>
     ensures { result ≡ kept_of rest }
 {
     if rest.is_empty() { None } else { Some(rest) }
 }
 
-/// What a look at what is in hand of a stream finds.
+/// What a look at the message in hand of a stream finds.
 #[derive(Drop)]
 pub(crate) enum Hand {
     /// The stream isn't open, or nothing may be written on it.
     Shut,
-    /// Nothing is in hand. The stream's sender stands at this place.
+    /// Nothing is in hand. The stream's sender is at this place.
     Empty(usize),
     /// What may be written of the message in hand.
     Message(Looked),
@@ -156,7 +156,7 @@ pub(crate) enum Found {
     Nothing,
     /// What may be written of a message.
     Message(Looked),
-    /// A header block, and whether it ends the stream, which is closed then.
+    /// A header block, and whether it ends the stream. If so, the stream is closed now.
     Block { bytes: Bytes, ends: bool },
 }
 
@@ -165,12 +165,12 @@ pub(crate) enum Found {
 pub(crate) enum Looked {
     Frame(OutFrame),
     Nothing,
-    /// A message without bytes, for which nothing is written.
+    /// A message without bytes, which has no frame.
     Empty,
 }
 
-/// The next DATA of a message, as far as the windows let it through: that of the connection, and the stream's, of which this is the
-/// balance. It is taken out of the message, and out of them.
+/// The next DATA of a message, as far as the connection's window and the stream's let it through,
+/// whose balance this is. They are taken out of the message and out of both windows.
 pub(crate) fn next_data(
     window: &mut ConnectionWindow,
     balance: &mut Option<Balance>,
@@ -192,8 +192,8 @@ pub(crate) fn next_data(
     Ok(Looked::Frame(make_data(id, piece)))
 }
 
-/// Takes as many bytes as may be sent now, and at most so many, out of both windows. It answers how many these are: none, where the
-/// stream's isn't open.
+/// Takes as many bytes as may be sent now, and at most `most`, out of both windows. Answers how
+/// many these are: none if the stream's window isn't open.
 fn spend_up_to(window: &mut ConnectionWindow, balance: &mut Option<Balance>, most: u32) -> u32
     ensures spends { Spends window.old window.new balance.old balance.new result }
     ensures value { result ≡ min (room_in window.old balance.old) most }
@@ -224,8 +224,8 @@ pub(crate) fn poll_at<L: Lane<Item = OutItem>>(
     }
 }
 
-/// The next item of a sender. The bytes of a message are shared, and fields are encoded. Where the call was left there is
-/// nothing.
+/// The next item of a sender. The bytes of a message are shared, and fields are encoded. That the
+/// call was left is nothing to write.
 pub(crate) fn poll<L: Lane<Item = OutItem>>(
     sender: &mut Sender<L>,
     encoder: &mut Encoder,
@@ -235,7 +235,7 @@ pub(crate) fn poll<L: Lane<Item = OutItem>>(
     ensures ok { IfOk result
         (Polls (L.got sender.old.rx) (L.got sender.new.rx)
         (coming L.got L.ahead sender.new.rx) encoder.old encoder.new) }
-    // Even without memory an item was got.
+    // An item was got, even without memory.
     ensures memory { OnErr result ((item : OutItem)
         × (L.got sender.new.rx ≡ L.got sender.old.rx ++ item ∷ [])) }
 {
@@ -254,8 +254,8 @@ pub(crate) fn poll<L: Lane<Item = OutItem>>(
     }
 }
 
-/// A header block of these fields. One with a name or a value of more than 4,294,967,295 bytes can't be written, and counts
-/// as one that there is no memory for.
+/// A header block of these fields. One with a name or a value of more than 4,294,967,295 bytes
+/// can't be written, and counts as want of memory.
 pub(crate) fn encoded(encoder: &mut Encoder, fields: &[Field]) -> Result<Bytes, AllocError>
     ensures { IfOk result (λ bytes. Writes encoder.old fields.now bytes encoder.new) }
 {

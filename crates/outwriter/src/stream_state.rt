@@ -1,4 +1,4 @@
-//! How one stream stands (RFC 9113, section 5.1), and what changes that.
+//! The state of one stream (RFC 9113, section 5.1), and what changes it.
 
 ghost use Rattle.std.specs.Prelude.{◌≡◌, Option, None, Some, true, false, not};
 ghost use Rattle.outwriter.specs.States.{amount_of, can_write};
@@ -10,18 +10,18 @@ pub(crate) enum Over {
     RstStream,
 }
 
-/// How a stream stands. `over` is what was written of its end.
+/// The state of a stream. `over` is how its end was written, if it was.
 #[derive(Clone, Copy)]
 pub(crate) enum StreamState {
     /// It is no call's, and wasn't reset.
     NoCall { over: Option<Over> },
-    /// It is a call's, and wasn't reset: so many bytes are to be credited to the peer.
+    /// It is a call's, and wasn't reset. `owed` bytes are to be credited to the peer.
     Call { owed: u32, over: Option<Over> },
     /// It was reset. No credit is owed on it.
     Reset { is_call: bool, over: Option<Over> },
 }
 
-/// What changes how a stream stands.
+/// What changes the state of a stream.
 #[derive(Clone, Copy)]
 pub(crate) enum Change {
     /// A call begins on it.
@@ -68,14 +68,14 @@ impl StreamState {
         }
     }
 
-    /// Whether neither it has ended, nor was it reset.
+    /// Whether it has neither ended nor been reset.
     pub(crate) fn can_write(&self) -> bool
         ensures { result ≡ can_write self.now }
     {
         self.over().is_none() && !self.is_reset()
     }
 
-    /// What was written of its end.
+    /// How its end was written, if it was.
     pub(crate) fn over(&self) -> Option<Over>
         ensures { result ≡ end_of self.now }
     {
@@ -86,7 +86,7 @@ impl StreamState {
         }
     }
 
-    /// The state behind a change.
+    /// The state after a change.
     pub(crate) fn after(self, change: Change) -> StreamState
         ensures { IsAfter change self result }
     {
@@ -98,7 +98,7 @@ impl StreamState {
         }
     }
 
-    /// The state behind an Open. That of a call stays.
+    /// The state after an Open. A call's state stays.
     fn opened(self) -> StreamState
         ensures end { end_of result ≡ end_of self }
         ensures amount { amount_of result ≡ amount_of self }
@@ -116,7 +116,7 @@ impl StreamState {
         }
     }
 
-    /// The state behind a Reset.
+    /// The state after a Reset.
     fn reset(self) -> StreamState
         ensures end { end_of result ≡ end_of self }
         ensures amount { amount_of result ≡ 0 }
@@ -130,7 +130,7 @@ impl StreamState {
         }
     }
 
-    /// The state behind its end.
+    /// The state after its end.
     fn ended(self, by: Over) -> StreamState
         ensures end { end_of result ≡ Some by }
         ensures amount { amount_of result ≡ amount_of self }

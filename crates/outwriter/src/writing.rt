@@ -1,6 +1,24 @@
 //! The frames of a connection, each with what it changes.
 
-ghost use Rattle.std.specs.Prelude.{◌≡◌, ℕ, List, [], ◌∷◌, ◌<◌, ◌^◌, ◌&&◌, not, is_some, true, false, Some, None, IfOk, IfSome, IfNone};
+ghost use Rattle.std.specs.Prelude.{
+  ◌≡◌,
+  ℕ,
+  List,
+  [],
+  ◌∷◌,
+  ◌<◌,
+  ◌^◌,
+  ◌&&◌,
+  not,
+  is_some,
+  true,
+  false,
+  Some,
+  None,
+  IfOk,
+  IfSome,
+  IfNone,
+};
 ghost use Rattle.outwriter.specs.States.{over_on};
 
 use crate::blocks::HeaderBlock;
@@ -28,9 +46,19 @@ impl Outbound {
     ghost use Rattle.outwriter.specs.Histories.{is_stream as is_number};
     ghost use Rattle.outwriter.specs.CallState.{AreOver, IsOwn, OwnOrRests};
     ghost use Rattle.outwriter.specs.ToldByNow.{TellsBlock, OwnByDue, OwnOfDue};
-    ghost use Rattle.outwriter.specs.RunState.{BeginsBlock, Progress, Stays, IsBetween, Writes, WritesIf, WritesDue, WritesOrSkips, MirrorsOf};
+    ghost use Rattle.outwriter.specs.RunState.{
+      BeginsBlock,
+      Progress,
+      Stays,
+      IsBetween,
+      Writes,
+      WritesIf,
+      WritesDue,
+      WritesOrSkips,
+      MirrorsOf,
+    };
 
-    /// SETTINGS, which are first.
+    /// SETTINGS, which come first.
     pub(crate) fn first_frame(&mut self) -> OutFrame
         requires begun { self.old.begun ≡ false }
         requires going { self.old.gone ≡ false }
@@ -42,7 +70,8 @@ impl Outbound {
         make_first_settings()
     }
 
-    /// What comes before anything of the open calls: the rest of a header block, what is due, and credit.
+    /// What comes before anything of the open calls: the rest of a header block, what is due, and
+    /// credit.
     pub(crate) fn own_frame(&mut self) -> Result<Option<OutFrame>, AllocError>
         requires begun { self.old.begun ≡ true }
         requires going { self.old.gone ≡ false }
@@ -79,7 +108,8 @@ impl Outbound {
         Ok(Some(frame))
     }
 
-    /// The next frame that is due, if one is. A stream that is over isn't refused or reset any more, and one that was reset isn't refused.
+    /// The next frame that is due, if there is one. A stream that is over isn't refused or reset
+    /// any more, and one that was reset isn't refused.
     pub(crate) fn due_frame(&mut self) -> Result<Option<OutFrame>, AllocError>
         requires { IsBetween self.old }
         ensures sound { IfOk result (λ o. IfSome o IsSound) }
@@ -99,7 +129,8 @@ impl Outbound {
         Ok(None)
     }
 
-    /// The frame that is due, but for a stream that is over, and for the refusal of one that was reset.
+    /// The frame that is due; none for a stream that is over, or for the refusal of one that was
+    /// reset.
     fn frame_of_due(&mut self, due: Due) -> Result<Option<OutFrame>, AllocError>
         requires { IsBetween self.old }
         ensures sound { IfOk result (λ o. IfSome o IsSound) }
@@ -171,7 +202,7 @@ impl Outbound {
         Ok(frame)
     }
 
-    /// Whether it is a stream that isn't over.
+    /// Whether the number is a stream's, and the stream isn't over.
     pub(crate) fn may_end(&self, id: StreamId) -> bool
         ensures number { result ≡ true → id < 2 ^ 31 }
         ensures stream { result ≡ true → 0 < id }
@@ -182,7 +213,7 @@ impl Outbound {
         is_stream(id) && self.states.state(id).over().is_none()
     }
 
-    /// Whether it is a stream that neither is over nor was reset.
+    /// Whether the number is a stream's, and the stream neither is over nor was reset.
     pub(crate) fn may_write(&self, id: StreamId) -> bool
         ensures number { result ≡ true → id < 2 ^ 31 }
         ensures stream { result ≡ true → 0 < id }
@@ -246,7 +277,7 @@ impl Outbound {
         Ok(Some(make_update(&mut self.small, id, n)?))
     }
 
-    /// The first frame of a header block, of which the rest is kept.
+    /// The first frame of a header block, whose rest is kept.
     pub(crate) fn headers_frame(
         &mut self,
         id: StreamId,

@@ -27,7 +27,8 @@ guide_spelling = refl
 -- the guide's message: 08 96 01 is field 1 with 150
 guide_message : IsReading (0x08 ∷ 0x96 ∷ 0x01 ∷ []) (field_with 1 (varint 150) ∷ []) None
 unfolding field_at varint_at tag_at content_at
-guide_message = ([], field_from (0x08 ∷ 0x96 ∷ 0x01 ∷ []) (field_with 1 (varint 150)) [] (λ e. cc) refl, refl)
+guide_message =
+    ([], field_from (0x08 ∷ 0x96 ∷ 0x01 ∷ []) (field_with 1 (varint 150)) [] (λ e. cc) refl, refl)
 
 -- the guide's text: 12 07 and `testing` is field 2
 guide_text : spelling_of (field_with 2 (bytes (codes "testing"))) ≡ 0x12 ∷ 0x07 ∷ codes "testing"
@@ -35,7 +36,11 @@ unfolding varint_spelling
 guide_text = refl
 
 one_byte : StartsWithVarint (3 ∷ []) 3 []
-one_byte = record { spelling = 3 ∷ []; spelled = record { terminated = omega arith; short = omega arith; value = refl }; parts = refl }
+one_byte = record {
+  spelling = 3 ∷ [];
+  spelled = record { terminated = omega arith; short = omega arith; value = refl };
+  parts = refl;
+}
 
 -- field number 0 is a bad tag, though its wire type starts a group
 zero_group : FaultAt (3 ∷ []) BadTag

@@ -1,6 +1,12 @@
 use Rattle.std.specs.Prelude.{ℕ}
 use Rattle.pbwire.specs.declared.fault.WireFault.{WireFault}
-use Rattle.pbwire.specs.declared.fault.WireFault.TheVariants.{Truncated, VarintTooLong, BadTag, Group, OutOfMemory}
+use Rattle.pbwire.specs.declared.fault.WireFault.TheVariants.{
+  Truncated,
+  VarintTooLong,
+  BadTag,
+  Group,
+  OutOfMemory,
+}
 
 -- the number of a fault
 abbrev pub code_of : WireFault → ℕ

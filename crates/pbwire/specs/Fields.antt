@@ -1,5 +1,28 @@
 -- The fields of a byte list (Protocol Buffers encoding guide, "Message Structure").
-use Rattle.std.specs.Prelude.{◌≡◌, ◌≢◌, ℕ, ◌+◌, ◌*◌, ◌/◌, ◌%◌, ◌^◌, ◌<◌, ◌≤◌, ◌⊎◌, List, [], ◌∷◌, ◌++◌, length, Option, Some, None, Result, Ok, Err}
+use Rattle.std.specs.Prelude.{
+  ◌≡◌,
+  ◌≢◌,
+  ℕ,
+  ◌+◌,
+  ◌*◌,
+  ◌/◌,
+  ◌%◌,
+  ◌^◌,
+  ◌<◌,
+  ◌≤◌,
+  ◌⊎◌,
+  List,
+  [],
+  ◌∷◌,
+  ◌++◌,
+  length,
+  Option,
+  Some,
+  None,
+  Result,
+  Ok,
+  Err,
+}
 use Rattle.std.specs.Int.{w32, w64, from_le_bytes}
 use Rattle.pbwire.specs.declared.fault.WireFault.{WireFault}
 use Rattle.pbwire.specs.declared.fault.WireFault.TheVariants.{Truncated, BadTag, Group}
@@ -22,14 +45,14 @@ pub record Field : Type 0 where
 abbrev pub field_with : ℕ → Content → Field
 field_with number content = record { number = number; content = content }
 
--- a value without where it lies in memory
+-- a value, wherever it is in memory
 abbrev pub content_of : FieldValue → Content
 content_of (Varint n) = varint n
 content_of (EightBytes n) = eight_bytes n
 content_of (Bytes b) = bytes b.now
 content_of (FourBytes n) = four_bytes n
 
--- a field without where it lies in memory
+-- a field, wherever it is in memory
 abbrev pub field_of : FieldItem → Field
 field_of item = field_with item.number (content_of item.value)
 
@@ -43,7 +66,8 @@ wire_type (four_bytes n) = 5
 abbrev pub tag_of : Field → ℕ
 tag_of field = field.number * 8 + wire_type field.content
 
--- These bytes, all of them, spell the content: what stands between the field's tag and the next field.
+-- These bytes, all of them, spell the content: what stands between the field's tag and the next
+-- field.
 abbrev pub SpellsContent : List ℕ → Content → Type 0
 SpellsContent spelling (varint n) = IsVarint spelling n
 SpellsContent spelling (eight_bytes n) = (length spelling ≡ 8) × (n ≡ from_le_bytes w64 spelling)
@@ -78,28 +102,38 @@ pub record IsTag (tag : ℕ) (type : ℕ) : Type 0 where
 pub data FaultAt (input : List ℕ) : WireFault → Type 0 where
   -- no varint stands in the place of the tag
   no_tag : (fault : WireFault) → input ≢ [] → VarintFault input fault → FaultAt input fault
-  bad_tag : (tag : ℕ) (rest : List ℕ) → StartsWithVarint input tag rest → IsBadTag tag → FaultAt input BadTag
+  bad_tag : (tag : ℕ) (rest : List ℕ) → StartsWithVarint input tag rest → IsBadTag tag
+      → FaultAt input BadTag
   -- the wire types of the start and the end of a group
-  start_group : (tag : ℕ) (rest : List ℕ) → StartsWithVarint input tag rest → IsTag tag 3 → FaultAt input Group
-  end_group : (tag : ℕ) (rest : List ℕ) → StartsWithVarint input tag rest → IsTag tag 4 → FaultAt input Group
-  -- behind the tag no varint stands
-  no_varint : (fault : WireFault) (tag : ℕ) (rest : List ℕ) → StartsWithVarint input tag rest → IsTag tag 0 → VarintFault rest fault → FaultAt input fault
-  cut_eight_bytes : (tag : ℕ) (rest : List ℕ) → StartsWithVarint input tag rest → IsTag tag 1 → length rest < 8 → FaultAt input Truncated
-  -- behind the tag no length stands
-  no_length : (fault : WireFault) (tag : ℕ) (rest : List ℕ) → StartsWithVarint input tag rest → IsTag tag 2 → VarintFault rest fault → FaultAt input fault
+  start_group : (tag : ℕ) (rest : List ℕ) → StartsWithVarint input tag rest → IsTag tag 3
+      → FaultAt input Group
+  end_group : (tag : ℕ) (rest : List ℕ) → StartsWithVarint input tag rest → IsTag tag 4
+      → FaultAt input Group
+  -- no varint follows the tag
+  no_varint : (fault : WireFault) (tag : ℕ) (rest : List ℕ) → StartsWithVarint input tag rest
+      → IsTag tag 0 → VarintFault rest fault → FaultAt input fault
+  cut_eight_bytes : (tag : ℕ) (rest : List ℕ) → StartsWithVarint input tag rest → IsTag tag 1
+      → length rest < 8 → FaultAt input Truncated
+  -- no length follows the tag
+  no_length : (fault : WireFault) (tag : ℕ) (rest : List ℕ) → StartsWithVarint input tag rest
+      → IsTag tag 2 → VarintFault rest fault → FaultAt input fault
   -- fewer bytes follow the length than it says
-  cut_bytes : (tag : ℕ) (rest : List ℕ) (len : ℕ) (left : List ℕ) → StartsWithVarint input tag rest → IsTag tag 2 → StartsWithVarint rest len left → length left < len → FaultAt input Truncated
-  cut_four_bytes : (tag : ℕ) (rest : List ℕ) → StartsWithVarint input tag rest → IsTag tag 5 → length rest < 4 → FaultAt input Truncated
+  cut_bytes : (tag : ℕ) (rest : List ℕ) (len : ℕ) (left : List ℕ) → StartsWithVarint input tag rest
+      → IsTag tag 2 → StartsWithVarint rest len left → length left < len → FaultAt input Truncated
+  cut_four_bytes : (tag : ℕ) (rest : List ℕ) → StartsWithVarint input tag rest → IsTag tag 5
+      → length rest < 4 → FaultAt input Truncated
 
 -- the bytes are the joined spellings of the fields, and then the rest
 abbrev pub StartsWithFields : List ℕ → List Field → List ℕ → Type 0
 StartsWithFields input [] rest = input ≡ rest
-StartsWithFields input (field ∷ fields) rest = (more : List ℕ) × StartsWithField input field more × StartsWithFields more fields rest
+StartsWithFields input (field ∷ fields) rest =
+    (more : List ℕ) × StartsWithField input field more × StartsWithFields more fields rest
 
 -- The bytes are the joined spellings of the fields, or after these whole fields stands the fault.
 abbrev pub IsReading : List ℕ → List Field → Option WireFault → Type 0
 IsReading input fields None = StartsWithFields input fields []
-IsReading input fields (Some fault) = (rest : List ℕ) × StartsWithFields input fields rest × FaultAt rest fault
+IsReading input fields (Some fault) =
+    (rest : List ℕ) × StartsWithFields input fields rest × FaultAt rest fault
 
 -- what a reader answered is this field
 abbrev pub IsField : Option (Result FieldItem WireFault) → Field → Type 0

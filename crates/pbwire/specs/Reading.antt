@@ -1,16 +1,44 @@
--- Reading from left to right, as a function: what the private readers answer, and that there is one reading of each list.
--- That it reads by the rules of Varint and Fields, and nothing else, is proved of it.
-use Rattle.std.specs.Prelude.{◌≡◌, ℕ, zero, suc, ◌/◌, ◌%◌, ◌^◌, List, [], ◌∷◌, length, take, drop, Result, Ok, Err, nat_lt, nat_le, ◌==◌, if◌then◌else◌}
+-- Reading from left to right, as a function: what the private readers answer, and that there is one
+-- reading of each list. That it reads by the rules of Varint and Fields, and nothing else, is
+-- proved of it.
+use Rattle.std.specs.Prelude.{
+  ◌≡◌,
+  ℕ,
+  zero,
+  suc,
+  ◌/◌,
+  ◌%◌,
+  ◌^◌,
+  List,
+  [],
+  ◌∷◌,
+  length,
+  take,
+  drop,
+  Result,
+  Ok,
+  Err,
+  nat_lt,
+  nat_le,
+  ◌==◌,
+  if◌then◌else◌,
+}
 use Rattle.std.specs.Int.{w32, w64, from_le_bytes}
 use Rattle.pbwire.specs.declared.fault.WireFault.{WireFault}
-use Rattle.pbwire.specs.declared.fault.WireFault.TheVariants.{Truncated, VarintTooLong, BadTag, Group}
+use Rattle.pbwire.specs.declared.fault.WireFault.TheVariants.{
+  Truncated,
+  VarintTooLong,
+  BadTag,
+  Group,
+}
 use Rattle.pbwire.specs.declared.tag.WireType.{WireType}
 use Rattle.pbwire.specs.declared.tag.WireType.TheVariants as type
 use Rattle.pbwire.specs.Varint.{sum_of_groups}
 use Rattle.pbwire.specs.Fields.{Content, varint, eight_bytes, bytes, four_bytes, Field}
 
 infixl 10 ◌>>=◌
-abbrev pub ◌>>=◌ : {A B : Type 0} → Result A WireFault → (A → Result B WireFault) → Result B WireFault
+abbrev pub ◌>>=◌ : {A B : Type 0} → Result A WireFault → (A → Result B WireFault)
+    → Result B WireFault
 (Ok x) >>= f = f x
 (Err e) >>= f = Err e
 
@@ -24,7 +52,8 @@ abbrev pub varint_bytes : ℕ → List ℕ → Result (List ℕ × List ℕ) Wir
 varint_bytes zero input = Err VarintTooLong
 varint_bytes (suc more) [] = Err Truncated
 varint_bytes (suc more) (byte ∷ input) =
-    if nat_lt byte 128 then Ok (byte ∷ [], input) else varint_bytes more input >>= λ parts. Ok (byte ∷ parts.0, parts.1)
+    if nat_lt byte 128 then Ok (byte ∷ [], input) else varint_bytes more input >>= λ parts.
+    Ok (byte ∷ parts.0, parts.1)
 
 -- a number and the bytes after it
 unfoldable pub varint_at : List ℕ → Result (ℕ × List ℕ) WireFault
@@ -67,12 +96,15 @@ content_at type.Varint input = do
   n ← varint_at input
   Ok (varint n.0, n.1)
 content_at type.EightBytes input =
-    if nat_lt (length input) 8 then Err Truncated else Ok (eight_bytes (from_le_bytes w64 (take 8 input)), drop 8 input)
+    if nat_lt (length input) 8 then Err Truncated
+    else Ok (eight_bytes (from_le_bytes w64 (take 8 input)), drop 8 input)
 content_at type.Bytes input = do
   len ← varint_at input
-  if nat_lt (length len.1) len.0 then Err Truncated else Ok (bytes (take len.0 len.1), drop len.0 len.1)
+  if nat_lt (length len.1) len.0 then Err Truncated
+      else Ok (bytes (take len.0 len.1), drop len.0 len.1)
 content_at type.FourBytes input =
-    if nat_lt (length input) 4 then Err Truncated else Ok (four_bytes (from_le_bytes w32 (take 4 input)), drop 4 input)
+    if nat_lt (length input) 4 then Err Truncated
+    else Ok (four_bytes (from_le_bytes w32 (take 4 input)), drop 4 input)
 
 unfoldable pub field_at : List ℕ → Result (Field × List ℕ) WireFault
 field_at input = do

@@ -1,13 +1,32 @@
--- The one spelling that the writers give a field (Protocol Buffers encoding guide, "Base 128 Varints" and "Message Structure").
-use Rattle.std.specs.Prelude.{ℕ, zero, suc, ◌+◌, ◌/◌, ◌%◌, ◌^◌, ◌<◌, ◌≤◌, List, [], ◌∷◌, ◌++◌, length, nat_lt, if◌then◌else◌}
+-- The one spelling that the writers give a field (Protocol Buffers encoding guide, "Base 128
+-- Varints" and "Message Structure").
+use Rattle.std.specs.Prelude.{
+  ℕ,
+  zero,
+  suc,
+  ◌+◌,
+  ◌/◌,
+  ◌%◌,
+  ◌^◌,
+  ◌<◌,
+  ◌≤◌,
+  List,
+  [],
+  ◌∷◌,
+  ◌++◌,
+  length,
+  nat_lt,
+  if◌then◌else◌,
+}
 use Rattle.std.specs.List.{flat_map}
 use Rattle.std.specs.Int.{w32, w64, to_le_bytes}
 use Rattle.pbwire.specs.Fields.{Content, varint, eight_bytes, bytes, four_bytes, Field, tag_of}
 
--- a number in at most this many groups behind the first
+-- a number in at most this many groups after the first
 abbrev pub varint_within : ℕ → ℕ → List ℕ
 varint_within zero n = n ∷ []
-varint_within (suc more) n = if nat_lt n 128 then n ∷ [] else (n % 128 + 128) ∷ varint_within more (n / 128)
+varint_within (suc more) n =
+    if nat_lt n 128 then n ∷ [] else (n % 128 + 128) ∷ varint_within more (n / 128)
 
 -- The shortest spelling of a number below 2 ^ 64: at most ten bytes.
 unfoldable pub varint_spelling : ℕ → List ℕ

@@ -1,8 +1,29 @@
 -- Varints (Protocol Buffers encoding guide, "Base 128 Varints").
-use Rattle.std.specs.Prelude.{◌≡◌, ℕ, ◌*◌, ◌%◌, ◌^◌, ◌<◌, ◌≤◌, List, [], ◌∷◌, ◌++◌, length, take, sum_by}
+use Rattle.std.specs.Prelude.{
+  ◌≡◌,
+  ℕ,
+  ◌*◌,
+  ◌%◌,
+  ◌^◌,
+  ◌<◌,
+  ◌≤◌,
+  List,
+  [],
+  ◌∷◌,
+  ◌++◌,
+  length,
+  take,
+  sum_by,
+}
 use Rattle.std.specs.List.{AllByRecursion, enumerate_from}
 use Rattle.pbwire.specs.declared.fault.WireFault.{WireFault}
-use Rattle.pbwire.specs.declared.fault.WireFault.TheVariants.{Truncated, VarintTooLong, BadTag, Group, OutOfMemory}
+use Rattle.pbwire.specs.declared.fault.WireFault.TheVariants.{
+  Truncated,
+  VarintTooLong,
+  BadTag,
+  Group,
+  OutOfMemory,
+}
 
 -- a byte with the top bit: another byte of the varint follows it
 abbrev pub HasTopBit : ℕ → Type 0
@@ -18,7 +39,8 @@ IsTerminated (byte ∷ next ∷ bytes) = HasTopBit byte × IsTerminated (next �
 abbrev pub sum_of_groups : List ℕ → ℕ
 sum_of_groups bytes = sum_by (λ group. group.1 % 128 * 128 ^ group.0) (enumerate_from 0 bytes)
 
--- These bytes, all of them, spell the number. Bits over 64 are dropped, so a number has several spellings.
+-- These bytes, all of them, spell the number. Bits over 64 are dropped, so a number has several
+-- spellings.
 pub record IsVarint (bytes : List ℕ) (number : ℕ) : Type 0 where
   pub terminated : IsTerminated bytes
   pub short : length bytes ≤ 10

@@ -15,7 +15,7 @@ use std::alloc::{AllocError, Global};
 pub struct AllFields<'a> {
     /// In the order of the message. What they hold is borrowed from it.
     pub fields: Vec<FieldItem<'a>>,
-    /// What stands behind these fields, unless it is the end.
+    /// What follows these fields, unless it is the end.
     pub fault: Option<WireFault>,
 }
 

@@ -1,6 +1,7 @@
 //! Fields as values of the program.
 //!
-//! Contents of eight and of four bytes are numbers, little-endian: what a fixed64 or the bits of a double are.
+//! Contents of eight and of four bytes are numbers, little-endian: what a fixed64 or the bits of a
+//! double are.
 
 /// A field of a message: its number, and what it holds.
 #[derive(Clone, Copy, Debug, PartialEq, Eq)]

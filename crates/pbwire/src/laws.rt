@@ -1,6 +1,19 @@
 //! Laws of the wire format. Each is the contract of a function with nothing to run.
 
-ghost use Rattle.std.specs.Prelude.{◌≡◌, ℕ, ◌^◌, ◌<◌, ◌≤◌, ◌++◌, ◌∷◌, [], ◌⊎◌, List, length, Option};
+ghost use Rattle.std.specs.Prelude.{
+  ◌≡◌,
+  ℕ,
+  ◌^◌,
+  ◌<◌,
+  ◌≤◌,
+  ◌++◌,
+  ◌∷◌,
+  [],
+  ◌⊎◌,
+  List,
+  length,
+  Option,
+};
 ghost use Rattle.std.specs.List.{AllByRecursion};
 ghost use Rattle.pbwire.specs.declared.fault.WireFault.{WireFault as Fault};
 ghost use Rattle.pbwire.specs.Varint.{IsVarint, StartsWithVarint, VarintFault};

@@ -1,12 +1,38 @@
 //! The fields of a message, one after another.
 //!
-//! `Fields`: it keeps the unread bytes and nothing else: a fault uses up nothing, so the next call finds the same
-//! fault at the same place. What is read as a fault costs at most some twenty bytes each time.
+//! `Fields` keeps the unread bytes and nothing else. A fault uses up nothing, so the next call
+//! finds it again at its place, and reads at most some twenty bytes for it.
 
-ghost use Rattle.std.specs.Prelude.{◌≡◌, ◌≢◌, ◌↔◌, ◌<◌, ℕ, List, [], length, IsNone, IfNone, IfSome, IfOk, IfErr, OnOk, OnErr, Some, Ok, Err};
+ghost use Rattle.std.specs.Prelude.{
+  ◌≡◌,
+  ◌≢◌,
+  ◌↔◌,
+  ◌<◌,
+  ℕ,
+  List,
+  [],
+  length,
+  IsNone,
+  IfNone,
+  IfSome,
+  IfOk,
+  IfErr,
+  OnOk,
+  OnErr,
+  Some,
+  Ok,
+  Err,
+};
 ghost use Rattle.pbwire.specs.declared.fault.WireFault.{WireFault as Fault};
 ghost use Rattle.pbwire.specs.declared.field.FieldItem.{FieldItem as Item};
-ghost use Rattle.pbwire.specs.Fields.{Field, field_of, content_of, StartsWithField, FaultAt, IsField};
+ghost use Rattle.pbwire.specs.Fields.{
+  Field,
+  field_of,
+  content_of,
+  StartsWithField,
+  FaultAt,
+  IsField,
+};
 ghost use Rattle.pbwire.specs.Reading.{Gives, content_at, field_at};
 
 use crate::fault::WireFault;
@@ -15,7 +41,7 @@ use crate::tag::{WireType, read_tag};
 use crate::varint::split_varint;
 use std::marker::Model;
 
-/// The content at the front, and the bytes behind it.
+/// The content at the front, and the bytes after it.
 #[tactic(auto, unfolding(crate::specs::Reading::content_at))]
 fn split_content(kind: WireType, bytes: &[u8]) -> Result<(FieldValue<'_>, &[u8]), WireFault>
     ensures { Gives (λ parts. (content_of parts.0, parts.1.now)) result
@@ -49,7 +75,7 @@ fn split_content(kind: WireType, bytes: &[u8]) -> Result<(FieldValue<'_>, &[u8])
     }
 }
 
-/// The field at the front, and the bytes behind it.
+/// The field at the front, and the bytes after it.
 #[tactic(auto, unfolding(crate::specs::Reading::field_at))]
 fn split_field(bytes: &[u8]) -> Result<(FieldItem<'_>, &[u8]), WireFault>
     ensures { Gives (λ parts. (field_of parts.0, parts.1.now)) result (field_at bytes.now) }
@@ -60,7 +86,8 @@ fn split_field(bytes: &[u8]) -> Result<(FieldItem<'_>, &[u8]), WireFault>
     Ok((FieldItem { number, value }, rest))
 }
 
-/// The fields of a message, from the front to the end. In a contract it is the bytes that are unread.
+/// The fields of a message, from the front to the end. In a contract it is the bytes that are
+/// unread.
 #[derive(Debug, Drop)]
 pub struct Fields<'a> {
     unread: &'a [u8],
@@ -82,7 +109,8 @@ impl<'a> Fields<'a> {
         Fields { unread: bytes }
     }
 
-    /// The next field, or `None` at the end. A fault ends the fields: each later call answers it again.
+    /// The next field, or `None` at the end. A fault ends the fields: each later call answers it
+    /// again.
     ///
     /// It takes constant time, whatever the length of what the field holds.
     pub fn next(&mut self) -> Option<Result<FieldItem<'a>, WireFault>>
@@ -92,12 +120,12 @@ impl<'a> Fields<'a> {
         ensures fault { IfSome result (λ answer. IfErr answer (λ fault. FaultAt self.old fault)) }
         ensures end { IsNone result ↔ (self.old ≡ []) }
 
-        // Each field is read, and each fault is told.
+        // Each field is read, and each fault is answered.
         ensures every_field { (field : Field) (rest : List ℕ) → StartsWithField self.old field rest
             → IsField result field × (self.new ≡ rest) }
         ensures every_fault { (fault : Fault) → FaultAt self.old fault → result ≡ Some (Err fault) }
 
-        // Only a field is used up, so that a fault is told again, and so is the end.
+        // Only a field is used up, so that a fault, or the end, is answered again.
         ensures shorter { IfSome result
             (λ answer. OnOk answer (length self.new < length self.old)) }
         ensures repeats { IfSome result (λ answer. OnErr answer (self.new ≡ self.old)) }

@@ -21,7 +21,8 @@ const END_GROUP: u32 = 4;
 
 const FOUR_BYTES: u32 = 5;
 
-/// How many wire types a tag can have: it is a field's number times this, and the number of the wire type.
+/// How many wire types a tag can have: it is a field's number times this, and the number of the
+/// wire type.
 const WIRE_TYPES: u32 = 8;
 
 /// How the content of a field is spelled.
@@ -61,7 +62,7 @@ impl WireType {
     }
 }
 
-/// The field number and the wire type of a tag. A bad tag is told before a group.
+/// The field number and the wire type of a tag. A bad tag is answered before a group.
 #[tactic(auto, unfolding(crate::specs::Reading::tag_at))]
 pub(crate) fn read_tag(tag: u64) -> Result<(u32, WireType), WireFault>
     ensures { Gives (λ head. (head.0, head.1)) result (tag_at tag) }

@@ -1,4 +1,5 @@
-//! Varints: seven bits of a number a byte, the least first; the top bit says that another byte follows.
+//! Varints: seven bits of a number a byte, the least first; the top bit says that another byte
+//! follows.
 
 ghost use Rattle.std.specs.Prelude.{◌≡◌, ℕ, ◌≤◌, length, take, IfOk, IfErr, Ok, Err};
 ghost use Rattle.pbwire.specs.declared.fault.WireFault.{WireFault as Fault};
@@ -25,7 +26,7 @@ pub fn read_varint(bytes: &[u8]) -> Result<(u64, usize), WireFault>
     ensures ok { IfOk result (λ found. IsVarint (take found.1 bytes.now) found.0) }
     ensures err { IfErr result (λ fault. VarintFault bytes.now fault) }
 
-    // What is spelled so is read, and what is wrong is told.
+    // Each spelled number is read, and each fault is answered.
     ensures every_varint { (number len : ℕ) → len ≤ length bytes.now
         → IsVarint (take len bytes.now) number
         → result ≡ Ok (number, len) }
@@ -47,7 +48,7 @@ pub fn read_varint(bytes: &[u8]) -> Result<(u64, usize), WireFault>
     }
 }
 
-/// The number at the front, and the bytes behind it.
+/// The number at the front, and the bytes after it.
 pub(crate) fn split_varint(bytes: &[u8]) -> Result<(u64, &[u8]), WireFault>
     ensures { Gives (λ parts. (parts.0, parts.1.now)) result (varint_at bytes.now) }
 {

@@ -1,20 +1,38 @@
 //! Writing varints and fields at the end of a buffer.
 //!
-//! Where the second part of a field finds no room, the buffer is taken back to its old length; the room isn't asked
-//! for first, so a buffer with room is never grown.
+//! Where the second part of a field finds no room, the buffer is taken back to its old length; the
+//! room isn't asked for first, so a buffer with room is never grown.
 
-ghost use Rattle.std.specs.Prelude.{◌≡◌, ◌+◌, ◌<◌, ◌≤◌, ◌++◌, length, take, vec_len, vec_capacity, OnOk, OnErr, IfErr};
+ghost use Rattle.std.specs.Prelude.{
+  ◌≡◌,
+  ◌+◌,
+  ◌<◌,
+  ◌≤◌,
+  ◌++◌,
+  length,
+  take,
+  vec_len,
+  vec_capacity,
+  OnOk,
+  OnErr,
+  IfErr,
+};
 ghost use Rattle.pbwire.specs.declared.fault.WireFault.TheVariants.{OutOfMemory};
 ghost use Rattle.pbwire.specs.Fields.{content_of, field_with};
-ghost use Rattle.pbwire.specs.Spelling.{varint_spelling, content_spelling, spelling_of, IsFieldNumber};
+ghost use Rattle.pbwire.specs.Spelling.{
+  varint_spelling,
+  content_spelling,
+  spelling_of,
+  IsFieldNumber,
+};
 
 use crate::fault::WireFault;
 use crate::field::FieldValue;
 use crate::tag::tag;
 use std::alloc::AllocError;
 
-/// How many values the seven bits of a byte have that count; the top bit, which says that another byte follows, is worth
-/// as much.
+/// How many values the seven bits of a byte have that count; the top bit, which says that another
+/// byte follows, is worth as much.
 const GROUPS: u64 = 0x80;
 
 /// Appends a varint. Where that fails, a part of it may have been appended.
@@ -34,7 +52,7 @@ fn push_varint(number: u64, out: &mut Vec<u8>) -> Result<(), AllocError>
     Ok(())
 }
 
-/// Appends what stands behind a field's tag.
+/// Appends what follows a field's tag.
 fn push_content(value: &FieldValue<'_>, out: &mut Vec<u8>) -> Result<(), AllocError>
     ensures ok { OnOk result
         (out.new.items ≡ out.old.items ++ content_spelling (content_of value.now)) }

@@ -1,9 +1,21 @@
--- Which ends of the calls that aren't settled are still to come back, by the numbers of these calls.
-use Rattle.std.specs.Prelude.{◌≡◌, ◌-◌, ◌≤◌, ◌&&◌, ℕ, Bool, nat_eq, List, if◌then◌else◌, is_none, count_by}
+-- Which ends of the unsettled calls are still to come back, by the calls' numbers.
+use Rattle.std.specs.Prelude.{
+  ◌≡◌,
+  ◌-◌,
+  ◌≤◌,
+  ◌&&◌,
+  ℕ,
+  Bool,
+  nat_eq,
+  List,
+  if◌then◌else◌,
+  is_none,
+  count_by,
+}
 use Rattle.callparts.specs.declared.register.Naming.{Ghosts}
 use Rattle.readerloop.specs.declared.call.Call.{Call}
 
--- 1 where both are the same number
+-- 1 where both numbers are equal
 abbrev pub once_at : ℕ → ℕ → ℕ
 once_at n number = if nat_eq number n then 1 else 0
 
@@ -16,38 +28,38 @@ module _ {J : Type 0} {book : Ghosts J} where
   abbrev pub is_unsent : ℕ → Call J book → Bool
   is_unsent n call = nat_eq call.number.value n && is_none call.returning
 
-  -- how many there are of these
+  -- how many calls of this number are undone, and how many unsent
   abbrev pub undone : ℕ → List (Call J book) → ℕ
   undone n calls = count_by (λ call. is_undone n call) calls
 
   abbrev pub unsent : ℕ → List (Call J book) → ℕ
   unsent n calls = count_by (λ call. is_unsent n call) calls
 
-  -- the same call, of which as much came back
+  -- one call before and after: its number and what came back of it didn't change
   pub record HasSameEnds (old new : Call J book) : Type 0 where
     pub number : new.number ≡ old.number
     pub finished : new.finished ≡ old.finished
     pub returning : new.returning ≡ old.returning
 
-  -- As much is still to come back of these calls as of those before.
+  -- What is still to come back of the calls doesn't change.
   pub record AwaitsAll (old new : List (Call J book)) : Type 0 where
     pub workers : (n : ℕ) → undone n new ≡ undone n old
     pub senders : (n : ℕ) → unsent n new ≡ unsent n old
 
-  -- A worker has handed a call of this number back, if one of it was awaited.
+  -- A worker has handed a call of this number back, if one was awaited.
   pub record IsDone (number : ℕ) (old new : List (Call J book)) : Type 0 where
     pub workers : (n : ℕ) → undone n new ≡ undone n old - once_at n number
     pub senders : (n : ℕ) → unsent n new ≡ unsent n old
 
-  -- A sender of a call of this number is back, if one of it was awaited.
+  -- The sender of a call of this number is back, if one was awaited.
   pub record IsSent (number : ℕ) (old new : List (Call J book)) : Type 0 where
     pub workers : (n : ℕ) → undone n new ≡ undone n old
     pub senders : (n : ℕ) → unsent n new ≡ unsent n old - once_at n number
 
 -- ---- what is owed
 
--- Of the calls of each number no more is awaited than was given out and didn't come back; and what came back is of numbers below this one, which is the
--- number of the next call.
+-- Of each number no more calls are awaited than were given out and didn't come back. What came back
+-- has numbers below the next call's.
 pub record IsOwed (given back awaited : ℕ → ℕ) (next : ℕ) : Type 0 where
   pub most : (n : ℕ) → awaited n ≤ given n - back n
   pub below : (n : ℕ) → next ≤ n → back n ≡ 0

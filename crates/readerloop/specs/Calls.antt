@@ -1,5 +1,26 @@
--- A call of a connection, as the reading side has it, and as it is by what was heard. A list of steps has the latest first.
-use Rattle.std.specs.Prelude.{◌≡◌, ◌≢◌, ◌<◌, ◌≤◌, ◌&&◌, ℕ, Bool, true, nat_eq, List, [], length, Contains, Option, None, Some, IfSome, IsSomeAnd, MatchOption}
+-- A call of a connection, as the reading side has it, and what the steps that were heard make of
+-- it. A list of steps has the latest first.
+use Rattle.std.specs.Prelude.{
+  ◌≡◌,
+  ◌≢◌,
+  ◌<◌,
+  ◌≤◌,
+  ◌&&◌,
+  ℕ,
+  Bool,
+  true,
+  nat_eq,
+  List,
+  [],
+  length,
+  Contains,
+  Option,
+  None,
+  Some,
+  IfSome,
+  IsSomeAnd,
+  MatchOption,
+}
 use Rattle.std.specs.List.{list_any, AllWithin, HoldsAt}
 use Rattle.std.specs.Option.{is_some}
 use Rattle.account.specs.declared.call.OutItem.{OutItem}
@@ -15,7 +36,16 @@ use Rattle.handlers.specs.declared.step.Step.{Step as Answer}
 use Rattle.lane.specs.RingLane.{got, put_shut}
 use Rattle.readerloop.specs.declared.call.Call.{Call}
 use Rattle.readerloop.specs.Halves.{IsHalf, Shown, is_closed, shown}
-use Rattle.readerloop.specs.Steps.{Step, admitted, admitted_by, closing_at, data_at, head_of, last_of, since}
+use Rattle.readerloop.specs.Steps.{
+  Step,
+  admitted,
+  admitted_by,
+  closing_at,
+  data_at,
+  head_of,
+  last_of,
+  since,
+}
 
 -- where a step admits a call, its id is above those before it
 abbrev pub Rises : List Step → Step → Type 0
@@ -32,13 +62,14 @@ pub record Passes (id : ℕ) (step : Step) : Type 0 where
 
 -- ---- the method of a call
 
--- The method of this index has this path, and none before it does.
-pub record IsFirstWith {A : Type 0} (name_of : A → List ℕ) (methods : List A) (path : List ℕ) (index : ℕ) : Type 0 where
+-- The method of this index has this path, and no method before it does.
+pub record IsFirstWith {A : Type 0} (name_of : A → List ℕ) (methods : List A) (path : List ℕ)
+    (index : ℕ) : Type 0 where
   pub within : index < length methods
   pub found : HoldsAt (λ method. name_of method ≡ path) methods index
   pub least : AllWithin (λ method. name_of method ≢ path) methods 0 index
 
--- each index that the first has for a path the second has too
+-- each index that the first relation has for a path, the second has too
 abbrev pub AreNames : (List ℕ → ℕ → Type 0) → (List ℕ → ℕ → Type 0) → Type 0
 AreNames narrow wide = (path : List ℕ) (index : ℕ) → narrow path index → wide path index
 
@@ -49,7 +80,7 @@ pub record Sent : Type 0 where
   pub id : ℕ
   pub items : List OutItem
 
--- so it is among what senders got
+-- what is carried of a stream's call is what its sender got, by this list
 abbrev pub carried_in : List Sent → ℕ → List OutItem → Type 0
 carried_in sent id items = Contains sent (record { id = id; items = items })
 
@@ -57,9 +88,10 @@ module _ {J : Type 0} {book : Ghosts J} where
   -- its worker answered what its client asked for
   abbrev pub HasAnswered : (ℕ → List (List ℕ) → Bool → Answer → Type 0) → Finished J book → Type 0
   HasAnswered known finished =
-      AnswersAt known finished.number.seen.log finished.number.value (got finished.taker.rx) finished.taker.progress (put_shut finished.given.shut) finished.status
+      AnswersAt known finished.number.seen.log finished.number.value (got finished.taker.rx)
+      finished.taker.progress (put_shut finished.given.shut) finished.status
 
-  -- its sender is there, and what it got is carried so for its stream
+  -- its sender is there, and got what is carried of its stream
   abbrev pub HasReturned : (ℕ → List OutItem → Type 0) → Sending J book → Type 0
   HasReturned carries sending = IsSomeAnd (request_at sending.number.seen.log sending.number.value)
       (λ request. IsSomeAnd sending.sender (λ sender. carries request.id (got sender.rx)))
@@ -70,10 +102,14 @@ module _ {J : Type 0} {book : Ghosts J} where
   abbrev pub is_over : Call J book → Bool
   is_over call = is_some call.finished && (is_some call.returning && is_closed call.half)
 
-  module _ (known : ℕ → List (List ℕ) → Bool → Answer → Type 0) (names : List ℕ → ℕ → Type 0) (carries : ℕ → List OutItem → Type 0) where
-    -- The call of this stream and method was admitted with the head with which it stands in the register, whose path names its method. Its half is what was
-    -- heard since makes of it. What came back of it is as its worker and the writing side may hand it back.
-    pub record IsCallOf (told : List Step) (id method : ℕ) (number : CallNumber J book) (half : Shown) (finished : Option (Finished J book)) (returning : Option (Returning J book)) : Type 0 where
+  module _ (known : ℕ → List (List ℕ) → Bool → Answer → Type 0) (names : List ℕ → ℕ → Type 0)
+      (carries : ℕ → List OutItem → Type 0) where
+    -- The call of this stream and method was admitted with the head that it has in the register,
+    -- whose path names its method. Its half is what the steps since make of it. What came back of
+    -- it is as its worker and the writing side may hand it back.
+    pub record IsCallOf (told : List Step) (id method : ℕ) (number : CallNumber J book)
+        (half : Shown) (finished : Option (Finished J book))
+        (returning : Option (Returning J book)) : Type 0 where
       pub request : Request
       pub asked : request_at number.seen.log number.value ≡ Some request
       pub same_id : request.id ≡ id
@@ -87,4 +123,5 @@ module _ {J : Type 0} {book : Ghosts J} where
       pub returned : IfSome returning (λ returning. HasReturned carries returning.sending.value)
 
     abbrev pub IsCall : List Step → Call J book → Type 0
-    IsCall told call = IsCallOf told call.id call.method call.number (shown call.half) call.finished call.returning
+    IsCall told call =
+        IsCallOf told call.id call.method call.number (shown call.half) call.finished call.returning

@@ -1,5 +1,21 @@
--- The client's half of a call, as the reading side has it, and as it is by what was heard.
-use Rattle.std.specs.Prelude.{◌≡◌, ◌≢◌, ℕ, Bool, true, false, List, [], ◌∷◌, ◌++◌, Option, Some, None, All}
+-- The client's half of a call, as the reading side has it, and what the steps that were heard make
+-- of it.
+use Rattle.std.specs.Prelude.{
+  ◌≡◌,
+  ◌≢◌,
+  ℕ,
+  Bool,
+  true,
+  false,
+  List,
+  [],
+  ◌∷◌,
+  ◌++◌,
+  Option,
+  Some,
+  None,
+  All,
+}
 use Rattle.callbox.specs.declared.piece.InPiece.{InPiece}
 use Rattle.callbox.specs.declared.piece.InPiece.TheVariants as in_piece
 use Rattle.callbox.specs.InSides.{bytes_of, pieces_of}
@@ -18,7 +34,8 @@ pub record Shown : Type 0 where
 
 abbrev pub shown : Half → Shown
 shown (Open feeder) = record { there = true; items = put_in feeder.tx; closing = None }
-shown (Closed end) = record { there = true; items = put_shut end.shut; closing = Some (ShutAs end.kind) }
+shown (Closed end) =
+    record { there = true; items = put_shut end.shut; closing = Some (ShutAs end.kind) }
 shown (Missed feeder) = record { there = true; items = put_in feeder.tx; closing = Some Misses }
 shown Moving = record { there = false; items = []; closing = None }
 
@@ -47,7 +64,7 @@ is_closed Moving = false
 abbrev pub unfed : Shown
 unfed = record { there = true; items = []; closing = None }
 
--- the items with a piece behind them, unless it is empty or the half was closed
+-- the items with a piece after them, unless it is empty or the half was closed
 abbrev pub grown : List ℕ → Option Closing → List InPiece → List InPiece
 grown [] closing items = items
 grown (byte ∷ bytes) None items = items ++ in_piece.Bytes (byte ∷ bytes) ∷ []
@@ -55,7 +72,8 @@ grown (byte ∷ bytes) (Some closing) items = items
 
 -- ---- by what was heard
 
--- The half of this call is what these steps make of it: the bytes that were fed, joined; how it was closed; and no piece is empty.
+-- The half of this call is what these steps make of it: the bytes that were fed, joined; how it was
+-- closed; and no piece is empty.
 pub record IsHalf (id : ℕ) (steps : List Step) (shown : Shown) : Type 0 where
   pub there : shown.there ≡ true
   pub fed : bytes_of shown.items ≡ fed_by id steps

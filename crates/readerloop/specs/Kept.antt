@@ -1,5 +1,23 @@
--- The calls of a connection, as they are by what its reading side heard.
-use Rattle.std.specs.Prelude.{◌≡◌, ◌⊎◌, ◌≤◌, ℕ, Bool, false, nat_eq, List, ◌∷◌, map, All, Contains, Option, None, Some, if◌then◌else◌, slice_get}
+-- What the steps that the reading side heard make of the calls of a connection.
+use Rattle.std.specs.Prelude.{
+  ◌≡◌,
+  ◌⊎◌,
+  ◌≤◌,
+  ℕ,
+  Bool,
+  false,
+  nat_eq,
+  List,
+  ◌∷◌,
+  map,
+  All,
+  Contains,
+  Option,
+  None,
+  Some,
+  if◌then◌else◌,
+  slice_get,
+}
 use Rattle.std.specs.List.{IsDistinct}
 use Rattle.account.specs.declared.call.OutItem.{OutItem}
 use Rattle.callparts.specs.declared.call_account.CallAccount.{CallAccount}
@@ -45,8 +63,10 @@ module _ {J : Type 0} {book : Ghosts J} where
   abbrev pub AreCut : List (Call J book) → Type 0
   AreCut calls = All (λ call. is_open call.half ≡ false) calls
 
-  -- A call that begins: it stands in the register with this head, whose path names its method, and nothing of it was fed or came back.
-  pub record IsFresh (names : List ℕ → ℕ → Type 0) (head : CallHead) (call : Call J book) : Type 0 where
+  -- A call that begins: it is in the register with this head, whose path names its method, and
+  -- nothing of it was fed or came back.
+  pub record IsFresh (names : List ℕ → ℕ → Type 0) (head : CallHead)
+      (call : Call J book) : Type 0 where
     pub request : Request
     pub asked : request_at call.number.seen.log call.number.value ≡ Some request
     pub same_id : request.id ≡ call.id
@@ -57,14 +77,18 @@ module _ {J : Type 0} {book : Ghosts J} where
     pub answered : call.finished ≡ None
     pub returned : call.returning ≡ None
 
-  module _ (known : ℕ → List (List ℕ) → Bool → Answer → Type 0) (names : List ℕ → ℕ → Type 0) (carries : ℕ → List OutItem → Type 0) where
+  module _ (known : ℕ → List (List ℕ) → Bool → Answer → Type 0) (names : List ℕ → ℕ → Type 0)
+      (carries : ℕ → List OutItem → Type 0) where
     -- an account is final, or its call is one of those that aren't settled
     abbrev pub IsSoFar : List Step → List (Call J book) → CallAccount → Type 0
-    IsSoFar told calls account = IsAccounted known names carries told account ⊎ Contains (ids_of calls) account.id
+    IsSoFar told calls account =
+        IsAccounted known names carries told account ⊎ Contains (ids_of calls) account.id
 
-    -- These steps led to these calls that aren't settled, and to these accounts: there is one for each call that was admitted, in their order. Each call
-    -- is what the steps make of it, and has the place of its account.
-    pub record AreKept (told : List Step) (calls : List (Call J book)) (accounts : List CallAccount) (last : ℕ) : Type 0 where
+    -- These steps led to these calls that aren't settled, and to these accounts: there is one for
+    -- each call that was admitted, in their order. Each call is what the steps make of it, and has
+    -- the place of its account.
+    pub record AreKept (told : List Step) (calls : List (Call J book)) (accounts : List CallAccount)
+        (last : ℕ) : Type 0 where
       pub rising : IsRising told
       pub last_is : last_of told ≤ last
       pub top : last ≡ greatest (reported told)
@@ -79,7 +103,8 @@ module _ {J : Type 0} {book : Ghosts J} where
     abbrev pub Kept : List Step → Calls J book → Type 0
     Kept told calls = AreKept told (unsettled calls) (accounts_of calls) calls.last
 
-    -- Whatever steps led to the calls before, they lead to those after: the same steps; with this one.
+    -- Whatever steps led to the calls before lead to those after: the steps alone; or with this
+    -- step.
     abbrev pub Keeps : Calls J book → Calls J book → Type 0
     Keeps old new = (told : List Step) → Kept told old → Kept told new
 

@@ -1,19 +1,59 @@
--- What the reading side of a connection orders its writing side to do, step by step: what the peer tells goes on to it, a call
--- that is admitted is opened, a stream is refused or reset, or the connection ended, for its cause, and the client is told where it ends
--- while calls go on (RFC 9113, sections 5.4, 6.8, 6.9.1, 8.1.1 and 8.7; gRPC over HTTP/2, "Responses").
--- A list of steps has the latest first, a list of orders the earliest.
-use Rattle.std.specs.Prelude.{◌≡◌, ◌≢◌, ◌⊎◌, ◌&&◌, ℕ, ◌==◌, Bool, true, false, List, [], ◌∷◌, ◌++◌, length, Option, Some, None, is_none, if◌then◌else◌, max}
+-- The orders of the reading side of a connection to its writing side, step by step. It passes on
+-- what the peer says, opens a call that is admitted, refuses or resets a stream or ends the
+-- connection for its cause, and has GOAWAY name the last call where the server drains (RFC 9113,
+-- sections 5.4, 6.8, 6.9.1, 8.1.1 and 8.7; gRPC over HTTP/2, "Responses"). A list of steps has the
+-- latest first, a list of orders the earliest.
+use Rattle.std.specs.Prelude.{
+  ◌≡◌,
+  ◌≢◌,
+  ◌⊎◌,
+  ◌&&◌,
+  ℕ,
+  ◌==◌,
+  Bool,
+  true,
+  false,
+  List,
+  [],
+  ◌∷◌,
+  ◌++◌,
+  length,
+  Option,
+  Some,
+  None,
+  is_none,
+  if◌then◌else◌,
+  max,
+}
 use Rattle.connbook.specs.declared.answers.AdmitFault.{AdmitFault}
 use Rattle.connbook.specs.declared.answers.AdmitFault.TheVariants as refused
 use Rattle.connbook.specs.declared.answers.Receipt.TheVariants.{CallWindow, Overrun}
 use Rattle.callhead.specs.declared.fault.HeadFault.{HeadFault}
 use Rattle.callhead.specs.StatusFields.{refusal_of, unknown_method}
 use Rattle.callparts.specs.declared.report.Ending.{Ending}
-use Rattle.callparts.specs.declared.report.Ending.TheVariants.{ProtocolError as Failed, OutOfMemory as RanOut}
+use Rattle.callparts.specs.declared.report.Ending.TheVariants.{
+  ProtocolError as Failed,
+  OutOfMemory as RanOut,
+}
 use Rattle.h2frame.specs.declared.error_code.ErrorCode.{ErrorCode}
-use Rattle.h2frame.specs.declared.error_code.ErrorCode.TheVariants.{NoError, ProtocolError, FlowControlError, RefusedStream, Cancel, EnhanceYourCalm}
+use Rattle.h2frame.specs.declared.error_code.ErrorCode.TheVariants.{
+  NoError,
+  ProtocolError,
+  FlowControlError,
+  RefusedStream,
+  Cancel,
+  EnhanceYourCalm,
+}
 use Rattle.lists.specs.declared.field.Field.{Field}
-use Rattle.outwriter.specs.declared.control.Control.TheVariants.{Settings, Ping, Window, Open, Refuse, Reset, Goaway}
+use Rattle.outwriter.specs.declared.control.Control.TheVariants.{
+  Settings,
+  Ping,
+  Window,
+  Open,
+  Refuse,
+  Reset,
+  Goaway,
+}
 use Rattle.outwriter.specs.Steps.{Order}
 use Rattle.reasons.specs.declared.Reason.TheVariants as reason
 use Rattle.reasons.specs.Codes.{code_of}
@@ -21,7 +61,27 @@ use Rattle.session.specs.declared.event.Control.{Control}
 use Rattle.session.specs.declared.event.Control.TheVariants as controls
 use Rattle.session.specs.declared.event.InEvent.TheVariants as events
 use Rattle.readerloop.specs.Calls.{is_admitted}
-use Rattle.readerloop.specs.Steps.{NoWorker, Stopped, Fate, Admitted, Unserved, Unknown, TurnedAway, Received, Missed, Lacking, Step, Told, CutOff, Drains, Lacks, closing_by, is_draining, reported, since}
+use Rattle.readerloop.specs.Steps.{
+  NoWorker,
+  Stopped,
+  Fate,
+  Admitted,
+  Unserved,
+  Unknown,
+  TurnedAway,
+  Received,
+  Missed,
+  Lacking,
+  Step,
+  Told,
+  CutOff,
+  Drains,
+  Lacks,
+  closing_by,
+  is_draining,
+  reported,
+  since,
+}
 
 -- ---- streams that were begun
 
@@ -40,8 +100,8 @@ abbrev pub greatest : List ℕ → ℕ
 greatest [] = 0
 greatest (id ∷ ids) = max id (greatest ids)
 
--- What a GOAWAY names (section 6.8): the greatest stream that was begun, or once the server drains the greatest whose call was admitted; 0 for
--- none. So it never rises behind that of a drain.
+-- The last stream of a GOAWAY (section 6.8): the greatest that was begun, or once the server drains
+-- the greatest whose call was admitted; 0 for none. So after a drain it never rises.
 abbrev pub named_with : ℕ → Bool → ℕ → ℕ
 named_with id true last = last
 named_with id false last = max id last
@@ -49,17 +109,20 @@ named_with id false last = max id last
 abbrev pub named : List Step → ℕ
 named [] = 0
 named (Told (events.Open id head) fate ∷ before) = named_with id (is_draining before) (named before)
-named (Told (events.BadHead id fault) fate ∷ before) = named_with id (is_draining before) (named before)
+named (Told (events.BadHead id fault) fate ∷ before) =
+    named_with id (is_draining before) (named before)
 named (Drains ∷ before) = greatest (reported before)
 named (step ∷ before) = named before
 
--- how many streams a client may begin; at the last of them it is told to open no more, unless the server drains: then it was
+-- how many streams a client may begin; at the last of them GOAWAY asks it to open no more, unless
+-- the server drains, which has sent GOAWAY
 abbrev pub most_streams : ℕ
 most_streams = 4096
 
 abbrev pub last_stream : ℕ → Bool → List ℕ → List Order
 last_stream id true before = []
-last_stream id false before = if length before == 4095 then Goaway id (reason.Code NoError) ∷ [] else []
+last_stream id false before =
+    if length before == 4095 then Goaway id (reason.Code NoError) ∷ [] else []
 
 -- ---- the order of a step
 
@@ -71,21 +134,21 @@ is_fed id told = is_admitted id told && is_none (closing_by id (since id told))
 abbrev pub IsDue : ℕ → List ℕ → List Step → Type 0
 IsDue id piece told = (piece ≢ []) × (is_fed id told ≡ true)
 
--- what the peer tells the writing side goes on as it is
+-- what the peer says to the writing side goes on as it is
 abbrev pub news_of : Control → Order
 news_of (controls.Settings settings) = Settings settings
 news_of (controls.Ping bytes) = Ping bytes
 news_of (controls.Window id increment) = Window id increment
 
--- a call that isn't admitted is reset as not begun; for want of memory the connection ends, and so where an id doesn't rise,
--- which doesn't come
+-- a call that isn't admitted is reset as not begun; for want of memory the connection ends, and
+-- also where an id doesn't rise, which doesn't occur
 abbrev pub turned_away : ℕ → ℕ → AdmitFault → Order
 turned_away last id refused.TooMany = Reset id RefusedStream true
 turned_away last id refused.Draining = Reset id RefusedStream true
 turned_away last id refused.NotNew = Goaway last reason.Memory
 turned_away last id refused.OutOfMemory = Goaway last reason.Memory
 
--- how a stream that begins is answered: `last` is what a GOAWAY names
+-- how a stream that begins is answered: `last` is the last stream of a GOAWAY
 abbrev pub opened : ℕ → ℕ → Fate → List Order
 opened last id Admitted = Open id tt ∷ []
 opened last id Unknown = Refuse id unknown_method ∷ []
@@ -104,7 +167,8 @@ abbrev pub refused_head : ℕ → ℕ → HeadFault → Fate → List Order
 refused_head last id fault Lacking = Goaway last reason.Memory ∷ []
 refused_head last id fault _ = without_head id (refusal_of fault) ∷ []
 
--- bytes that came on a stream: those that no call takes any more are counted, and returned, and nothing is ordered
+-- bytes that came on a stream: for those that no call takes any more, which are counted and
+-- returned, nothing is ordered
 abbrev pub came : ℕ → ℕ → Fate → List Order
 came last id (Received CallWindow) = Reset id FlowControlError true ∷ []
 came last id (Received Overrun) = Goaway last reason.Overrun ∷ []
@@ -116,12 +180,15 @@ abbrev pub came_loose : ℕ → Fate → List Order
 came_loose last (Received Overrun) = Goaway last reason.Overrun ∷ []
 came_loose last _ = []
 
--- The orders that a step leads to, after those before it. Where the input has ended, a call to which more could be fed is cancelled.
+-- The orders that a step leads to, after the steps before it. Where the input has ended, a call to
+-- which more could be fed is cancelled.
 abbrev pub orders_at : List Step → Step → List Order
 orders_at before (Told (events.Open id head) fate) =
-    last_stream id (is_draining before) (begun before) ++ opened (named_with id (is_draining before) (named before)) id fate
+    last_stream id (is_draining before) (begun before)
+    ++ opened (named_with id (is_draining before) (named before)) id fate
 orders_at before (Told (events.BadHead id fault) fate) =
-    last_stream id (is_draining before) (begun before) ++ refused_head (named_with id (is_draining before) (named before)) id fault fate
+    last_stream id (is_draining before) (begun before)
+    ++ refused_head (named_with id (is_draining before) (named before)) id fault fate
 orders_at before (Told (events.Data id piece counted) fate) = came (named before) id fate
 orders_at before (Told (events.Loose counted) fate) = came_loose (named before) fate
 orders_at before (Told (events.Reset id code) fate) = Reset id code false ∷ []
@@ -140,7 +207,7 @@ orders_by (step ∷ before) = orders_by before ++ orders_at before step
 
 -- ---- the end of a connection
 
--- how a step ends the connection, if it does: with an error that the peer is told, or for want of memory
+-- how a step ends the connection, if it does: with an error that GOAWAY has, or for want of memory
 abbrev pub ends_if_refused : AdmitFault → Option Ending
 ends_if_refused refused.TooMany = None
 ends_if_refused refused.Draining = None
@@ -161,7 +228,8 @@ ends_at (CutOff id) = None
 ends_at Drains = None
 ends_at Lacks = Some RanOut
 
--- a reset of this stream, which the peer is told, is among these orders
+-- a reset of this stream that is to be written is among these orders
 abbrev pub IsReset : ℕ → List Order → Type 0
 IsReset id [] = ⊥
-IsReset id (order ∷ orders) = ((code : ErrorCode) × (order ≡ Reset id code true)) ⊎ IsReset id orders
+IsReset id (order ∷ orders) =
+    ((code : ErrorCode) × (order ≡ Reset id code true)) ⊎ IsReset id orders

@@ -1,6 +1,24 @@
--- The reading side of a connection, as it is by what it heard, and what it decides of each step.
+-- What the steps that were heard make of the reading side of a connection, and what it decides of
+-- each step.
 use Rattle.reasons.specs.declared.Reason.TheVariants as reason
-use Rattle.std.specs.Prelude.{◌≡◌, ◌<◌, ℕ, Bool, true, false, List, [], ◌∷◌, ◌++◌, All, length, min, Option, None, Some}
+use Rattle.std.specs.Prelude.{
+  ◌≡◌,
+  ◌<◌,
+  ℕ,
+  Bool,
+  true,
+  false,
+  List,
+  [],
+  ◌∷◌,
+  ◌++◌,
+  All,
+  length,
+  min,
+  Option,
+  None,
+  Some,
+}
 use Rattle.account.specs.declared.call.OutItem.{OutItem}
 use Rattle.callparts.specs.declared.order.Opening.{Opening}
 use Rattle.callparts.specs.declared.order.Returning.{Returning}
@@ -24,8 +42,28 @@ use Rattle.lane.specs.Ring.{out_name, taken}
 use Rattle.readerloop.specs.Calls.{HasReturned, Sent, carried_in}
 use Rattle.readerloop.specs.Concerns.{Concerns}
 use Rattle.readerloop.specs.Kept.{Keeps, Kept}
-use Rattle.readerloop.specs.Orders.{IsDue, begun, ends_at, most_streams, named, named_with, orders_at}
-use Rattle.readerloop.specs.Steps.{Fate, Lacking, Missed, Received, ShutAs, Step, TurnedAway, Unknown, WasTold, closing_at, is_draining}
+use Rattle.readerloop.specs.Orders.{
+  IsDue,
+  begun,
+  ends_at,
+  most_streams,
+  named,
+  named_with,
+  orders_at,
+}
+use Rattle.readerloop.specs.Steps.{
+  Fate,
+  Lacking,
+  Missed,
+  Received,
+  ShutAs,
+  Step,
+  TurnedAway,
+  Unknown,
+  WasTold,
+  closing_at,
+  is_draining,
+}
 use Rattle.session.specs.declared.event.InEvent.TheVariants.{PeerGoaway}
 
 -- ---- what is decided
@@ -38,7 +76,8 @@ abbrev pub order_in : {S : Type 0} → Option (Control S) → List Order
 order_in None = []
 order_in (Some order) = order_of order ∷ []
 
--- what became of a piece that was to be fed: it was, or its lane refused it, or there was no memory for it
+-- what became of a piece that was to be fed: it was, or its lane refused it, or there was no memory
+-- for it
 abbrev pub fate_of_feed : {S : Type 0} → Option (Control S) → Option Ending → Fate
 fate_of_feed None ends = Received Feed
 fate_of_feed (Some order) None = Missed
@@ -50,13 +89,14 @@ fate_of Discard order ends = Received Discard
 fate_of CallWindow order ends = Received CallWindow
 fate_of Overrun order ends = Received Overrun
 
--- a piece is missed, and there is no memory for one, only where it was to be fed
+-- a piece is missed, or lacks memory, only where it was to be fed
 abbrev pub MayMiss : ℕ → List ℕ → Fate → List Step → Type 0
 MayMiss id piece Missed told = IsDue id piece told
 MayMiss id piece Lacking told = IsDue id piece told
 MayMiss id piece _ told = Unit {0}
 
--- why a call that begins is not for the lock to admit: the server drains, or else its path names no method
+-- why the lock isn't asked to admit a call that begins: the server drains, or else its path names
+-- no method
 abbrev pub refused_by : Bool → Fate
 refused_by true = TurnedAway Draining
 refused_by false = Unknown
@@ -72,25 +112,33 @@ module _ {J : Type 0} {book : Ghosts J} where
   abbrev pub orders_in : Decided J book → List Order
   orders_in decided = goaway_in decided.goaway ++ order_in decided.order
 
-  -- The order opens the stream of this request: its sender's number is that with which the call stands in the register.
+  -- The order opens the stream of this request, and its sender has the call's number in the
+  -- register.
   abbrev pub Opens : Request → Control (Opening J book) → Type 0
-  Opens request (Open id opening) = (id ≡ request.id) × (request_at opening.sending.value.number.seen.log opening.sending.value.number.value ≡ Some request)
+  Opens request (Open id opening) =
+      (id ≡ request.id)
+      × (request_at opening.sending.value.number.seen.log opening.sending.value.number.value
+      ≡ Some request)
   Opens request _ = ⊥
 
 module _ {J M : Type 0} {book : Ghosts J} where
-  -- a GOAWAY names this stream, and these were begun, the latest of which is first
+  -- a GOAWAY names this stream, and these streams were begun, the latest first
   pub record Counts (last : ℕ) (ids : List ℕ) (reading : Reading J M book) : Type 0 where
     pub last_is : reading.last ≡ last
     pub count : reading.begun ≡ min most_streams (length ids)
 
-  -- a call of this stream may be admitted: it is above those before it, there is room for its account, and calls are admitted
+  -- a call of this stream may be admitted: its id is above those before it, there is room for its
+  -- account, and the server doesn't drain
   abbrev pub IsNext : ℕ → Reading J M book → Type 0
-  IsNext id reading = (reading.calls.last < id) × (has_room reading.calls.accounts.count reading.calls.accounts.last ≡ true) × (reading.is_draining ≡ false)
+  IsNext id reading =
+      (reading.calls.last < id)
+      × (has_room reading.calls.accounts.count reading.calls.accounts.last ≡ true)
+      × (reading.is_draining ≡ false)
 
   abbrev pub KeepsNext : Reading J M book → Reading J M book → Type 0
   KeepsNext old new = (id : ℕ) → IsNext id old → IsNext id new
 
-  -- all but the calls, the workers and the register is as it was
+  -- all but the calls, the workers and the register is unchanged
   pub record HasSameRest (old new : Reading J M book) : Type 0 where
     pub draining : new.is_draining ≡ old.is_draining
     pub last : new.last ≡ old.last
@@ -98,16 +146,19 @@ module _ {J M : Type 0} {book : Ghosts J} where
     pub goaway : new.peer_goaway ≡ old.peer_goaway
     pub home : new.home ≡ old.home
 
-  module _ (known : ℕ → List (List ℕ) → Bool → Answer → Type 0) (names : List ℕ → ℕ → Type 0) (carries : ℕ → List OutItem → Type 0) where
-    -- These steps led to the reading side. It counts the peer as one that opens no more streams only where that was told.
+  module _ (known : ℕ → List (List ℕ) → Bool → Answer → Type 0) (names : List ℕ → ℕ → Type 0)
+      (carries : ℕ → List OutItem → Type 0) where
+    -- These steps led to the reading side. It takes the peer as one that opens no more streams only
+    -- after its GOAWAY.
     pub record Reads (told : List Step) (reading : Reading J M book) : Type 0 where
       pub calls : Kept known names carries told reading.calls
       pub drains : reading.is_draining ≡ is_draining told
       pub counts : Counts (named told) (begun told) reading
       pub goaway : reading.peer_goaway ≡ true → WasTold PeerGoaway told
 
-    -- These steps led to it, and this one does once the half is shut as it says.
-    pub record Awaits (told : List Step) (step : Step) (cut : Cut) (reading : Reading J M book) : Type 0 where
+    -- These steps led to it, and with this step they do once the half is shut as the decision says.
+    pub record Awaits (told : List Step) (step : Step) (cut : Cut)
+        (reading : Reading J M book) : Type 0 where
       pub calls : Kept known names carries told reading.calls
       pub drains : reading.is_draining ≡ is_draining told
       pub counts : Counts (named (step ∷ told)) (begun (step ∷ told)) reading
@@ -115,8 +166,9 @@ module _ {J M : Type 0} {book : Ghosts J} where
       pub concerns : Concerns cut.id step
       pub closes : closing_at cut.id step ≡ Some (ShutAs cut.kind)
 
-    -- This step begins a stream, and the calls are as it leads to.
-    pub record Begins (told : List Step) (step : Step) (id : ℕ) (reading : Reading J M book) : Type 0 where
+    -- This step begins a stream, and the calls are what the step makes of them.
+    pub record Begins (told : List Step) (step : Step) (id : ℕ)
+        (reading : Reading J M book) : Type 0 where
       pub calls : Kept known names carries (step ∷ told) reading.calls
       pub drains : reading.is_draining ≡ is_draining told
       pub counts : Counts (named told) (begun told) reading
@@ -129,8 +181,10 @@ module _ {J M : Type 0} {book : Ghosts J} where
     Stands told step None reading = Reads (step ∷ told) reading
     Stands told step (Some cut) reading = Awaits told step cut reading
 
-    -- It is decided what a step leads to after these: the orders, and how the connection ends, if it does.
-    pub record Decides (told : List Step) (step : Step) (decided : Decided J book) (reading : Reading J M book) : Type 0 where
+    -- The decision is what a step leads to after these: its orders, and how the connection ends, if
+    -- it does.
+    pub record Decides (told : List Step) (step : Step) (decided : Decided J book)
+        (reading : Reading J M book) : Type 0 where
       pub orders : orders_in decided ≡ orders_at told step
       pub ends : decided.ends ≡ ends_at step
       pub stands : Stands told step decided.cut reading
@@ -138,22 +192,30 @@ module _ {J M : Type 0} {book : Ghosts J} where
   module _ (known : ℕ → List (List ℕ) → Bool → Answer → Type 0) (names : List ℕ → ℕ → Type 0) where
     -- whatever steps led to it before, and whatever is carried
     abbrev pub DecidesOn : Step → Decided J book → Reading J M book → Reading J M book → Type 0
-    DecidesOn step decided old new = (sent : List Sent) (told : List Step) → Reads known names (carried_in sent) told old → Decides known names (carried_in sent) told step decided new
+    DecidesOn step decided old new =
+        (sent : List Sent) (told : List Step) → Reads known names (carried_in sent) told old
+        → Decides known names (carried_in sent) told step decided new
 
-    -- with this step they lead to it after; or they do so themselves
+    -- the steps that led to it before lead to it after: with this step, or alone
     abbrev pub ReadsOn : Step → Reading J M book → Reading J M book → Type 0
-    ReadsOn step old new = (sent : List Sent) (told : List Step) → Reads known names (carried_in sent) told old → Reads known names (carried_in sent) (step ∷ told) new
+    ReadsOn step old new =
+        (sent : List Sent) (told : List Step) → Reads known names (carried_in sent) told old
+        → Reads known names (carried_in sent) (step ∷ told) new
 
     abbrev pub Stays : Reading J M book → Reading J M book → Type 0
-    Stays old new = (sent : List Sent) (told : List Step) → Reads known names (carried_in sent) told old → Reads known names (carried_in sent) told new
+    Stays old new =
+        (sent : List Sent) (told : List Step) → Reads known names (carried_in sent) told old
+        → Reads known names (carried_in sent) told new
 
-    -- More came back: of the calls of workers, and of senders that are carried so. All but the calls, the workers and the way home is as it was, and as
-    -- many calls may be admitted as before.
+    -- More calls came back from workers, and more senders, which got what is carried. All but the
+    -- calls, the workers and the ring of senders is unchanged, and what may be admitted is too.
     pub record HasCollected (old new : Reading J M book) : Type 0 where
       pub more : List (Returning J book)
       pub took : taken new.home ≡ taken old.home ++ more
       pub name : out_name new.home ≡ out_name old.home
-      pub keeps : (sent : List Sent) → All (λ returning. HasReturned (carried_in sent) returning.sending.value) more → Keeps known names (carried_in sent) old.calls new.calls
+      pub keeps : (sent : List Sent)
+          → All (λ returning. HasReturned (carried_in sent) returning.sending.value) more
+          → Keeps known names (carried_in sent) old.calls new.calls
       pub accounts : new.calls.accounts ≡ old.calls.accounts
       pub above : new.calls.last ≡ old.calls.last
       pub draining : new.is_draining ≡ old.is_draining
@@ -161,8 +223,12 @@ module _ {J M : Type 0} {book : Ghosts J} where
       pub begun : new.begun ≡ old.begun
       pub goaway : new.peer_goaway ≡ old.peer_goaway
 
-    -- the same steps still led to it once more came back, where that is carried so
+    -- the steps that led to it before still do once more came back, where the senders got what is
+    -- carried
     abbrev pub CollectsTo : Reading J M book → Reading J M book → Type 0
-    CollectsTo old new = (more : List (Returning J book)) × (taken new.home ≡ taken old.home ++ more)
-        × ((sent : List Sent) (told : List Step) → All (λ returning. HasReturned (carried_in sent) returning.sending.value) more
-        → Reads known names (carried_in sent) told old → Reads known names (carried_in sent) told new)
+    CollectsTo old new =
+        (more : List (Returning J book)) × (taken new.home ≡ taken old.home ++ more)
+        × ((sent : List Sent) (told : List Step)
+        → All (λ returning. HasReturned (carried_in sent) returning.sending.value) more
+        → Reads known names (carried_in sent) told old
+        → Reads known names (carried_in sent) told new)

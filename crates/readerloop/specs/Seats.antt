@@ -10,6 +10,6 @@ module _ {J M : Type 0} {book : Ghosts J} where
   abbrev pub HasPlaces : Seat J M book → Type 0
   HasPlaces seat = (2 ≤ known_free seat.tasks) × (seat.is_ended ≡ false)
 
-  -- of the worker of this number
+  -- the worker of this number has these places
   abbrev pub HasPlacesAt : ℕ → Seats J M book → Type 0
   HasPlacesAt number seats = IsSomeAnd (slice_get seats.seats.items number) HasPlaces

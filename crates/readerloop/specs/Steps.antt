@@ -1,7 +1,26 @@
--- What the reader of a connection hears, and what it makes of the client's half of each call (RFC 9113, sections 5.1, 5.4.2,
--- 6.4, 6.8 and 6.9.1).
--- A list of steps has the latest first.
-use Rattle.std.specs.Prelude.{◌≡◌, ◌<◌, ◌&&◌, ◌||◌, ℕ, Bool, true, false, nat_eq, if◌then◌else◌, List, [], ◌∷◌, ◌++◌, Option, Some, None, MatchOption, unwrap_or}
+-- What the reader of a connection hears, and what it makes of the client's half of each call (RFC
+-- 9113, sections 5.1, 5.4.2, 6.4, 6.8 and 6.9.1). A list of steps has the latest first.
+use Rattle.std.specs.Prelude.{
+  ◌≡◌,
+  ◌<◌,
+  ◌&&◌,
+  ◌||◌,
+  ℕ,
+  Bool,
+  true,
+  false,
+  nat_eq,
+  if◌then◌else◌,
+  List,
+  [],
+  ◌∷◌,
+  ◌++◌,
+  Option,
+  Some,
+  None,
+  MatchOption,
+  unwrap_or,
+}
 use Rattle.std.specs.List.{list_any}
 use Rattle.std.specs.Option.{is_some}
 use Rattle.account.specs.declared.call.Shut.{Shut}
@@ -11,20 +30,27 @@ use Rattle.connbook.specs.declared.answers.AdmitFault.{AdmitFault}
 use Rattle.connbook.specs.declared.answers.Receipt.{Receipt}
 use Rattle.connbook.specs.declared.answers.Receipt.TheVariants.{Discard, CallWindow, Overrun}
 use Rattle.h2frame.specs.declared.error_code.ErrorCode.{ErrorCode}
-use Rattle.h2frame.specs.declared.error_code.ErrorCode.TheVariants.{InternalError, FlowControlError, Cancel, EnhanceYourCalm}
+use Rattle.h2frame.specs.declared.error_code.ErrorCode.TheVariants.{
+  InternalError,
+  FlowControlError,
+  Cancel,
+  EnhanceYourCalm,
+}
 use Rattle.h2frame.specs.ErrorCode.{error_number}
 use Rattle.session.specs.declared.event.InEvent.{InEvent}
 use Rattle.session.specs.declared.event.InEvent.TheVariants as events
 use Rattle.session.specs.StreamData.{Finished, ending_told, piece_of}
 
--- Why no worker serves a call that the lock admitted: there was no memory for one, or no thread; or the writing side had stopped.
+-- Why no worker serves a call that the lock admitted: there was no memory for one, or no thread; or
+-- the writing side had stopped.
 pub data Lack : Type 0 where
   NoWorker : Lack
   Stopped : Lack
 
--- What became of an event: nothing was to be answered; of a call that begins, the lock admitted it, and a worker serves it or none
--- does, its path names no method, or the lock turned it away; of bytes that came, what the lock said of them, or that they were to be fed and the call's lane
--- refused them; or there was no memory for what it leads to.
+-- What became of an event. Nothing was to be answered; or, of a call that begins, the lock admitted
+-- it, and a worker serves it or none does, or its path names no method, or the lock turned it away;
+-- or, of bytes that came, what the lock said of them, or that the call's lane refused them when
+-- they were to be fed; or there was no memory for what the event leads to.
 pub data Fate : Type 0 where
   Plain : Fate
   Admitted : Fate
@@ -35,8 +61,9 @@ pub data Fate : Type 0 where
   Missed : Fate
   Lacking : Fate
 
--- An event was told; the input has ended, and the call of a stream hears no more; the server drains: it is to stop while its calls go on, and
--- admits no more (section 6.8); or there was no memory for what came, and the connection ends with an error (section 5.4.1).
+-- An event came; or the input has ended, and the call of a stream hears no more; or the server
+-- drains, which admits no more calls (section 6.8); or there was no memory for what came, and the
+-- connection ends with an error (section 5.4.1).
 pub data Step : Type 0 where
   Told : InEvent → Fate → Step
   CutOff : ℕ → Step
@@ -45,13 +72,13 @@ pub data Step : Type 0 where
 
 -- ---- calls that were admitted
 
--- by the lock; each has an account in the report
+-- the call that the lock admits by a step; it has an account in the report
 abbrev pub reported_by : Step → Option ℕ
 reported_by (Told (events.Open id head) Admitted) = Some id
 reported_by (Told (events.Open id head) (Unserved why)) = Some id
 reported_by _ = None
 
--- and served by a worker: those that are meant below
+-- the call that the lock admits and a worker serves: such calls are meant below
 abbrev pub admitted_by : Step → Option ℕ
 admitted_by (Told (events.Open id head) Admitted) = Some id
 admitted_by _ = None
@@ -71,7 +98,9 @@ reported (step ∷ before) = reported before ++ once (reported_by step)
 
 -- a call was admitted with this head, and no worker serves it
 abbrev pub WasUnserved : ℕ → CallHead → List Step → Type 0
-WasUnserved id head told = (before : List Step) × (after : List Step) × (why : Lack) × (told ≡ after ++ Told (events.Open id head) (Unserved why) ∷ before)
+WasUnserved id head told =
+    (before : List Step) × (after : List Step) × (why : Lack)
+    × (told ≡ after ++ Told (events.Open id head) (Unserved why) ∷ before)
 
 -- the ids of those that are served, the earliest first, and the latest of them, 0 for none
 abbrev pub admitted : List Step → List ℕ
@@ -82,10 +111,11 @@ abbrev pub last_of : List Step → ℕ
 last_of [] = 0
 last_of (step ∷ before) = unwrap_or (admitted_by step) (last_of before)
 
--- each is above those before it (section 5.1.1)
+-- each id is above those before it (section 5.1.1)
 abbrev pub IsRising : List Step → Type 0
 IsRising [] = Unit {0}
-IsRising (step ∷ before) = MatchOption (admitted_by step) (Unit {0}) (λ id. last_of before < id) × IsRising before
+IsRising (step ∷ before) =
+    MatchOption (admitted_by step) (Unit {0}) (λ id. last_of before < id) × IsRising before
 
 -- ---- the end while calls go on
 
@@ -98,10 +128,11 @@ abbrev pub is_draining : List Step → Bool
 is_draining [] = false
 is_draining (step ∷ before) = is_drain step || is_draining before
 
--- behind a drain no call is admitted
+-- after a drain no call is admitted
 abbrev pub AdmitsNoMore : List Step → Type 0
 AdmitsNoMore [] = Unit {0}
-AdmitsNoMore (step ∷ before) = (is_draining before ≡ true → reported_by step ≡ None) × AdmitsNoMore before
+AdmitsNoMore (step ∷ before) =
+    (is_draining before ≡ true → reported_by step ≡ None) × AdmitsNoMore before
 
 -- ---- since a call was admitted
 
@@ -110,7 +141,7 @@ abbrev pub since : ℕ → List Step → List Step
 since id [] = []
 since id (step ∷ before) = if is_of id (admitted_by step) then [] else step ∷ since id before
 
--- the head of the call that it admits
+-- the head of the call that a step admits
 abbrev pub head_at : Step → Option CallHead
 head_at (Told (events.Open id head) Admitted) = Some head
 head_at _ = None
@@ -128,12 +159,13 @@ data_at id (CutOff other) = []
 data_at id Drains = []
 data_at id Lacks = []
 
--- How a half closes: it is shut; or a piece comes that no call takes any more, which the call misses. How a half is shut that missed a piece isn't told.
+-- How a half closes: it is shut; or the call misses a piece, which no call takes any more. How such
+-- a half ends isn't recorded.
 pub data Closing : Type 0 where
   ShutAs : Shut → Closing
   Misses : Closing
 
--- bytes that no call takes are missed; a piece of padding alone is no loss
+-- a call misses bytes that no call takes; a piece of padding alone is no loss
 abbrev pub missed : List ℕ → Option Closing
 missed [] = None
 missed (byte ∷ bytes) = Some Misses
@@ -153,10 +185,14 @@ lost piece _ = None
 
 -- how a step closes the half, if it does
 abbrev pub closing_at : ℕ → Step → Option Closing
-closing_at id (Told (events.Data other piece counted) fate) = if nat_eq id other then lost piece fate else None
-closing_at id (Told (events.End other) fate) = if nat_eq id other then Some (ShutAs shut.End) else None
-closing_at id (Told (events.Reset other code) fate) = if nat_eq id other then Some (fails_as code) else None
-closing_at id (Told (events.StreamError other code) fate) = if nat_eq id other then Some (fails_as code) else None
+closing_at id (Told (events.Data other piece counted) fate) =
+    if nat_eq id other then lost piece fate else None
+closing_at id (Told (events.End other) fate) =
+    if nat_eq id other then Some (ShutAs shut.End) else None
+closing_at id (Told (events.Reset other code) fate) =
+    if nat_eq id other then Some (fails_as code) else None
+closing_at id (Told (events.StreamError other code) fate) =
+    if nat_eq id other then Some (fails_as code) else None
 closing_at id (CutOff other) = if nat_eq id other then Some (fails_as Cancel) else None
 closing_at id _ = None
 
@@ -175,7 +211,7 @@ shut_in None = None
 shut_in (Some (ShutAs kind)) = Some kind
 shut_in (Some Misses) = None
 
--- and so it is shut
+-- how the half is shut by that step, if it is
 abbrev pub shut_by : ℕ → List Step → Option Shut
 shut_by id steps = shut_in (closing_by id steps)
 
@@ -186,9 +222,10 @@ unless (Some closing) bytes = []
 -- what it is fed: the data that came before it was closed
 abbrev pub fed_by : ℕ → List Step → List ℕ
 fed_by id [] = []
-fed_by id (step ∷ before) = fed_by id before ++ unless (closing_by id (step ∷ before)) (data_at id step)
+fed_by id (step ∷ before) =
+    fed_by id before ++ unless (closing_by id (step ∷ before)) (data_at id step)
 
--- the events that were told, the earliest first
+-- the events that came, the earliest first
 abbrev pub events_of : List Step → List InEvent
 events_of [] = []
 events_of (Told event fate ∷ before) = events_of before ++ event ∷ []
@@ -196,19 +233,22 @@ events_of (CutOff id ∷ before) = events_of before
 events_of (Drains ∷ before) = events_of before
 events_of (Lacks ∷ before) = events_of before
 
--- this event was told
+-- this event came
 abbrev pub WasTold : InEvent → List Step → Type 0
-WasTold event told = (before : List InEvent) × (after : List InEvent) × (events_of told ≡ before ++ event ∷ after)
+WasTold event told =
+    (before : List InEvent) × (after : List InEvent) × (events_of told ≡ before ++ event ∷ after)
 
 -- ---- what lets a call's half go
 
--- whether a step lets the half go, whatever its client does to the stream: a piece is lost, or no more of it is heard
+-- whether a step lets the half go, whatever the client does to the stream: a piece is lost, or no
+-- more of the stream is heard
 abbrev pub lets_go : ℕ → Step → Bool
-lets_go id (Told (events.Data other piece counted) fate) = nat_eq id other && is_some (lost piece fate)
+lets_go id (Told (events.Data other piece counted) fate) =
+    nat_eq id other && is_some (lost piece fate)
 lets_go id (CutOff other) = nat_eq id other
 lets_go id _ = false
 
--- This step let the half of a call go that was open, and so closed it; only later END_STREAM was told.
+-- This step let the open half of a call go, and so closed it. END_STREAM came only later.
 pub record WasLetGo (id : ℕ) (closing : Closing) (told : List Step) : Type 0 where
   pub later : List Step
   pub step : Step

@@ -1,6 +1,25 @@
 //! A call, as the reading side has it.
 
-ghost use Rattle.std.specs.Prelude.{◌≡◌, ◌≢◌, ℕ, Bool, List, [], ◌∷◌, if◌then◌else◌, true, false, None, Some, IsSome, OnErr, OnOk, nat_eq, option_map, unwrap_or};
+ghost use Rattle.std.specs.Prelude.{
+  ◌≡◌,
+  ◌≢◌,
+  ℕ,
+  Bool,
+  List,
+  [],
+  ◌∷◌,
+  if◌then◌else◌,
+  true,
+  false,
+  None,
+  Some,
+  IsSome,
+  OnErr,
+  OnOk,
+  nat_eq,
+  option_map,
+  unwrap_or,
+};
 ghost use Rattle.callbox.specs.OutSides.{has_trailers};
 ghost use Rattle.connbook.specs.declared.answers.Receipt.TheVariants.{Feed};
 ghost use Rattle.lane.specs.RingLane.{put_shut};
@@ -19,26 +38,28 @@ use callparts::{
 use h2frame::StreamId;
 use lane::End;
 
-/// A call whose lanes were opened, and which isn't settled.
+/// A call whose lanes were opened, and that isn't settled.
 #[derive(Drop)]
 pub struct Call<J: Naming> {
     pub(crate) id: StreamId,
-    /// Which of the methods it calls.
+    /// The index of its method.
     pub(crate) method: usize,
     /// Its number among all whose lanes were opened.
     pub(crate) number: CallNumber<J>,
     /// The place of its account.
     pub(crate) place: usize,
-    /// The worker that answers it, until that has handed it back.
+    /// The worker that answers it, until the worker has handed it back.
     pub(crate) seat: usize,
     pub(crate) half: Half,
     /// What its worker has handed back.
     pub(crate) finished: Option<Finished<J>>,
     /// Its sender, once the writing side has handed it back.
     pub(crate) returning: Option<Returning<J>>,
-    /// Its half feeds the lane with which it stands in the register.
-    ghost one_lane: { in_lane_at number.seen.log number.value ≡ lane_of half } by { OptionalName_set (in_lane_at number.seen.log number.value) (lane_of half) },
-    /// What came back is of its number.
+    /// Its half feeds the lane that it has in the register.
+    ghost one_lane: { in_lane_at number.seen.log number.value
+        ≡ lane_of half } by { OptionalName_set
+            (in_lane_at number.seen.log number.value) (lane_of half) },
+    /// What came back has its number.
     ghost one_finished: { unwrap_or (option_map (λ f. f.number.value) finished) number.value
         ≡ number.value },
     ghost one_returning: { unwrap_or (option_map (λ r. r.sending.value.number.value) returning)
@@ -47,7 +68,15 @@ pub struct Call<J: Naming> {
 
 impl<J: Naming> Call<J> {
     ghost use Rattle.readerloop.specs.Awaited.{HasSameEnds, is_undone, is_unsent};
-    ghost use Rattle.readerloop.specs.Calls.{HasAnswered, HasReturned, IsCall, Rises, Sent, carried_in, is_over};
+    ghost use Rattle.readerloop.specs.Calls.{
+      HasAnswered,
+      HasReturned,
+      IsCall,
+      Rises,
+      Sent,
+      carried_in,
+      is_over,
+    };
     ghost use Rattle.readerloop.specs.Reports.{IsSettled};
 
     /// Whether this is its number.
@@ -78,7 +107,8 @@ impl<J: Naming> Call<J> {
         self.finished.is_some() && (self.returning.is_some() && self.half.is_closed())
     }
 
-    /// The worker that is to be woken where something comes for the call. None where it was handed back.
+    /// The worker to wake where something comes for the call. None once the worker has handed it
+    /// back.
     pub(crate) fn worker(&self) -> Option<usize> {
         match &self.finished {
             Some(_) => None,
@@ -103,7 +133,7 @@ impl<J: Naming> Call<J> {
         self.half.feed(piece)
     }
 
-    /// Shuts its half in this way. Where it was closed before nothing changes.
+    /// Shuts its half in this way. A half that was closed before stays as it is.
     pub(crate) fn shut<M: Answering>(&mut self, kind: Shut)
         ensures heard { (sent : List Sent) (told : List Step) (step : Step)
             → Rises told step → closing_at self.old.id step ≡ Some (ShutAs kind)
@@ -117,7 +147,7 @@ impl<J: Naming> Call<J> {
         self.half.shut(kind);
     }
 
-    /// A piece isn't fed to it, if more may be fed.
+    /// Misses a piece: lets its half go, if more may be fed to it.
     pub(crate) fn miss<M: Answering>(&mut self)
         ensures heard { (sent : List Sent) (told : List Step) (step : Step)
             → Rises told step → closing_at self.old.id step ≡ Some Misses
@@ -130,7 +160,7 @@ impl<J: Naming> Call<J> {
         self.half.miss();
     }
 
-    /// Its worker has handed this back, if it is of its number.
+    /// Takes what its worker has handed back, if that has its number.
     pub(crate) fn finish<M: Answering>(&mut self, finished: Finished<J>)
         ensures stays { (sent : List Sent) (told : List Step)
             → HasAnswered M.known finished → IsCall M.known M.names (carried_in sent) told self.old
@@ -147,7 +177,7 @@ impl<J: Naming> Call<J> {
         }
     }
 
-    /// The writing side has handed this back, if it is of its number.
+    /// Takes what the writing side has handed back, if that has its number.
     pub(crate) fn take_back<M: Answering>(&mut self, returning: Returning<J>)
         ensures stays { (sent : List Sent) (told : List Step)
             → HasReturned (carried_in sent) returning.sending.value
@@ -171,7 +201,8 @@ impl<J: Naming> Call<J> {
         requires over { is_over self ≡ true }
         ensures id { result.id ≡ self.id }
         ensures settled { (sent : List Sent) (told : List Step)
-            → IsCall M.known M.names (carried_in sent) told self → IsSettled M.known M.names (carried_in sent) told result }
+            → IsCall M.known M.names (carried_in sent) told self
+            → IsSettled M.known M.names (carried_in sent) told result }
     {
         let Call {
             id,
@@ -220,7 +251,7 @@ impl<J: Naming> Call<J> {
     }
 }
 
-/// The status of a call to which this was given: there is one only with trailers.
+/// The status of a call to which this was given: none without trailers.
 fn status_with(given: &GivenShut<OutLane>, status: Option<u32>) -> Option<u32>
     ensures { result ≡ (if has_trailers (put_shut given.now.shut) then status else None) }
 {

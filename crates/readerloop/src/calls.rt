@@ -1,6 +1,31 @@
 //! The calls of a connection, as its reading side has them.
 
-ghost use Rattle.std.specs.Prelude.{◌≡◌, ◌<◌, ◌+◌, ℕ, Bool, List, [], ◌∷◌, ◌++◌, true, false, length, None, Some, All, IfNone, IfSome, OnErr, OnOk, nat_eq, position, set, vec_capacity, vec_len};
+ghost use Rattle.std.specs.Prelude.{
+  ◌≡◌,
+  ◌<◌,
+  ◌+◌,
+  ℕ,
+  Bool,
+  List,
+  [],
+  ◌∷◌,
+  ◌++◌,
+  true,
+  false,
+  length,
+  None,
+  Some,
+  All,
+  IfNone,
+  IfSome,
+  OnErr,
+  OnOk,
+  nat_eq,
+  position,
+  set,
+  vec_capacity,
+  vec_len,
+};
 ghost use Rattle.std.specs.List.{IsDistinct};
 ghost use Rattle.callhead.specs.declared.head.CallHead.{CallHead as Head};
 ghost use Rattle.callparts.specs.Blocks.{has_room};
@@ -9,10 +34,32 @@ ghost use Rattle.session.specs.declared.event.InEvent.TheVariants as events;
 ghost use Rattle.readerloop.specs.Awaited.{AwaitsAll, IsDone, IsSent, is_undone, is_unsent};
 ghost use Rattle.readerloop.specs.Calls.{HasAnswered, HasReturned, Sent, carried_in, is_over};
 ghost use Rattle.readerloop.specs.Concerns.{Concerns};
-ghost use Rattle.readerloop.specs.Kept.{AreCut, Hears, IsFresh, Keeps, Kept, accounts_of, fed_at, fed_but, ids_of, unsettled};
+ghost use Rattle.readerloop.specs.Kept.{
+  AreCut,
+  Hears,
+  IsFresh,
+  Keeps,
+  Kept,
+  accounts_of,
+  fed_at,
+  fed_but,
+  ids_of,
+  unsettled,
+};
 ghost use Rattle.readerloop.specs.Orders.{IsDue, is_fed};
 ghost use Rattle.readerloop.specs.Reports.{IsSettled};
-ghost use Rattle.readerloop.specs.Steps.{Admitted, Lack, Misses, Received, ShutAs, Step, Told, Unserved, closing_at, is_draining};
+ghost use Rattle.readerloop.specs.Steps.{
+  Admitted,
+  Lack,
+  Misses,
+  Received,
+  ShutAs,
+  Step,
+  Told,
+  Unserved,
+  closing_at,
+  is_draining,
+};
 
 use crate::call::Call;
 use account::Shut;
@@ -26,7 +73,8 @@ use std::alloc::{AllocError, Global};
 #[derive(Drop)]
 pub struct Calls<J: Naming> {
     pub(crate) calls: Vec<Call<J>>,
-    /// An account for each call that was admitted, by rising stream; until a call is settled, that of one that wasn't served.
+    /// An account for each call that was admitted, by rising stream. Until a call is settled its
+    /// account is that of an unserved one.
     pub(crate) accounts: Accounts,
     /// The stream of the call that was admitted last, 0 for none.
     pub(crate) last: StreamId,
@@ -73,7 +121,8 @@ impl<J: Naming> Calls<J> {
         self.accounts.len()
     }
 
-    /// A call was admitted, for which there is room, and for its account. Until the call is settled, that is of one that isn't served.
+    /// Adds a call that was admitted. There is room for it and its account. Until it is settled its
+    /// account is that of an unserved one.
     pub(crate) fn add<M: Answering>(&mut self, call: Call<J>)
         requires room { vec_len self.old.calls < vec_capacity self.old.calls }
         requires account_room { has_room self.old.accounts.count self.old.accounts.last ≡ true }
@@ -82,7 +131,8 @@ impl<J: Naming> Calls<J> {
         ensures heard { (sent : List Sent) (head : Head)
             (told : List Step) → IsFresh M.names head call → is_draining told ≡ false
             → Kept M.known M.names (carried_in sent) told self.old
-            → Kept M.known M.names (carried_in sent) (Told (events.Open call.id head) Admitted ∷ told)
+            → Kept M.known M.names (carried_in sent)
+            (Told (events.Open call.id head) Admitted ∷ told)
             self.new }
         ensures calls { unsettled self.new ≡ unsettled self.old ++ call ∷ [] }
     {
@@ -93,14 +143,15 @@ impl<J: Naming> Calls<J> {
         self.calls.push_reserved(call);
     }
 
-    /// A call of this method was admitted, and no worker serves it.
+    /// Adds the account of a call of this method that was admitted and that no worker serves.
     pub(crate) fn pass_over<M: Answering>(&mut self, id: StreamId, method: usize)
         requires account_room { has_room self.old.accounts.count self.old.accounts.last ≡ true }
         requires above { self.old.last < id }
         ensures heard { (sent : List Sent) (head : Head)
             (why : Lack) (told : List Step) → M.names head.path method → is_draining told ≡ false
             → Kept M.known M.names (carried_in sent) told self.old
-            → Kept M.known M.names (carried_in sent) (Told (events.Open id head) (Unserved why) ∷ told)
+            → Kept M.known M.names (carried_in sent)
+            (Told (events.Open id head) (Unserved why) ∷ told)
             self.new }
         ensures calls { unsettled self.new ≡ unsettled self.old }
     {
@@ -124,14 +175,16 @@ impl<J: Naming> Calls<J> {
         self.calls.iter().position(|call| call.id == id)
     }
 
-    /// Feeds a piece to the call of this stream, if more may be fed to it. The worker that is to see it.
+    /// Feeds a piece to the call of this stream, if more may be fed to it. Answers the worker that
+    /// is to see it.
     pub(crate) fn feed<M: Answering>(
         &mut self,
         id: StreamId,
         piece: Bytes,
     ) -> Result<Option<usize>, FeedFault>
         ensures heard { OnOk result ((sent : List Sent) (counted : ℕ)
-            → Hears M.known M.names (carried_in sent) (Told (events.Data id piece counted) (Received Feed))
+            → Hears M.known M.names (carried_in sent)
+            (Told (events.Data id piece counted) (Received Feed))
             self.old self.new) }
         ensures stays { OnErr result ((sent : List Sent)
             → Keeps M.known M.names (carried_in sent) self.old self.new) }
@@ -149,8 +202,8 @@ impl<J: Naming> Calls<J> {
         Ok(call.worker())
     }
 
-    /// Shuts the half of the call of this stream in this way. Where it was closed before nothing changes. The worker that is to look
-    /// whether the call is live still.
+    /// Shuts the half of the call of this stream in this way. A half that was closed before stays
+    /// as it is. Answers the worker that is to look whether the call is still live.
     pub(crate) fn shut<M: Answering>(&mut self, id: StreamId, kind: Shut) -> Option<usize>
         ensures heard { (sent : List Sent) (step : Step)
             → Concerns id step → closing_at id step ≡ Some (ShutAs kind)
@@ -158,7 +211,7 @@ impl<J: Naming> Calls<J> {
         ensures accounts { self.new.accounts ≡ self.old.accounts }
         ensures last { self.new.last ≡ self.old.last }
         ensures awaits { AwaitsAll (unsettled self.old) (unsettled self.new) }
-        // No more is fed to that call, and to each other as before.
+        // No more is fed to that call; each other may be fed as before.
         ensures closes { IsDistinct nat_eq (ids_of (unsettled self.old)) → (place : ℕ)
             → fed_at place self.new ≡ fed_but id (fed_at place self.old) }
     {
@@ -168,7 +221,7 @@ impl<J: Naming> Calls<J> {
         call.worker()
     }
 
-    /// Of the call of this stream, if more may be fed to it, a piece isn't fed.
+    /// The call of this stream misses a piece, if more may be fed to it.
     pub(crate) fn miss<M: Answering>(&mut self, id: StreamId)
         ensures heard { (sent : List Sent) (step : Step)
             → Concerns id step → closing_at id step ≡ Some Misses
@@ -221,7 +274,8 @@ impl<J: Naming> Calls<J> {
     /// A worker has handed a call back.
     pub(crate) fn finish<M: Answering>(&mut self, finished: Finished<J>)
         ensures stays { (sent : List Sent)
-            → HasAnswered M.known finished → Keeps M.known M.names (carried_in sent) self.old self.new }
+            → HasAnswered M.known finished
+            → Keeps M.known M.names (carried_in sent) self.old self.new }
         ensures accounts { self.new.accounts ≡ self.old.accounts }
         ensures last { self.new.last ≡ self.old.last }
         ensures cut { AreCut (unsettled self.old) → AreCut (unsettled self.new) }
@@ -256,7 +310,7 @@ impl<J: Naming> Calls<J> {
         call.take_back::<M>(returning);
     }
 
-    /// Settles a call that is over, if there is one: its account is final.
+    /// Settles a call that is over, if there is one. Its account is final.
     pub(crate) fn settle_next<M: Answering>(&mut self) -> Option<CallAccount>
         ensures settled { IfSome result (λ account.
             (sent : List Sent) (told : List Step)
@@ -271,7 +325,7 @@ impl<J: Naming> Calls<J> {
         ensures cut { AreCut (unsettled self.old) → AreCut (unsettled self.new) }
         ensures fewer { IfSome result (λ account.
             length (unsettled self.new) + 1 ≡ length (unsettled self.old)) }
-        // Where it settles none there is none to settle.
+        // If it settles none, no call is over.
         ensures none { IfNone result (All (λ call. is_over call ≡ false) (unsettled self.new)) }
     {
         let place = self.find_over()?;

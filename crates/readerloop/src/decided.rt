@@ -10,7 +10,7 @@ use callparts::{Ending, Naming, Order};
 use h2frame::{ErrorCode, StreamId};
 use outwriter::Control;
 
-/// A half that is to be shut: of the call of this stream, in this way. In the credit book the call is cut.
+/// A half that is to be shut: its call's stream, and the way. In the credit book the call is cut.
 #[derive(Clone, Copy, Debug, PartialEq, Eq)]
 pub struct Cut {
     pub id: StreamId,
@@ -22,9 +22,9 @@ pub struct Cut {
 pub struct Decided<J: Naming> {
     /// The stream that a GOAWAY without an error names, where one is ordered first.
     pub goaway: Option<StreamId>,
-    /// What is ordered of the writing side.
+    /// The order to the writing side.
     pub order: Option<Order<J>>,
-    /// The half that is to be shut once that was ordered.
+    /// The half that is to be shut once the order was put.
     pub cut: Option<Cut>,
     /// How the connection ends, if it does.
     pub ends: Option<Ending>,
@@ -55,7 +55,8 @@ impl<J: Naming> Decided<J> {
         }
     }
 
-    /// A stream is reset, of which the peer is told, unless it did so; and so is the half of its call, with this code.
+    /// A stream and the half of its call are reset with this code. `written` says whether
+    /// RST_STREAM is to be written, which it isn't where the peer sent one.
     pub(crate) fn reset(id: StreamId, code: ErrorCode, written: bool) -> Decided<J>
         ensures order { (result.goaway ≡ None)
             × (result.order ≡ Some (orders.Reset id code written)) }

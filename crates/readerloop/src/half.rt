@@ -1,6 +1,20 @@
 //! The half of a call that its client sends, as the reading side has it.
 
-ghost use Rattle.std.specs.Prelude.{◌≡◌, ◌≢◌, ℕ, List, [], ◌∷◌, true, false, None, Some, IsSome, OnOk, OnErr};
+ghost use Rattle.std.specs.Prelude.{
+  ◌≡◌,
+  ◌≢◌,
+  ℕ,
+  List,
+  [],
+  ◌∷◌,
+  true,
+  false,
+  None,
+  Some,
+  IsSome,
+  OnOk,
+  OnErr,
+};
 ghost use Rattle.lane.specs.RingLane.{in_name, put_in, put_shut, shut_name};
 ghost use Rattle.callbox.specs.InSides.{pieces_of};
 ghost use Rattle.readerloop.specs.Steps.{Misses, ShutAs, Step, closing_at, shut_in};
@@ -19,7 +33,8 @@ pub enum Half {
     Open(Feeder<InLane>),
     /// It was ended or reset.
     Shut(FedShut<InLane>),
-    /// A piece came that no call takes any more. What follows isn't fed, and how the half ends isn't told.
+    /// A piece came that no call takes any more. What follows isn't fed, and how the half ends
+    /// isn't known.
     Missed(Feeder<InLane>),
     /// It is being moved.
     Moving,
@@ -63,7 +78,8 @@ impl Half {
         }
     }
 
-    /// Shuts it in this way: the client has ended or reset it, or no more of it is taken. Where it was closed before nothing changes.
+    /// Shuts it in this way: the client has ended or reset it, or no more of it is taken. A half
+    /// that was closed before stays as it is.
     pub fn shut(&mut self, kind: Shut)
         ensures lane { lane_of self.new ≡ lane_of self.old }
         ensures closed { is_open self.new ≡ false }

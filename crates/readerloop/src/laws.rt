@@ -1,4 +1,4 @@
-//! Laws of the definitions, for the proofs of callers and for readers. None of them does anything.
+//! Laws of the definitions, for the proofs of callers and for readers. The functions do nothing.
 
 ghost use mathlib.Core.List.{IsPrefix};
 ghost use Rattle.std.specs.Prelude.{◌≡◌, ◌≢◌, ◌++◌, ◌∷◌, ℕ, List, None, Some, IsSome, nat_eq, true};
@@ -18,21 +18,36 @@ ghost use Rattle.readerloop.specs.AccountFrames.{HasFrames};
 ghost use Rattle.readerloop.specs.Calls.{is_admitted};
 ghost use Rattle.readerloop.specs.Orders.{orders_by};
 ghost use Rattle.readerloop.specs.Reports.{AreCalm, AreHeard, WasResetFor, is_heard_out};
-ghost use Rattle.readerloop.specs.Steps.{Admitted, Closing, IsRising, ShutAs, Step, Told, WasLetGo, admitted, closing_by, events_of, fed_by, head_of, shut_by, since};
+ghost use Rattle.readerloop.specs.Steps.{
+  Admitted,
+  Closing,
+  IsRising,
+  ShutAs,
+  Step,
+  Told,
+  WasLetGo,
+  admitted,
+  closing_by,
+  events_of,
+  fed_by,
+  head_of,
+  shut_by,
+  since,
+};
 ghost use Rattle.readerloop.specs.Streams.{HasEnd, HasStreamData};
 
-/// As long as a half isn't closed, it is fed what the events tell of its stream's data.
+/// As long as a half isn't closed, it is fed all data that the events have of its stream.
 pub fn fed_while_open()
     ensures { (id : ℕ) (told : List Step) → closing_by id told ≡ None
         → fed_by id told ≡ pieces id (events_of told) }
 {}
 
-/// However it was closed, what it is fed begins the data that the events tell of its stream.
+/// However a half was closed, what it is fed begins the data that the events have of its stream.
 pub fn fed_front()
     ensures { (id : ℕ) (told : List Step) → IsPrefix (fed_by id told) (pieces id (events_of told)) }
 {}
 
-/// A half that ends was fed all data that were told before the end, and no other end was told before it.
+/// A half that ends was fed all data that came before the end, and no other end came before it.
 pub fn ended_whole()
     ensures { (id : ℕ) (told : List Step) → shut_by id told ≡ Some shut.End →
         (before : List InEventOf) × (after : List InEventOf)
@@ -40,7 +55,8 @@ pub fn ended_whole()
         × (fed_by id told ≡ pieces id before) × (ending_told id (events_of told) ≡ Finished) }
 {}
 
-/// Where END_STREAM is the first end that is told of a call, its half was let go before, if it was closed otherwise.
+/// Where END_STREAM is the first end of a call's stream, but the half was closed in another way, a
+/// step before END_STREAM let the half go.
 pub fn let_go_before()
     ensures { (id : ℕ) (closing : Closing) (told : List Step) → closing ≢ ShutAs shut.End
         → list_any (nat_eq id) (admitted told) ≡ true
@@ -48,7 +64,7 @@ pub fn let_go_before()
         → closing_by id (since id told) ≡ Some closing → WasLetGo id closing told }
 {}
 
-/// What was heard since a call was admitted are the events after the one that its stream begins with.
+/// The events since a call was admitted are those after the one with which its stream begins.
 pub fn since_opening()
     ensures { (id : ℕ) (told : List Step) → list_any (nat_eq id) (admitted told) ≡ true →
         (before : List InEventOf) × (head : Head)
@@ -61,7 +77,7 @@ pub fn admitted_head()
         → IsSome (head_of id told) }
 {}
 
-/// Where ids rise, a stream has no other call: the head with which one was admitted stays that of its call.
+/// Where ids rise, a stream has one call: the head with which it was admitted stays the call's.
 pub fn one_head()
     ensures { (id : ℕ) (head : Head) (later before : List Step)
         → IsRising (later ++ Told (events.Open id head) Admitted ∷ before) →
@@ -75,8 +91,9 @@ pub fn head_opens()
         × (events_of told ≡ before ++ events.Open id head ∷ events_of (since id told)) }
 {}
 
-/// What a call was fed since it was admitted begins the data of its stream, by the frames of the bytes that came, and is all of
-/// them where its half ended; so it is wherever the reader stopped hearing the events of these bytes.
+/// What a call was fed begins the data of its stream, by the frames of the bytes that came, and is
+/// all of them where its half ended. This holds wherever the reader stopped hearing the events of
+/// these bytes.
 pub fn call_data()
     ensures { (came : List ℕ) (given : List InEventOf) (entries : List Entry) (told : List Step)
         (id : ℕ) →
@@ -84,9 +101,11 @@ pub fn call_data()
         list_any (nat_eq id) (admitted told) ≡ true → HasStreamData id (since id told) entries }
 {}
 
-/// Where END_STREAM ended the stream of a call and all events of the bytes that came were heard, its half ended and was fed all
-/// data, or a step before END_STREAM let it go: a piece of its data was lost, or no more of it was heard; or it was closed, and its
-/// trailers are malformed. No RST_STREAM of the client did, and no other error of the stream.
+/// Where END_STREAM ended the stream of a call, and all events of the bytes that came were heard,
+/// one of three holds. The half ended and was fed all data. Or a step before END_STREAM let the
+/// half go: a piece of its data was lost, or no more of it was heard. Or the half was closed and
+/// its trailers are malformed. No RST_STREAM of the client and no other error of the stream closed
+/// it.
 pub fn call_end()
     ensures { (came : List ℕ) (given : List InEventOf) (entries : List Entry) (told : List Step)
         (id : ℕ) →
@@ -95,9 +114,10 @@ pub fn call_end()
         → HasEnd id told entries }
 {}
 
-/// Of a call, by the fields of `IsSettled`: its account was fed a front of its stream's data, by the frames that
-/// count, and all of them where its half ended. Where END_STREAM ended the stream and all that came was heard, the half ended; or
-/// it was reset, and a reset of the stream that is to be written was ordered; or the call missed data.
+/// By the fields of `IsSettled`, a call was fed a front of its stream's data, by the frames that
+/// count, and all of them where its half ended. Where END_STREAM ended the stream and all that came
+/// was heard, the half ended; or it was reset, and a reset of the stream that is to be written was
+/// ordered; or the call missed data.
 pub fn account_by_frames()
     ensures { (end : Ended) (came : List ℕ) (told : List Step) (orders : List Order)
         (given : List InEventOf) (entries : List Entry) (id : ℕ) (account : Account) →
@@ -107,8 +127,9 @@ pub fn account_by_frames()
         Events came given → Framed came given entries → HasFrames end entries orders id account }
 {}
 
-/// Where the half of a call was reset, though END_STREAM or an error of its stream was told, a reset of the stream that is to be written is among the
-/// orders that the steps lead to, as long as none of them ends the connection.
+/// Where the half of a call was reset, though END_STREAM or an error of its stream came, a reset of
+/// the stream that is to be written is among the orders that the steps lead to, as long as no step
+/// ends the connection.
 pub fn reset_is_ordered()
     ensures { (told : List Step) (id : ℕ) → AreCalm told → is_admitted id told ≡ true
         → WasResetFor told (orders_by told) id }

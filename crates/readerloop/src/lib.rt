@@ -1,14 +1,18 @@
-//! What the reading side of a connection decides, without threads: it hears the events of the connection, each with what the
-//! connection's lock answered to it, and says what each call is fed, how its half is shut, and what is ordered of the writing side.
+//! What the reading side of a connection decides, without threads. It hears the events of the
+//! connection, each with what the connection's lock answered to it. It decides what each call is
+//! fed, how its half is shut, and what the writing side is ordered to do.
 //!
-//! A call begins here, where its lanes and their four ends are made, and is settled here, once all four are back.
+//! A call begins here, where its lanes and their four ends are made, and is settled here, once all
+//! four are back.
 //!
-//! The contracts say it of lists of steps. `specs/Steps.antt` says what a call's half is fed by them and how it is closed,
-//! `specs/Orders.antt` which orders they lead to, exactly, and `specs/Reports.antt` on what the account of a call stands.
+//! The contracts speak of lists of steps. `specs/Steps.antt` says what they feed a call's half and
+//! how they close it, `specs/Orders.antt` exactly which orders they lead to, and
+//! `specs/Reports.antt` what the account of a call rests on.
 //!
-//! - `half`: the half of a call that its client sends; `call`: a call, as the reading side has it; `calls`: all of them.
+//! - `half`: the half of a call that its client sends; `call`: one call; `calls`: all of them.
 //! - `seats`: the workers, each by a ring of tasks and a ring of finished calls.
-//! - `reading`: what is decided of each event; `decided`: how that is told; `laws`: what follows from the definitions.
+//! - `reading`: what is decided of each event; `decided`: the form of a decision; `laws`: what
+//!   follows from the definitions.
 #![tactic(auto)]
 
 pub mod call;

@@ -1,17 +1,47 @@
 //! What the reading side of a connection decides.
 //!
-//! It hears the events of the connection one after another, each with what the lock answered to it, and decides what is ordered
-//! of the writing side, what each call is fed, and how each half is shut. `specs/Orders.antt` says which orders a step leads to,
-//! `specs/Steps.antt` what a half is fed and how it is closed; each function here does what they say of one step, and no more.
+//! `specs/Orders.antt` says which orders a step leads to, and `specs/Steps.antt` what a half is fed
+//! and how it is closed. Each function here does what they say of one step, and no more.
 //!
-//! An order that resets a stream is to be put before its call sees the reset. So the half that a decision shuts is named in it
-//! (`Decided::cut`), and shut by `Reading::shut` once the order was put.
+//! An order that resets a stream is to be put before its call sees the reset. So a decision names
+//! the half that it shuts (`Decided::cut`), and `Reading::shut` shuts it once the order was put.
 
-ghost use Rattle.std.specs.Prelude.{◌≡◌, ◌⊎◌, ◌<◌, ℕ, List, [], ◌∷◌, ◌++◌, true, false, length, Option, None, Some, IfErr, IfNone, IfOk, IfSome, IsSomeAnd, OnErr, OnOk, option_map, slice_get, vec_capacity, vec_len};
+ghost use Rattle.std.specs.Prelude.{
+  ◌≡◌,
+  ◌⊎◌,
+  ◌<◌,
+  ℕ,
+  List,
+  [],
+  ◌∷◌,
+  ◌++◌,
+  true,
+  false,
+  length,
+  Option,
+  None,
+  Some,
+  IfErr,
+  IfNone,
+  IfOk,
+  IfSome,
+  IsSomeAnd,
+  OnErr,
+  OnOk,
+  option_map,
+  slice_get,
+  vec_capacity,
+  vec_len,
+};
 ghost use Rattle.callhead.specs.declared.head.CallHead.{CallHead as Head};
 ghost use Rattle.callhead.specs.StatusFields.{refusal_of, unknown_method as unknown_fields};
 ghost use mathlib.Core.List.{IsPrefix};
-ghost use Rattle.lane.specs.Ring.{in_name as way_in, out_name as way_out, put_in as put_home, taken};
+ghost use Rattle.lane.specs.Ring.{
+  in_name as way_in,
+  out_name as way_out,
+  put_in as put_home,
+  taken,
+};
 ghost use Rattle.lane.specs.RingLane.{got, in_name, out_name, put_in};
 ghost use Rattle.callparts.specs.Blocks.{items_of};
 ghost use Rattle.callparts.specs.Workers.{IsFreshWork};
@@ -24,11 +54,59 @@ ghost use Rattle.outwriter.specs.declared.control.Control.TheVariants as orders;
 ghost use Rattle.session.specs.declared.event.InEvent.TheVariants as events;
 ghost use Rattle.readerloop.specs.Calls.{HasReturned, Sent, carried_in};
 ghost use Rattle.readerloop.specs.Kept.{Kept, fed_at, unsettled};
-ghost use Rattle.readerloop.specs.Orders.{begun, ends_at, last_stream, named, named_with, news_of, orders_at, without_head};
-ghost use Rattle.readerloop.specs.Readings.{Awaits, Begins, CollectsTo, Counts, Decides, DecidesOn, HasCollected, HasSameRest, IsNext, KeepsNext, MayMiss, Opens, Reads, ReadsOn, Stays, fate_of, goaway_in, order_in, refused_by, unless_ended};
+ghost use Rattle.readerloop.specs.Orders.{
+  begun,
+  ends_at,
+  last_stream,
+  named,
+  named_with,
+  news_of,
+  orders_at,
+  without_head,
+};
+ghost use Rattle.readerloop.specs.Readings.{
+  Awaits,
+  Begins,
+  CollectsTo,
+  Counts,
+  Decides,
+  DecidesOn,
+  HasCollected,
+  HasSameRest,
+  IsNext,
+  KeepsNext,
+  MayMiss,
+  Opens,
+  Reads,
+  ReadsOn,
+  Stays,
+  fate_of,
+  goaway_in,
+  order_in,
+  refused_by,
+  unless_ended,
+};
 ghost use Rattle.readerloop.specs.Reports.{AreAccounts, IsSettled};
 ghost use Rattle.readerloop.specs.Seats.{HasPlaces, HasPlacesAt};
-ghost use Rattle.readerloop.specs.Steps.{Admitted, CutOff, Drains, Lacking, Lacks, NoWorker, Plain, Received, Step, Stopped, Told, TurnedAway, Unknown, Unserved, WasTold, is_draining, reported};
+ghost use Rattle.readerloop.specs.Steps.{
+  Admitted,
+  CutOff,
+  Drains,
+  Lacking,
+  Lacks,
+  NoWorker,
+  Plain,
+  Received,
+  Step,
+  Stopped,
+  Told,
+  TurnedAway,
+  Unknown,
+  Unserved,
+  WasTold,
+  is_draining,
+  reported,
+};
 
 use crate::call::Call;
 use crate::calls::Calls;
@@ -53,16 +131,17 @@ use session::Control as PeerControl;
 use std::alloc::{AllocError, Global};
 use std::sync::Arc;
 
-/// How many streams a client may begin (`flow::Halves`); at the last of them it is told to open no more.
+/// How many streams a client may begin (`flow::Halves`). At the last of them GOAWAY asks it to open
+/// no more.
 const STREAMS: u32 = 4096;
 
-/// Room for the pieces of a call's DATA: as many as the bytes that a window lets through.
+/// Room for the pieces of a call's DATA: one for each byte that a window lets through.
 const IN_ROOM: usize = 65_536;
 
-/// Room for what a call is answered with: so many messages wait at most to be written.
+/// Room for the replies of a call: this many messages at most wait to be written.
 const OUT_ROOM: usize = 16;
 
-/// The ends of the lanes of a call that begins: that which feeds it, those that its worker is handed, and its sender.
+/// The ends of the lanes of a call that begins: the feeder, those for its worker, and the sender.
 #[derive(Drop)]
 struct Ends<J: Naming> {
     feeder: Feeder<InLane>,
@@ -76,24 +155,25 @@ pub struct Reading<J: Naming, M: Answering> {
     alloc: Global,
     pub(crate) calls: Calls<J>,
     pub(crate) seats: Seats<J, M>,
-    /// All calls whose lanes were opened.
+    /// All calls whose lanes were opened, ever.
     register: Register<J>,
     front: Front<J>,
-    /// The way back of the senders.
+    /// The ring on which the senders come back.
     pub(crate) home: RingOut<Returning<J>>,
     /// Whether no more calls are admitted.
     pub(crate) is_draining: bool,
-    /// What a GOAWAY names (RFC 9113, section 6.8): the greatest stream that was begun, or once the server drains the greatest
-    /// whose call was admitted; 0 for none.
+    /// The last stream of a GOAWAY (RFC 9113, section 6.8): the greatest that was begun, or once
+    /// the server drains the greatest whose call was admitted; 0 for none.
     pub(crate) last: StreamId,
-    /// How many were begun, up to `STREAMS`.
+    /// How many streams were begun, up to `STREAMS`.
     pub(crate) begun: u32,
     /// Whether the peer opens no more streams.
     pub(crate) peer_goaway: bool,
 }
 
 impl<J: Naming, M: Answering> Reading<J, M> {
-    /// That of a new connection, with an empty register, to which senders come back on this way. It takes no memory.
+    /// The reading side of a new connection, with an empty register and the ring on which senders
+    /// come back. It takes no memory.
     pub fn new(
         alloc: Global,
         register: Register<J>,
@@ -121,9 +201,9 @@ impl<J: Naming, M: Answering> Reading<J, M> {
 
     // ---- a stream that begins
 
-    /// A stream begins with the head of a call. `index` is the method that its path names, if one has it, `opened` the moment. A call
-    /// of a method is to be admitted by the lock, and there is room for its account; any other is refused. Once the server drains each is
-    /// turned away.
+    /// A stream begins with the head of a call, at the moment `opened`. `index` is the method that
+    /// its path names, if any. The lock is to admit a call of a method, and there is room for its
+    /// account; any other call is refused. Once the server drains each call is turned away.
     pub fn open(
         &mut self,
         id: StreamId,
@@ -140,7 +220,7 @@ impl<J: Naming, M: Answering> Reading<J, M> {
             (Told (events.Open id head)
             (unless_ended decided.ends (refused_by self.old.is_draining)))
             decided self.old self.new) }
-        // Only a call of no method is refused as one.
+        // Only a call whose path names no method is refused as such.
         ensures unnamed { IfErr result (λ decided. decided.ends ≡ None
             → self.old.is_draining ≡ false → index ≡ None) }
         ensures home { self.new.home ≡ self.old.home }
@@ -165,7 +245,7 @@ impl<J: Naming, M: Answering> Reading<J, M> {
         })
     }
 
-    /// Refuses a call whose path no method has.
+    /// Refuses a call whose path names no method.
     fn refuse_unknown(&mut self, id: StreamId) -> Decided<J>
         ensures decides { (head : Head) → DecidesOn M.known M.names
             (Told (events.Open id head) (unless_ended result.ends Unknown)) result self.old
@@ -202,7 +282,7 @@ impl<J: Naming, M: Answering> Reading<J, M> {
         self.seats.free()
     }
 
-    /// Whether there are as many workers as there may be.
+    /// Whether there are 64 workers, which is the most.
     pub fn is_full(&self) -> bool
         ensures room { result ≡ false → length self.now.seats.seats.items < 64 }
     {
@@ -227,7 +307,8 @@ impl<J: Naming, M: Answering> Reading<J, M> {
         self.seats.add(seat)
     }
 
-    /// Hands a call that was admitted to the worker of this number, which is free. Without memory for its lanes it isn't served.
+    /// Hands a call that was admitted to the worker of this number, which is free. Without memory
+    /// for its lanes the call isn't served.
     pub fn engage(&mut self, number: usize, request: Request) -> Result<Decided<J>, AllocError>
         requires named { M.names request.head.path request.index }
         requires next { IsNext request.id self.old }
@@ -245,7 +326,8 @@ impl<J: Naming, M: Answering> Reading<J, M> {
         Ok(self.begin(id, Control::Open(id, opening)))
     }
 
-    /// Opens the lanes of a call, and hands two of their ends to its worker. That for the writing side.
+    /// Opens the lanes of a call, and hands two of their ends to its worker. Answers what the
+    /// writing side gets of it.
     fn start(&mut self, number: usize, request: Request) -> Result<Opening<J>, AllocError>
         requires named { M.names request.head.path request.index }
         requires next { IsNext request.id self.old }
@@ -266,7 +348,8 @@ impl<J: Naming, M: Answering> Reading<J, M> {
         self.start_in_room(number, request)
     }
 
-    /// The same where there is room for the call.
+    /// Opens the lanes of a call for which there is room, and hands two of their ends to its
+    /// worker. Answers what the writing side gets of it.
     fn start_in_room(&mut self, seat: usize, request: Request) -> Result<Opening<J>, AllocError>
         requires named { M.names request.head.path request.index }
         requires next { IsNext request.id self.old }
@@ -300,7 +383,8 @@ impl<J: Naming, M: Answering> Reading<J, M> {
         Arc::try_clone(line)
     }
 
-    /// Enters a call among those that aren't settled, for which there is room, and hands it to its worker, which is free.
+    /// Adds a call, for which there is room, to those that aren't settled, and hands it to its
+    /// worker, which is free.
     fn enter(&mut self, seat: usize, feeder: Feeder<InLane>, job: Job<J>)
         requires named { M.names job.work.request.head.path job.work.request.index }
         requires next { IsNext job.work.request.id self.old }
@@ -334,7 +418,8 @@ impl<J: Naming, M: Answering> Reading<J, M> {
         self.seats.hand(seat, job);
     }
 
-    /// No worker could be started for a call of this method, which was admitted: its account says so, and the connection ends.
+    /// No worker could be started for a call of this method, which was admitted: its account says
+    /// so, and the connection ends.
     pub fn lose(&mut self, id: StreamId, method: usize) -> Decided<J>
         requires next { IsNext id self.old }
         ensures memory { result.ends ≡ Some ending.OutOfMemory }
@@ -374,7 +459,7 @@ impl<J: Naming, M: Answering> Reading<J, M> {
         }
     }
 
-    /// A stream begins, and this is ordered.
+    /// A stream begins with this order.
     fn begin(&mut self, id: StreamId, order: Order<J>) -> Decided<J>
         ensures ends { result.ends ≡ None }
         ensures order { result.order ≡ Some order }
@@ -403,7 +488,7 @@ impl<J: Naming, M: Answering> Reading<J, M> {
         self.end_at(id)
     }
 
-    /// A stream begins, with which the connection ends.
+    /// A stream begins, and the connection ends with it.
     fn end_at(&mut self, id: StreamId) -> Decided<J>
         ensures memory { result.ends ≡ Some ending.OutOfMemory }
         ensures ends { (sent : List Sent) (told : List Step) (step : Step)
@@ -423,7 +508,8 @@ impl<J: Naming, M: Answering> Reading<J, M> {
         }
     }
 
-    /// Counts a stream that begins. With the last that a client may begin, it is told to open no more, unless the server drains.
+    /// Counts a stream that begins. At the last that a client may begin it answers the stream of a
+    /// GOAWAY, unless the server drains.
     fn count(&mut self, id: StreamId) -> Option<StreamId>
         ensures counts { (last : ℕ) (ids : List ℕ) → Counts last ids self.old
             → Counts (named_with id self.old.is_draining last) (id ∷ ids) self.new
@@ -446,7 +532,7 @@ impl<J: Naming, M: Answering> Reading<J, M> {
 
     // ---- what comes on a stream
 
-    /// DATA came on a stream, of which the lock said this.
+    /// DATA came on a stream, and `receipt` is what the lock said of it.
     pub fn data(&mut self, id: StreamId, piece: Bytes, receipt: Receipt) -> Decided<J>
         ensures decides { (counted : ℕ) → DecidesOn M.known M.names
             (Told (events.Data id piece counted) (fate_of receipt result.order result.ends))
@@ -473,7 +559,8 @@ impl<J: Naming, M: Answering> Reading<J, M> {
         }
     }
 
-    /// Feeds a piece to its call. One that its lane refuses resets the stream; where there is no memory for it the connection ends.
+    /// Feeds a piece to its call. If the call's lane refuses the piece the stream is reset; without
+    /// memory for it the connection ends.
     fn feed(&mut self, id: StreamId, piece: Bytes) -> Decided<J>
         ensures decides { (counted : ℕ) → DecidesOn M.known M.names
             (Told (events.Data id piece counted) (fate_of Feed result.order result.ends))
@@ -492,7 +579,8 @@ impl<J: Naming, M: Answering> Reading<J, M> {
         }
     }
 
-    /// A piece wasn't fed. Where its lane refused it the stream is reset; where there was no memory for it the connection ends.
+    /// A piece wasn't fed. If the call's lane refused it the stream is reset; if there was no
+    /// memory for it the connection ends.
     fn refuse_piece(&self, id: StreamId, fault: FeedFault) -> Decided<J>
         ensures decides { (piece : List ℕ) (counted : ℕ) → DecidesOn M.known M.names
             (Told (events.Data id piece counted) (fate_of Feed result.order result.ends))
@@ -513,7 +601,7 @@ impl<J: Naming, M: Answering> Reading<J, M> {
         }
     }
 
-    /// A piece came that no call takes. Where it isn't padding alone its call misses it.
+    /// A piece came that no call takes. Unless it is padding alone, its call misses it.
     fn miss(&mut self, id: StreamId, piece: &Bytes) -> Decided<J>
         ensures decides { (counted : ℕ) → DecidesOn M.known M.names
             (Told (events.Data id piece.now counted) (Received Discard)) result self.old self.new }
@@ -535,7 +623,7 @@ impl<J: Naming, M: Answering> Reading<J, M> {
         self.calls.miss::<M>(id);
     }
 
-    /// Bytes came that count on the connection alone, of which the lock said this.
+    /// Bytes came that count on the connection alone, and `receipt` is what the lock said of them.
     pub fn loose(&self, receipt: Receipt) -> Decided<J>
         ensures decides { (counted : ℕ) → DecidesOn M.known M.names
             (Told (events.Loose counted) (Received receipt)) result self.now self.now }
@@ -571,7 +659,7 @@ impl<J: Naming, M: Answering> Reading<J, M> {
         Decided::reset(id, code, true)
     }
 
-    /// The half of a call is shut, as was decided.
+    /// Shuts the half of a call, as was decided.
     pub fn shut(&mut self, cut: Cut)
         ensures heard { (sent : List Sent) (told : List Step) (step : Step)
             → Awaits M.known M.names (carried_in sent) told step cut self.old
@@ -586,7 +674,7 @@ impl<J: Naming, M: Answering> Reading<J, M> {
 
     // ---- what comes on the connection
 
-    /// What the peer tells the writing side.
+    /// Passes on to the writing side what the peer says to it.
     pub fn pass_on(&self, news: PeerControl) -> Decided<J>
         ensures decides { DecidesOn M.known M.names
             (Told (events.Control news) Plain) result self.now self.now }
@@ -618,7 +706,8 @@ impl<J: Naming, M: Answering> Reading<J, M> {
         }
     }
 
-    /// There was no memory for what came: the connection ends, with INTERNAL_ERROR (RFC 9113, section 5.4.1).
+    /// There was no memory for what came: the connection ends, with INTERNAL_ERROR (RFC 9113,
+    /// section 5.4.1).
     pub fn run_out(&self) -> Decided<J>
         ensures order { (result.goaway ≡ None)
             × (result.order ≡ Some (orders.Goaway self.now.last reason.Memory)) }
@@ -631,7 +720,8 @@ impl<J: Naming, M: Answering> Reading<J, M> {
         }
     }
 
-    /// The order that ends the connection for this reason, or by which the peer learns that the server drains.
+    /// The GOAWAY that ends the connection for this reason, or by which the peer learns that the
+    /// server drains.
     fn goaway(&self, reason: Reason) -> Order<J>
         ensures order { result ≡ orders.Goaway self.now.last reason }
     {
@@ -643,8 +733,8 @@ impl<J: Naming, M: Answering> Reading<J, M> {
 
     // ---- the end while calls go on
 
-    /// The server is to stop while its calls go on: no more are admitted, and GOAWAY names the greatest stream of those that were
-    /// (RFC 9113, section 6.8).
+    /// The server drains: no more calls are admitted, and GOAWAY names the greatest stream whose
+    /// call was (RFC 9113, section 6.8).
     pub fn drain(&mut self) -> Decided<J>
         ensures decides { DecidesOn M.known M.names Drains result self.old self.new }
         ensures ends { result.ends ≡ None }
@@ -719,7 +809,8 @@ impl<J: Naming, M: Answering> Reading<J, M> {
         true
     }
 
-    /// Takes a sender that comes back on another way: its order wasn't put, or the writing side has ended.
+    /// Takes a sender that doesn't come back through the ring: its order wasn't put, or the writing
+    /// side has ended.
     pub fn take_back(&mut self, returning: Returning<J>)
         ensures stays { (sent : List Sent) (told : List Step)
             → HasReturned (carried_in sent) returning.sending.value
@@ -732,7 +823,8 @@ impl<J: Naming, M: Answering> Reading<J, M> {
         self.calls.take_back::<M>(returning);
     }
 
-    /// Settles a call that is over, if there is one: its account is final.
+    /// Settles a call that is over, if there is one. Its account is final: what was fed and how the
+    /// half was shut is what was heard of it, and what was sent is what its sender got.
     pub fn settle_next(&mut self) -> Option<CallAccount>
         ensures settled { IfSome result (λ account. (sent : List Sent)
             (told : List Step) → Reads M.known M.names (carried_in sent) told self.old
@@ -752,8 +844,8 @@ impl<J: Naming, M: Answering> Reading<J, M> {
         self.calls.len()
     }
 
-    /// After the end of the input: a call that its client neither ended nor reset is cancelled. `place` is its place among those that
-    /// aren't settled.
+    /// After the end of the input: cancels a call whose half the client neither ended nor reset.
+    /// `place` is its place among those that aren't settled.
     pub fn cut_off(&self, place: usize) -> Option<Decided<J>>
         ensures decides { IfSome result (λ decided. IsSomeAnd decided.cut (λ cut.
             DecidesOn M.known M.names (CutOff cut.id) decided self.now self.now)) }
@@ -768,7 +860,7 @@ impl<J: Naming, M: Answering> Reading<J, M> {
 
     // ---- the end
 
-    /// How the connection has ended where its input has, or where the server drains and no call is live.
+    /// How the connection ended: its input has, or the server drains and no call is live.
     pub fn ending(&self) -> Ending
         ensures input { (result ≡ ending.InputEnded)
             ⊎ ((result ≡ ending.PeerGoaway) ⊎ (result ≡ ending.Drained)) }
@@ -803,14 +895,15 @@ impl<J: Naming, M: Answering> Reading<J, M> {
         self.seats.end();
     }
 
-    /// The worker of this number has ended, and handed back its ends of the rings.
+    /// The worker of this number has ended, and hands back its ends of the rings.
     pub fn meet(&mut self, number: usize, tasks: TasksOut<J>, done: DoneIn<J, M>)
         ensures rest { self.new ≡ record self.old { seats = self.new.seats } }
     {
         self.seats.meet(number, tasks, done);
     }
 
-    /// The writing side has ended, and handed back its end of the way home: what was taken from it begins what was put.
+    /// The writing side has ended, and hands back its end of the ring of senders: what was taken
+    /// from the ring begins what was put.
     pub fn meet_home(&mut self, home: RingIn<Returning<J>>)
         requires way { way_in home ≡ way_out self.old.home }
         ensures came { IsPrefix (taken self.old.home) (put_home home) }
@@ -820,7 +913,8 @@ impl<J: Naming, M: Answering> Reading<J, M> {
         Ring::meet(&mut home, &mut self.home);
     }
 
-    /// The accounts of all calls that were admitted.
+    /// The accounts of the calls: one for each that was admitted, and no other, in the order of
+    /// their admission. It is so only once no call is left to settle.
     pub fn into_accounts(self) -> Accounts
         ensures accounts { (sent : List Sent) (told : List Step)
             → Reads M.known M.names (carried_in sent) told self → unsettled self.calls ≡ []
@@ -862,7 +956,7 @@ fn open_lanes<J: Naming>(
     Ok(ends)
 }
 
-/// The ends of a call that stands in the register: of its sender nothing was got.
+/// The ends of a call that is in the register: its sender has got nothing.
 fn ends_of<J: Naming>(
     alloc: Global,
     feeder: Feeder<InLane>,
@@ -887,7 +981,7 @@ fn ends_of<J: Naming>(
     })
 }
 
-/// Enters a call in the register: with its number.
+/// Enters a call in the register, and answers its number.
 fn draw<J: Naming>(register: &Register<J>, front: &mut Front<J>, work: Work) -> Option<Job<J>>
     ensures { IfSome result (λ job. job.work ≡ work) }
 {
@@ -912,7 +1006,7 @@ fn box_sender<J: Naming>(
     Ok(sending)
 }
 
-/// What the peer tells the writing side, as an order.
+/// What the peer says to the writing side, as an order.
 fn order_of_news<J: Naming>(news: PeerControl) -> Order<J>
     ensures { order_of result ≡ news_of news }
 {
@@ -923,7 +1017,7 @@ fn order_of_news<J: Naming>(news: PeerControl) -> Order<J>
     }
 }
 
-/// How a call is refused whose path no method has.
+/// The refusal of a call whose path names no method.
 fn unknown<J: Naming>(alloc: Global, id: StreamId) -> Result<Order<J>, AllocError>
     ensures { IfOk result (λ order. order_of order ≡ orders.Refuse id unknown_fields) }
 {
@@ -931,7 +1025,7 @@ fn unknown<J: Naming>(alloc: Global, id: StreamId) -> Result<Order<J>, AllocErro
     Ok(Control::Refuse(id, Sequence::from(fields)))
 }
 
-/// How a stream is answered that begins without the head of a call.
+/// The answer to a stream that begins without the head of a call.
 fn without_head<J: Naming>(
     alloc: Global,
     id: StreamId,

@@ -1,6 +1,22 @@
 //! The workers of a connection, as its reading side has them.
 
-ghost use Rattle.std.specs.Prelude.{◌≡◌, ◌<◌, ◌≤◌, ℕ, true, false, None, Some, IfSome, IsSome, OnOk, slice_get, vec_capacity, vec_len, length};
+ghost use Rattle.std.specs.Prelude.{
+  ◌≡◌,
+  ◌<◌,
+  ◌≤◌,
+  ℕ,
+  true,
+  false,
+  None,
+  Some,
+  IfSome,
+  IsSome,
+  OnOk,
+  slice_get,
+  vec_capacity,
+  vec_len,
+  length,
+};
 ghost use Rattle.rtrb.specs.Ring.{IsPair, known_free, sent};
 ghost use Rattle.callparts.specs.Workers.{IsFreshWork};
 ghost use Rattle.readerloop.specs.Calls.{HasAnswered};
@@ -16,13 +32,13 @@ pub struct Seat<J: Naming, M: Answering> {
     line: Arc<Line>,
     pub(crate) tasks: TasksIn<J>,
     done: DoneOut<J, M>,
-    /// Whether it was handed no call that didn't come back.
+    /// Whether each call that it was handed came back.
     is_free: bool,
-    /// Whether it was told that no more calls come.
+    /// Whether it knows that no more calls come.
     is_ended: bool,
     /// Whether its bell is still to be rung.
     is_noted: bool,
-    /// Until then there is a place for that word.
+    /// Until it knows, its ring has a place for that word.
     ghost place_for_end: { is_ended ≡ false → 0 < known_free tasks },
 }
 
@@ -83,14 +99,14 @@ impl<J: Naming, M: Answering> Seat<J, M> {
         Some(finished)
     }
 
-    /// Tells it that no more calls come, and rings its bell.
+    /// Sends it word that no more calls come, and rings its bell.
     fn end(&mut self) {
         self.tell_end();
         self.is_noted = true;
         self.ring_noted();
     }
 
-    /// Tells it that no more calls come, unless it was told.
+    /// Sends it word that no more calls come, unless it knows.
     fn tell_end(&mut self) {
         if self.is_ended {
             return;
@@ -107,14 +123,15 @@ impl<J: Naming, M: Answering> Seat<J, M> {
         }
     }
 
-    /// Where it has ended, and handed back its ends of the rings: it took all that it was handed, and what it has handed back is there.
+    /// It has ended, and hands back its ends of the rings: it took all that it was handed, and what
+    /// it handed back is there.
     pub(crate) fn meet(&mut self, tasks: TasksOut<J>, done: DoneIn<J, M>) {
         let _tasks = tasks;
         let _done = done;
     }
 }
 
-/// All workers, at most as many as calls may be live.
+/// All workers: at most 64, the most calls that may be live.
 #[derive(Drop)]
 pub struct Seats<J: Naming, M: Answering> {
     pub(crate) seats: Vec<Seat<J, M>>,
@@ -136,7 +153,7 @@ impl<J: Naming, M: Answering> Seats<J, M> {
         self.seats.len()
     }
 
-    /// Whether there are as many as there may be.
+    /// Whether there are 64.
     pub(crate) fn is_full(&self) -> bool
         ensures room { result ≡ false → length self.now.seats.items < 64 }
     {
@@ -205,7 +222,8 @@ impl<J: Naming, M: Answering> Seats<J, M> {
         self.seats.get_mut(number)?.finished()
     }
 
-    /// The bell of this worker is to be rung once all that came with this is there.
+    /// Notes that this worker's bell is to be rung, once all that came with the present bytes is
+    /// there.
     pub(crate) fn note(&mut self, number: Option<usize>) {
         if let Some(number) = number {
             if let Some(seat) = self.seats.get_mut(number) {
@@ -228,7 +246,7 @@ impl<J: Naming, M: Answering> Seats<J, M> {
         }
     }
 
-    /// The worker of this number has ended, and handed back its ends of the rings.
+    /// The worker of this number has ended, and hands back its ends of the rings.
     pub(crate) fn meet(&mut self, number: usize, tasks: TasksOut<J>, done: DoneIn<J, M>) {
         if let Some(seat) = self.seats.get_mut(number) {
             seat.meet(tasks, done);

@@ -9,8 +9,30 @@ use Rattle.h2frame.specs.declared.setting.SettingId.TheVariants as setting
 use Rattle.hpack_codec.specs.declared.fault.HpackFault.{HpackFault}
 use Rattle.hpack_codec.specs.declared.fault.HpackFault.TheVariants as hpack
 use Rattle.reasons.specs.declared.Reason.{Reason}
-use Rattle.reasons.specs.declared.Reason.TheVariants.{Code, Preface, First, Frame, Push, Lone, Interrupted, BlockTooLong, Hpack, Setting, Stream, Overrun, Window, Memory}
-use Rattle.reasons.specs.Texts.{text_of, max_text, frame_text, hpack_text, setting_text, unbegun_text}
+use Rattle.reasons.specs.declared.Reason.TheVariants.{
+  Code,
+  Preface,
+  First,
+  Frame,
+  Push,
+  Lone,
+  Interrupted,
+  BlockTooLong,
+  Hpack,
+  Setting,
+  Stream,
+  Overrun,
+  Window,
+  Memory,
+}
+use Rattle.reasons.specs.Texts.{
+  text_of,
+  max_text,
+  frame_text,
+  hpack_text,
+  setting_text,
+  unbegun_text,
+}
 
 short-frame : (fault : FrameFault) → length (frame_text fault) ≤ max_text
 short-frame fault.TooLong = lit≤ tt

@@ -1,15 +1,37 @@
--- The code with which a connection ends, by the reason (RFC 9113, sections 4.3, 5.1, 5.4.1, 6.5.2, 6.9.1 and 7).
+-- The code with which a connection ends, by the reason (RFC 9113, sections 4.3, 5.1, 5.4.1, 6.5.2,
+-- 6.9.1 and 7).
 use Rattle.h2frame.specs.declared.error_code.ErrorCode.{ErrorCode}
-use Rattle.h2frame.specs.declared.error_code.ErrorCode.TheVariants.{ProtocolError, InternalError, FlowControlError, CompressionError, EnhanceYourCalm}
+use Rattle.h2frame.specs.declared.error_code.ErrorCode.TheVariants.{
+  ProtocolError,
+  InternalError,
+  FlowControlError,
+  CompressionError,
+  EnhanceYourCalm,
+}
 use Rattle.h2frame.specs.declared.setting.SettingId.{SettingId}
 use Rattle.h2frame.specs.declared.setting.SettingId.TheVariants.{InitialWindowSize}
 use Rattle.h2frame.specs.Faults.{fault_error}
 use Rattle.hpack_codec.specs.declared.fault.HpackFault.{HpackFault}
 use Rattle.hpack_codec.specs.declared.fault.HpackFault.TheVariants.{TooLarge}
 use Rattle.reasons.specs.declared.Reason.{Reason}
-use Rattle.reasons.specs.declared.Reason.TheVariants.{Code, Preface, First, Frame, Push, Lone, Interrupted, BlockTooLong, Hpack, Setting, Stream, Overrun, Window, Memory}
+use Rattle.reasons.specs.declared.Reason.TheVariants.{
+  Code,
+  Preface,
+  First,
+  Frame,
+  Push,
+  Lone,
+  Interrupted,
+  BlockTooLong,
+  Hpack,
+  Setting,
+  Stream,
+  Overrun,
+  Window,
+  Memory,
+}
 
--- a block that can't be read (section 4.3); what is larger than is taken calms the peer
+-- a block that can't be read (section 4.3); for one that is too large the code is ENHANCE_YOUR_CALM
 abbrev pub block_error : HpackFault → ErrorCode
 block_error TooLarge = EnhanceYourCalm
 block_error _ = CompressionError

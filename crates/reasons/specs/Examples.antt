@@ -1,6 +1,13 @@
 -- Worked examples of the definitions, computed.
 use Rattle.std.specs.Prelude.{◌≡◌, [], refl, codes}
-use Rattle.h2frame.specs.declared.error_code.ErrorCode.TheVariants.{NoError, ProtocolError, FrameSizeError, FlowControlError, CompressionError, EnhanceYourCalm}
+use Rattle.h2frame.specs.declared.error_code.ErrorCode.TheVariants.{
+  NoError,
+  ProtocolError,
+  FrameSizeError,
+  FlowControlError,
+  CompressionError,
+  EnhanceYourCalm,
+}
 use Rattle.h2frame.specs.declared.fault.FrameFault.TheVariants.{TooLong}
 use Rattle.h2frame.specs.declared.setting.SettingId.TheVariants.{EnablePush, InitialWindowSize}
 use Rattle.hpack_codec.specs.declared.fault.HpackFault.TheVariants.{Index, TooLarge}
@@ -8,7 +15,7 @@ use Rattle.reasons.specs.declared.Reason.TheVariants.{Code, First, Frame, Hpack,
 use Rattle.reasons.specs.Codes.{code_of}
 use Rattle.reasons.specs.Texts.{text_of}
 
--- a server that stops has no fault to tell
+-- a server that stops has no fault to report
 pub nothing_to_tell : text_of (Code NoError) ≡ []
 nothing_to_tell = refl
 

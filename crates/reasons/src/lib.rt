@@ -1,12 +1,19 @@
-//! Why a server ends a connection, as it tells its client in GOAWAY (RFC 9113, sections 5.4.1 and 6.8): the code, and
-//! beside it the debug data, one line of English, which is for the author of the client. The texts are those of the
+//! Why a server ends a connection, as GOAWAY has it (RFC 9113, sections 5.4.1 and 6.8): the code,
+//! and the debug data, one line of English for the author of the client. The texts are those of the
 //! log (`connlog`), without the figures of the connection.
 #![tactic(auto)]
 
 ghost use Rattle.std.specs.Prelude.{◌≡◌, ◌≤◌, length};
 ghost use Rattle.h2frame.specs.ErrorCode.{error_number};
 ghost use Rattle.reasons.specs.Codes.{code_of};
-ghost use Rattle.reasons.specs.Texts.{text_of, max_text, frame_text, hpack_text, setting_text, unbegun_text};
+ghost use Rattle.reasons.specs.Texts.{
+  text_of,
+  max_text,
+  frame_text,
+  hpack_text,
+  setting_text,
+  unbegun_text,
+};
 
 use h2frame::{ErrorCode, FrameFault, FrameKind, SettingId};
 use hpack_codec::HpackFault;
@@ -14,11 +21,11 @@ use hpack_codec::HpackFault;
 /// Why a connection ends.
 #[derive(Clone, Copy, Debug, PartialEq, Eq)]
 pub enum Reason {
-    /// Nothing is told but this code.
+    /// No reason but this code.
     Code(ErrorCode),
     /// The bytes depart from the preface.
     Preface,
-    /// Another frame than SETTINGS came first.
+    /// A frame other than SETTINGS came first.
     First,
     /// A frame can't be read.
     Frame(FrameFault),
@@ -28,17 +35,18 @@ pub enum Reason {
     Lone,
     /// Another frame came inside a header block.
     Interrupted,
-    /// A header block is longer than is taken.
+    /// A header block is longer than the server takes.
     BlockTooLong,
     /// A header block can't be read.
     Hpack(HpackFault),
     /// This parameter of SETTINGS has a value that it may not have.
     Setting(SettingId),
-    /// A frame of this type came on a stream where it is an error of the connection, with this code.
+    /// A frame of this type came on a stream where it is an error of the connection, with this
+    /// code.
     Stream(FrameKind, ErrorCode),
     /// DATA came past the connection's window.
     Overrun,
-    /// The peer makes a window of what is sent larger than one may be.
+    /// The peer makes a window of what is sent larger than 2^31 - 1 bytes.
     Window,
     /// There was no memory for what came.
     Memory,
@@ -147,7 +155,7 @@ fn setting_text(id: SettingId) -> &'static str
     }
 }
 
-/// Of a frame on a stream that wasn't begun.
+/// The text for a frame on a stream that wasn't begun.
 fn unbegun_text(kind: FrameKind) -> &'static str
     ensures text { result.now ≡ unbegun_text kind }
     ensures short { length result.now ≤ max_text }

@@ -14,7 +14,8 @@ abbrev pub talk_of : Notes → Option Conversation
 talk_of notes = notes.talk
 
 -- Where there is a capture, the records are of segments with these bytes.
-abbrev pub IsCaptured : Option Conversation → Time → Side → List ℕ → List ℕ → Option Conversation → Type 0
+abbrev pub IsCaptured : Option Conversation → Time → Side → List ℕ → List ℕ
+    → Option Conversation → Type 0
 IsCaptured None time side bytes text next = (text ≡ []) × (next ≡ None)
 IsCaptured (Some talk) time side bytes text None = ⊥
 IsCaptured (Some talk) time side bytes text (Some next) =

@@ -1,6 +1,18 @@
 //! The lines that wait for standard error, which nobody may read.
 
-ghost use Rattle.std.specs.Prelude.{◌≡◌, ◌≤◌, ◌+◌, ◌^◌, ◌<◌, ◌++◌, ◌⊎◌, IfSome, OnOk, OnErr, string_bytes};
+ghost use Rattle.std.specs.Prelude.{
+  ◌≡◌,
+  ◌≤◌,
+  ◌+◌,
+  ◌^◌,
+  ◌<◌,
+  ◌++◌,
+  ◌⊎◌,
+  IfSome,
+  OnOk,
+  OnErr,
+  string_bytes,
+};
 
 use lane::Bell;
 use std::alloc::{AllocError, Global};
@@ -16,11 +28,12 @@ const MOST_BYTES: usize = 64 << 20;
 /// How long is waited for a ring before it is looked again, in seconds.
 const LOOK: u64 = 60;
 
-/// The lines that wait for standard error. A thread of their own prints them, so a reader that pauses holds up no connection.
+/// The lines that wait for standard error. A thread of their own prints them, so a reader that
+/// pauses holds up no connection.
 #[derive(Drop)]
 pub struct Backlog {
     waiting: Mutex<Waiting>,
-    /// Rung where lines were left, where no more will come, and where the thread is over.
+    /// Rung when lines were left, when no more will come, and when the thread is over.
     bell: Bell,
     is_closed: AtomicBool,
     is_over: AtomicBool,
@@ -33,12 +46,13 @@ pub struct Backlog {
 struct Waiting {
     /// Whole lines.
     text: String,
-    /// How many were dropped behind them.
+    /// How many lines were dropped after them.
     dropped: usize,
 }
 
 impl Backlog {
-    /// Nothing waits yet. A thread prints what comes, until the backlog is finished or a line can't be printed.
+    /// Nothing waits yet. A thread prints what comes, until the backlog is finished or a line can't
+    /// be printed.
     pub fn begin<R>(rt: &R, alloc: Global) -> io::Result<Arc<Backlog>>
     where
         R: Threads + Wait + Eprint + Copy + Send + Sync + Drop + 'static,
@@ -61,7 +75,8 @@ impl Backlog {
         Ok(backlog)
     }
 
-    /// Leaves whole lines to be printed. Where too many wait they are counted, and so they are where there is no memory for them.
+    /// Leaves whole lines to be printed. If too many wait, or there is no memory for them, they are
+    /// counted.
     pub fn leave(&self, rt: &impl Wait, lines: &str) {
         if self.has_failed() {
             return;
@@ -75,7 +90,8 @@ impl Backlog {
         self.has_failed.load(Ordering::SeqCst)
     }
 
-    /// No more lines come. It returns once those that wait are printed, however long nobody reads them.
+    /// No more lines come. It returns once those that wait are printed, however long nobody reads
+    /// them.
     pub fn finish(&self, rt: &impl Wait) {
         self.is_closed.store(true, Ordering::SeqCst);
         self.bell.ring();
@@ -93,7 +109,7 @@ impl Backlog {
     fn print_all<R: Wait + Eprint>(&self, rt: &R, alloc: Global) {
         if let Err(error) = self.print_until_closed(rt, alloc) {
             self.has_failed.store(true, Ordering::SeqCst);
-            // Where this can't be said either, the exit status tells of it.
+            // If this can't be written either, the exit status reports it.
             let _said = eprintln!(rt; "interop: the trace can't be written: {error}");
         }
         self.is_over.store(true, Ordering::SeqCst);
@@ -115,7 +131,7 @@ impl Backlog {
     }
 }
 
-/// Prints lines, and behind them how many were dropped.
+/// Prints lines, and then how many were dropped.
 fn print_lines(rt: &impl Eprint, lines: &Waiting) -> io::Result<()> {
     let text = lines.text.as_str();
     eprint!(rt; "{text}")?;
@@ -131,7 +147,7 @@ fn print_lines(rt: &impl Eprint, lines: &Waiting) -> io::Result<()> {
 impl Waiting {
     /// Adds whole lines, or counts them.
     fn put(&mut self, lines: &str)
-        // They are behind those that wait, or none of them is.
+        // They are after those that wait, or none of them is.
         ensures whole { ((string_bytes self.new.text ≡ string_bytes self.old.text ++ lines.now)
             × (self.new.dropped ≡ self.old.dropped))
             ⊎ (string_bytes self.new.text ≡ string_bytes self.old.text) }
@@ -142,7 +158,7 @@ impl Waiting {
         }
     }
 
-    /// Adds whole lines, if there is room for them. Behind lines that were dropped there is none.
+    /// Adds whole lines, if there is room for them. After lines that were dropped there is none.
     fn add(&mut self, lines: &str) -> Result<(), AllocError>
         ensures added { OnOk result
             (string_bytes self.new.text ≡ string_bytes self.old.text ++ lines.now) }

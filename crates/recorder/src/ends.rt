@@ -25,7 +25,8 @@ impl Ends {
         }
     }
 
-    /// From the client to the server, as captures have it: over IPv6 where one of the addresses is of it.
+    /// From the client to the server, as captures have it: over IPv6 where one of the addresses is
+    /// of it.
     pub fn path(&self) -> Path {
         let hosts = match (self.client.ip(), self.server.ip()) {
             (IpAddr::V4(from), IpAddr::V4(to)) => Hosts::V4 {

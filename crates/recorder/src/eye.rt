@@ -103,7 +103,7 @@ impl<R: Wait + Clock + Eprint + Drop> Eye<R> {
         Ok(Eye { rt, watch })
     }
 
-    /// Another one of the same connection.
+    /// A second eye of this connection.
     pub fn try_clone(&self) -> Result<Eye<R>, AllocError>
     where
         R: Copy,
@@ -124,7 +124,8 @@ impl<R: Wait + Clock + Eprint + Drop> Eye<R> {
 }
 
 impl Watch {
-    /// Bytes have passed. All that is written of them is, before others pass in the other direction.
+    /// Bytes have passed. All that is written of them is, before others pass in the other
+    /// direction.
     fn see<R: Wait + Clock + Eprint>(&self, rt: &R, passage: Passage, bytes: &[u8]) {
         if bytes.is_empty() || self.recorder.has_failed() {
             return;
@@ -195,7 +196,7 @@ impl<R: Wait + Clock + Eprint + Drop> Drop for Eye<R> {
     }
 }
 
-/// Who looks at a connection that begins, where there is a recorder, and memory for it.
+/// The eye of a connection that begins, if there is a recorder, and memory for it.
 pub fn look<R>(rt: R, recorder: &Option<Arc<Recorder>>, sight: Sight<'_>) -> Option<Eye<R>>
 where
     R: Wait + Clock + Eprint + Copy + Drop,
@@ -205,7 +206,8 @@ where
     look_by(rt, recorder, sight, None)
 }
 
-/// The same of a connection that a server begins to serve. Its bytes go into a file of their own, where there is a folder for these.
+/// An eye of a connection that a server begins to serve. The connection's bytes go into a file of
+/// their own, if there is a folder for these.
 pub fn look_and_record<R>(
     rt: R,
     recorder: &Option<Arc<Recorder>>,
@@ -243,7 +245,7 @@ where
     }
 }
 
-/// A connection to a server that was just made, at which is looked where there is a recorder.
+/// A connection to a server that was just made, with an eye if there is a recorder.
 pub fn look_at_server<R, S>(
     rt: R,
     recorder: &Option<Arc<Recorder>>,

@@ -1,16 +1,17 @@
-//! What passes on connections, written down as it passes: a line for each frame, a capture, and the bytes themselves.
+//! Writes traces, captures and recordings while connections go on.
 //!
-//! A `Recorder` has the places, which all connections share. An `Eye` looks at one connection, as the `Tap` of its devices; where two
-//! threads read and write it, each has an `Eye` of the same connection. What is known of a connection is behind a lock, so that what
-//! is written of it has one order; the connection's end is written where the last of its eyes is dropped.
+//! A `Recorder` has the places, which all connections share. An `Eye` looks at one connection, as
+//! the `Tap` of its devices. If two threads read and write the connection, each has an `Eye` of it.
+//! What is known of a connection is under a lock, so that what is written of it has one order. The
+//! connection's end is written when the last of its eyes is dropped.
 //!
-//! A recorder that can't write says so on standard error, once, and writes no more: the connections go on. So they do where nobody reads
-//! the lines on standard error: these wait for a thread of their own, and too many are left out.
+//! A recorder that can't write says so on standard error, once, and writes no more: the connections
+//! go on. They also go on if no one reads the lines on standard error: these wait for a thread of
+//! their own, and too many are left out.
 //!
-//! Read `notes` for what is made of what passes, without threads or files; `outputs`, `backlog`, `transcript` and `places` for where it is
-//! written;
-//! `eye` for connections, `overlooked` for a network all of whose connections are looked at; `start` and `ends` for times and
-//! addresses.
+//! Read `notes` for what is made of what passes, without threads or files; `outputs`, `backlog`,
+//! `transcript` and `places` for where it is written; `eye` for connections, `overlooked` for a
+//! network all of whose connections are looked at; `start` and `ends` for times and addresses.
 #![tactic(auto)]
 
 mod backlog;

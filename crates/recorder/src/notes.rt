@@ -105,7 +105,7 @@ impl Notes {
         Ok(text)
     }
 
-    /// A side has sent these bytes, so many microseconds after the connection began, at this time.
+    /// A side has sent these bytes, `passed` microseconds after the connection began, at this time.
     pub fn sent(
         &mut self,
         passed: u64,

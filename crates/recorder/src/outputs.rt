@@ -38,7 +38,8 @@ impl Unwritten {
 }
 
 impl Outputs {
-    /// Writes the whole of it, each kind at once. Lines for standard error are left to the thread that prints them.
+    /// Writes the whole of it, each kind at once. Lines for standard error are left to the thread
+    /// that prints them.
     pub fn write(&mut self, rt: &impl Wait, entry: &Entry) -> Result<(), Unwritten> {
         let lines = entry.lines.as_str();
         if !lines.is_empty() {

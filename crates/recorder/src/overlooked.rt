@@ -10,7 +10,8 @@ use std::sync::{Arc, Wait};
 use std::time::{Clock, Duration};
 use tap::Tapped;
 
-/// A network, and a clock. Where there is a recorder, it looks at each connection that comes to a port.
+/// A network, and a clock. If there is a recorder, it looks at each connection that comes to a
+/// port.
 #[derive(Clone, Copy, Drop)]
 pub struct Overlooked<'a, R> {
     rt: R,

@@ -37,12 +37,14 @@ pub struct Recorder {
 }
 
 impl Recorder {
-    /// Makes the files that the words name, and the folder, if they name any. None, where nothing is to be written. Lines for standard
-    /// error get a thread: who opens the recorder has to `finish` it.
+    /// Makes the files that the words name, and the folder, if they name any. None if nothing is to
+    /// be written. Lines for standard error get a thread, so the caller has to `finish` the
+    /// recorder.
     ///
     /// # Errors
     ///
-    /// `NotMade` of a file, the folder or the thread, and where two files have one name; standard error says why.
+    /// `NotMade` if a file, the folder or the thread can't be made, or if two files have one name;
+    /// standard error says why.
     pub fn open<R>(
         rt: &R,
         alloc: Global,
@@ -117,7 +119,7 @@ impl Recorder {
         }
     }
 
-    /// The number of the next connection, where it has no other.
+    /// The number of the next connection, if it has no other.
     pub(crate) fn next(&self) -> u64 {
         self.begun.fetch_add(1, Ordering::SeqCst).wrapping_add(1)
     }
@@ -163,7 +165,7 @@ impl Recorder {
             return;
         }
         let Unwritten { what, why } = unwritten;
-        // The exit status tells of it even where nothing can be said here.
+        // The exit status reports it even if nothing can be written here.
         let _said = eprintln!(rt; "interop: {what} can't be written: {why}");
     }
 }

@@ -35,7 +35,7 @@ impl Start {
         u64::try_from(elapsed.as_micros()).ok()
     }
 
-    /// So many microseconds later, as captures have it.
+    /// The time `passed` microseconds later, as captures have it.
     pub fn time(&self, passed: u64) -> Time {
         let date = self.date.saturating_add(passed);
         Time {
@@ -50,7 +50,7 @@ fn since_1970(rt: &impl Clock) -> Option<u64> {
     u64::try_from(since.as_micros()).ok()
 }
 
-/// So many microseconds, in seconds with six digits behind the point.
+/// Microseconds, written in seconds with six digits after the point.
 #[derive(Clone, Copy)]
 pub struct Seconds(pub u64);
 

@@ -1,4 +1,5 @@
-//! The bytes of a connection, as text that `trace::sent_of` reads: a line for what a side sent at a time, as `1204 client 505249`.
+//! The bytes of a connection, as text that `trace::sent_of` reads: a line for what a side sent at a
+//! time, as `1204 client 505249`.
 
 use crate::outputs::Unwritten;
 use capture::Side;
@@ -37,7 +38,7 @@ impl Transcript {
         }
     }
 
-    /// A side has sent these bytes, so many microseconds after the connection began.
+    /// A side has sent these bytes, `passed` microseconds after the connection began.
     pub fn add(&mut self, passed: u64, side: Side, bytes: &[u8]) -> Result<(), Unwritten> {
         let written = match line_of(self.alloc, passed, side, bytes) {
             Ok(line) => self.file.write_all(line.as_bytes()),

@@ -1,7 +1,33 @@
 -- Outcomes as values of JSON, and their lines.
-use Rattle.std.specs.Prelude.{ℕ, List, [], ◌∷◌, ◌++◌, true, Option, Some, None, codes, map, option_map, string_bytes}
+use Rattle.std.specs.Prelude.{
+  ℕ,
+  List,
+  [],
+  ◌∷◌,
+  ◌++◌,
+  true,
+  Option,
+  Some,
+  None,
+  codes,
+  map,
+  option_map,
+  string_bytes,
+}
 use Rattle.hex.specs.Hex.{encode_lower}
-use Rattle.serde_json.specs.Data.{Data, Members, null, boolean, number, unsigned, string, array, object, no_members, put}
+use Rattle.serde_json.specs.Data.{
+  Data,
+  Members,
+  null,
+  boolean,
+  number,
+  unsigned,
+  string,
+  array,
+  object,
+  no_members,
+  put,
+}
 use Rattle.serde_json.specs.View.{items_of}
 use Rattle.serde_json.specs.Written.{compact_text}
 use Rattle.results.specs.Standings.{fails_the_run, standing_of}
@@ -97,7 +123,8 @@ traffic_members outcome = with_all (traffic_list outcome)
 -- an outcome has all of its members, whatever is known of it
 abbrev pub outcome_data : Outcome → Data
 outcome_data outcome =
-    object (traffic_members outcome (ending_members outcome (rule_members outcome.rule (subject_members outcome no_members))))
+    object (traffic_members outcome
+    (ending_members outcome (rule_members outcome.rule (subject_members outcome no_members))))
 
 abbrev pub count_members : Summary → Members → Members
 count_members summary = with_all (
@@ -119,7 +146,8 @@ abbrev pub summary_data : Suite → Summary → ℕ → Data
 summary_data suite summary milliseconds =
     object (with_all ((codes "milliseconds", number_data (Some milliseconds)) ∷ [])
     (count_members summary
-    (with_all ((codes "suite", string (suite_word suite)) ∷ (codes "summary", boolean true) ∷ []) no_members)))
+    (with_all ((codes "suite", string (suite_word suite))
+    ∷ (codes "summary", boolean true) ∷ []) no_members)))
 
 -- a value's text without spaces, and a line's end
 abbrev pub json_text : Data → List ℕ

@@ -1,5 +1,25 @@
 -- Outcomes as JUnit's XML.
-use Rattle.std.specs.Prelude.{ℕ, ◌/◌, ◌%◌, ◌&&◌, ◌||◌, Bool, not, List, [], ◌∷◌, ◌++◌, Option, Some, None, if◌then◌else◌, codes, count_by, length, string_bytes}
+use Rattle.std.specs.Prelude.{
+  ℕ,
+  ◌/◌,
+  ◌%◌,
+  ◌&&◌,
+  ◌||◌,
+  Bool,
+  not,
+  List,
+  [],
+  ◌∷◌,
+  ◌++◌,
+  Option,
+  Some,
+  None,
+  if◌then◌else◌,
+  codes,
+  count_by,
+  length,
+  string_bytes,
+}
 use Rattle.std.specs.Fmt.{decimal}
 use Rattle.std.specs.List.{flat_map}
 use Rattle.results.specs.Causes.{cause_of, details_of}
@@ -29,7 +49,8 @@ seconds milliseconds =
     decimal (milliseconds / 1000) ++ codes "." ++ decimal (milliseconds / 100 % 10)
     ++ decimal (milliseconds / 10 % 10) ++ decimal (milliseconds % 10)
 
--- what all suites and one have: how many cases there are, fail and are skipped, and how long they took
+-- what all suites and one have: how many cases there are, fail and are skipped, and how long they
+-- took
 abbrev pub counts : Suite → List Outcome → ℕ → List (List ℕ × List ℕ)
 counts suite outcomes milliseconds =
     (codes "name", suite_word suite)
@@ -47,7 +68,8 @@ level_note (Some level) = codes " (" ++ level_word level ++ codes ")"
 
 -- the verdict on an outcome, its level and why it isn't ok
 abbrev pub plain_message : Outcome → List ℕ
-plain_message outcome = verdict_word outcome.verdict ++ level_note outcome.level ++ codes ": " ++ cause_of outcome
+plain_message outcome =
+    verdict_word outcome.verdict ++ level_note outcome.level ++ codes ": " ++ cause_of outcome
 
 -- what is said of one on the list of known failures
 abbrev pub known_message : Option Known → Outcome → List ℕ
@@ -72,7 +94,8 @@ type_by Standing.Known verdict = verdict_word verdict
 unfoldable pub failure : Outcome → List ℕ
 failure outcome =
     element (codes "failure")
-    ((codes "message", xml_text (message_of outcome)) ∷ (codes "type", type_by (standing_of outcome) outcome.verdict) ∷ [])
+    ((codes "message", xml_text (message_of outcome))
+    ∷ (codes "type", type_by (standing_of outcome) outcome.verdict) ∷ [])
     (xml_text (details_of outcome))
 
 -- one that doesn't and isn't ok
@@ -104,7 +127,8 @@ case_line outcome = case_element outcome ++ codes "\n"
 -- a suite has a case for each outcome
 unfoldable pub suite_element : Suite → List Outcome → ℕ → List ℕ
 suite_element suite outcomes milliseconds =
-    element (codes "testsuite") (counts suite outcomes milliseconds) (codes "\n" ++ flat_map case_line outcomes)
+    element (codes "testsuite") (counts suite outcomes milliseconds)
+    (codes "\n" ++ flat_map case_line outcomes)
 
 -- all suites, of which there is one
 unfoldable pub suites_element : Suite → List Outcome → ℕ → List ℕ
@@ -113,4 +137,5 @@ suites_element suite outcomes milliseconds =
     (codes "\n" ++ suite_element suite outcomes milliseconds ++ codes "\n")
 
 abbrev pub document : Suite → List Outcome → ℕ → List ℕ
-document suite outcomes milliseconds = declaration ++ suites_element suite outcomes milliseconds ++ codes "\n"
+document suite outcomes milliseconds =
+    declaration ++ suites_element suite outcomes milliseconds ++ codes "\n"

@@ -1,5 +1,29 @@
 -- The list of known failures, as it is read.
-use Rattle.std.specs.Prelude.{◌≡◌, ◌≢◌, ⊤, ℕ, ◌==◌, ◌+◌, Bool, true, false, List, [], ◌∷◌, ◌++◌, Option, Some, None, if◌then◌else◌, codes, length, not, slice_index, string_bytes, Contains}
+use Rattle.std.specs.Prelude.{
+  ◌≡◌,
+  ◌≢◌,
+  ⊤,
+  ℕ,
+  ◌==◌,
+  ◌+◌,
+  Bool,
+  true,
+  false,
+  List,
+  [],
+  ◌∷◌,
+  ◌++◌,
+  Option,
+  Some,
+  None,
+  if◌then◌else◌,
+  codes,
+  length,
+  not,
+  slice_index,
+  string_bytes,
+  Contains,
+}
 use Rattle.std.specs.Borrow.{Bor}
 use Rattle.std.specs.List.{after_first, before_first, filter_map, list_any}
 use Rattle.std.specs.Str.{trim}
@@ -24,7 +48,8 @@ entry known = record {
 }
 
 abbrev pub said : Said → Entry
-said words = record { name = words.name.now; reason = words.reason.now; is_unsteady = words.is_unsteady }
+said words =
+    record { name = words.name.now; reason = words.reason.now; is_unsteady = words.is_unsteady }
 
 -- what stands before the first space, and what stands after it, without white space round it
 abbrev pub first_word : List ℕ → List ℕ
@@ -70,7 +95,8 @@ AreGood all = AreGoodAfter [] all
 -- why an entry after these is wrong
 abbrev pub IsWrongAfter : List Entry → Entry → KnownReason → Type 0
 IsWrongAfter before found KnownReason.NoReason = found.reason ≡ []
-IsWrongAfter before found KnownReason.Twice = (found.reason ≢ []) × Contains (names before) found.name
+IsWrongAfter before found KnownReason.Twice =
+    (found.reason ≢ []) × Contains (names before) found.name
 
 abbrev pub IsRightAfter : List Entry → Entry → Type 0
 IsRightAfter before found = (found.reason ≢ []) × ¬ Contains (names before) found.name
@@ -87,7 +113,8 @@ abbrev pub IsFirstWrong : List (List ℕ) → ℕ → List ℕ → KnownReason �
 IsFirstWrong all number name reason =
     (before after : List (List ℕ)) × (line : List ℕ) × (found : Entry)
     × (all ≡ before ++ line ∷ after) × (number ≡ length before + 1) × AreGood (entries before)
-    × (entry_of line ≡ Some found) × (found.name ≡ name) × IsWrongAfter (entries before) found reason
+    × (entry_of line ≡ Some found) × (found.name ≡ name)
+    × IsWrongAfter (entries before) found reason
 
 -- why these lines are no list
 abbrev pub Explains : List (List ℕ) → KnownFault → Type 0
@@ -98,6 +125,6 @@ Explains all fault.OutOfMemory = ⊤
 abbrev pub has_name : List ℕ → Known → Bool
 has_name name known = bytes_eq (string_bytes known.name) name
 
--- a known failure whose name is none of these
+-- a known failure whose name isn't among these
 abbrev pub is_stray : List (Bor (List ℕ)) → Known → Bool
 is_stray all known = not (list_any (λ name. bytes_eq name.now (string_bytes known.name)) all)

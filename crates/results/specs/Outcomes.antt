@@ -1,11 +1,24 @@
 -- An outcome of which nothing is known but its verdict, and a case's name with its title.
-use Rattle.std.specs.Prelude.{◌≡◌, List, [], ◌++◌, ℕ, Option, None, Some, codes, option_map, string_bytes}
+use Rattle.std.specs.Prelude.{
+  ◌≡◌,
+  List,
+  [],
+  ◌++◌,
+  ℕ,
+  Option,
+  None,
+  Some,
+  codes,
+  option_map,
+  string_bytes,
+}
 use Rattle.results.specs.declared.outcome.Outcome.{Outcome}
 use Rattle.results.specs.declared.words.Suite.{Suite}
 use Rattle.results.specs.declared.words.Verdict.{Verdict}
 
 -- it has this name, and was tried once
-pub record IsBare (kind : Suite) (text : List ℕ) (ending : Verdict) (outcome : Outcome) : Type 0 where
+pub record IsBare (kind : Suite) (text : List ℕ) (ending : Verdict)
+    (outcome : Outcome) : Type 0 where
   pub suite : outcome.suite ≡ kind
   pub name : string_bytes outcome.name ≡ text
   pub title : outcome.title ≡ None

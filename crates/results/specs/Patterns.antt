@@ -29,11 +29,13 @@ IsOfGroup group name = (rest : List ℕ) × CutsAt slash name group rest
 
 -- decimal digits that write a number of 32 bits
 abbrev pub Writes : List ℕ → ℕ → Type 0
-Writes digits number = AllDigits 10 digits × (digits ≢ []) × (digits_value 10 digits ≡ number) × (number < 2 ^ 32)
+Writes digits number =
+    AllDigits 10 digits × (digits ≢ []) × (digits_value 10 digits ≡ number) × (number < 2 ^ 32)
 
 -- digits that write a number at most as great as others
 abbrev pub IsAtMost : List ℕ → List ℕ → Type 0
-IsAtMost digits others = (number most : ℕ) × Writes digits number × Writes others most × (number ≤ most)
+IsAtMost digits others =
+    (number most : ℕ) × Writes digits number × Writes others most × (number ≤ most)
 
 -- a range LOW-HIGH has a number in it
 abbrev pub IsRangeOf : List ℕ → List ℕ → Type 0
@@ -43,7 +45,8 @@ IsRangeOf range digits =
 -- the word is GROUP/LOW-HIGH, and the name is GROUP/NUMBER with a number from LOW to HIGH
 abbrev pub IsInRange : List ℕ → List ℕ → Type 0
 IsInRange word name =
-    (group range digits : List ℕ) × CutsAt slash word group range × CutsAt slash name group digits × IsRangeOf range digits
+    (group range digits : List ℕ) × CutsAt slash word group range × CutsAt slash name group digits
+    × IsRangeOf range digits
 
 -- a word chooses a name: by itself, with `*`; by its group; or by a range
 abbrev pub Matches : List ℕ → List ℕ → Type 0

@@ -1,5 +1,25 @@
 -- The list of known failures after a run of some of the cases.
-use Rattle.std.specs.Prelude.{⊤, ℕ, ◌&&◌, ◌||◌, Bool, true, false, List, [], ◌∷◌, ◌++◌, Option, Some, None, if◌then◌else◌, codes, option_map, string_bytes, Contains}
+use Rattle.std.specs.Prelude.{
+  ⊤,
+  ℕ,
+  ◌&&◌,
+  ◌||◌,
+  Bool,
+  true,
+  false,
+  List,
+  [],
+  ◌∷◌,
+  ◌++◌,
+  Option,
+  Some,
+  None,
+  if◌then◌else◌,
+  codes,
+  option_map,
+  string_bytes,
+  Contains,
+}
 use Rattle.std.specs.List.{filter_map, flat_map, list_any}
 use Rattle.std.specs.Str.{bytes_eq}
 use Rattle.results.specs.Causes.{cause_of}
@@ -19,7 +39,8 @@ new_listing suite verdict = None
 
 abbrev pub listing : Option Known → Suite → Verdict → Option Bool
 listing None suite verdict = new_listing suite verdict
-listing (Some known) suite verdict = if known.is_unsteady then Some true else new_listing suite verdict
+listing (Some known) suite verdict =
+    if known.is_unsteady then Some true else new_listing suite verdict
 
 -- the reason of one that is known stays
 abbrev pub reason_of : Outcome → Option Known → List ℕ
@@ -43,11 +64,13 @@ entry_after outcomes outcome is_unsteady = record {
 
 -- the entry by an outcome, where its case belongs on the list
 abbrev pub failed_entry : List Outcome → Outcome → Option Entry
-failed_entry outcomes outcome = option_map (entry_after outcomes outcome) (listing outcome.known outcome.suite outcome.verdict)
+failed_entry outcomes outcome =
+    option_map (entry_after outcomes outcome) (listing outcome.known outcome.suite outcome.verdict)
 
 -- a known failure whose case wasn't run stays
 abbrev pub unrun_entry : List Outcome → Known → Option Entry
-unrun_entry outcomes known = if list_any (is_of (string_bytes known.name)) outcomes then None else Some (entry known)
+unrun_entry outcomes known =
+    if list_any (is_of (string_bytes known.name)) outcomes then None else Some (entry known)
 
 abbrev pub is_named : List ℕ → Entry → Bool
 is_named name one = bytes_eq one.name name
@@ -60,14 +83,16 @@ abbrev pub with_entries : List Entry → List Entry → List Entry
 with_entries list [] = list
 with_entries list (next ∷ more) = with_entries (with_entry list next) more
 
--- the cases that were run and belong on the list, in their order, and then those that were known and were not run
+-- the cases that were run and belong on the list, in their order, and then those that were known
+-- and were not run
 abbrev pub failed_entries : List Outcome → List Entry
 failed_entries outcomes = with_entries [] (filter_map (failed_entry outcomes) outcomes)
 
 unfoldable pub renewal : List Known → List Outcome → List Entry
-renewal known outcomes = with_entries (failed_entries outcomes) (filter_map (unrun_entry outcomes) known)
+renewal known outcomes =
+    with_entries (failed_entries outcomes) (filter_map (unrun_entry outcomes) known)
 
--- no two have the same name
+-- no two have one name
 abbrev pub HaveOwnNames : List Entry → Type 0
 HaveOwnNames [] = ⊤
 HaveOwnNames (first ∷ more) = (¬ Contains (names more) first.name) × HaveOwnNames more
@@ -75,7 +100,8 @@ HaveOwnNames (first ∷ more) = (¬ Contains (names more) first.name) × HaveOwn
 -- `NAME  REASON`, or `NAME  sometimes REASON`
 unfoldable pub line_of : Entry → List ℕ
 line_of one =
-    one.name ++ codes "  " ++ (if one.is_unsteady then codes "sometimes " else []) ++ one.reason ++ 10 ∷ []
+    one.name ++ codes "  " ++ (if one.is_unsteady then codes "sometimes " else [])
+    ++ one.reason ++ 10 ∷ []
 
 -- the list has no other lines: no comments
 abbrev pub list_text : List Entry → List ℕ

@@ -7,8 +7,8 @@ use Rattle.results.specs.declared.words.Suite.{Suite}
 use Rattle.results.specs.declared.words.Verdict.{Verdict}
 use Rattle.results.specs.declared.words.Level.{Level}
 
--- A case that is on the list, and whether it may pass there: it is known where it isn't ok, and mended where it is and may not.
--- One that doesn't apply is neither.
+-- A case that is on the list, and whether it may pass there: it is known where it isn't ok, and
+-- mended where it is and may not. One that doesn't apply is neither.
 abbrev pub listed_standing : Bool → Verdict → Standing
 listed_standing is_unsteady Verdict.Failed = Standing.Known
 listed_standing is_unsteady Verdict.Unsteady = Standing.Known
@@ -28,8 +28,8 @@ abbrev pub is_must : Option Level → Bool
 is_must (Some Level.Must) = true
 is_must level = false
 
--- A failure fails the run: of wire cases one of level must alone. So does a case that wasn't tested. Nothing else does: unsteady
--- accuses nobody.
+-- A failure fails the run: of wire cases one of level must alone. So does a case that wasn't
+-- tested. Nothing else does: unsteady accuses nobody.
 abbrev pub fails_by : Suite → Verdict → Option Level → Bool
 fails_by Suite.Wire Verdict.Failed level = is_must level
 fails_by suite Verdict.Failed level = true

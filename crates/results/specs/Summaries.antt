@@ -1,5 +1,24 @@
 -- How many cases of a run ended in which way, and the line that says so.
-use Rattle.std.specs.Prelude.{◌≡◌, ◌≤◌, ℕ, ◌+◌, ◌&&◌, ◌==◌, Bool, true, false, List, [], ◌++◌, Option, Some, if◌then◌else◌, codes, count_by, length}
+use Rattle.std.specs.Prelude.{
+  ◌≡◌,
+  ◌≤◌,
+  ℕ,
+  ◌+◌,
+  ◌&&◌,
+  ◌==◌,
+  Bool,
+  true,
+  false,
+  List,
+  [],
+  ◌++◌,
+  Option,
+  Some,
+  if◌then◌else◌,
+  codes,
+  count_by,
+  length,
+}
 use Rattle.std.specs.Fmt.{decimal}
 use Rattle.results.specs.Standings.{fails_the_run, standing_of}
 use Rattle.results.specs.Words.{suite_word}
@@ -32,7 +51,8 @@ has_level level other = false
 
 -- its verdict is this, and the list of known failures says nothing of it
 abbrev pub is_found : Verdict → Outcome → Bool
-is_found verdict outcome = same_standing (standing_of outcome) Standing.AsFound && same_verdict outcome.verdict verdict
+is_found verdict outcome =
+    same_standing (standing_of outcome) Standing.AsFound && same_verdict outcome.verdict verdict
 
 abbrev pub stands : Standing → Outcome → Bool
 stands standing outcome = same_standing (standing_of outcome) standing
@@ -60,12 +80,14 @@ summary_of outcomes = record {
 -- each case is counted once: by its verdict, as known or as mended
 abbrev pub CountsOnce : Summary → Type 0
 CountsOnce summary =
-    summary.ok + summary.failed + summary.unsteady + summary.not_tested + summary.not_applicable + summary.known + summary.mended
+    summary.ok + summary.failed + summary.unsteady + summary.not_tested + summary.not_applicable
+    + summary.known + summary.mended
     ≡ summary.cases
 
--- and each failure at one level at most
+-- each failure counts at one level at most
 abbrev pub CountsLevels : Summary → Type 0
-CountsLevels summary = summary.failed_must + summary.failed_should + summary.failed_ours ≤ summary.failed
+CountsLevels summary =
+    summary.failed_must + summary.failed_should + summary.failed_ours ≤ summary.failed
 
 -- `, COUNT WHAT`, where the count isn't 0
 abbrev pub counted : ℕ → List ℕ → List ℕ
@@ -77,8 +99,10 @@ case_noun count = if count == 1 then codes " case, " else codes " cases, "
 -- ` (N must, N should, N ours)`, unless no case that failed has a level
 abbrev pub levels_text : Summary → List ℕ
 levels_text summary =
-    if (summary.failed_must == 0) && (summary.failed_should == 0) && (summary.failed_ours == 0) then []
-    else codes " (" ++ decimal summary.failed_must ++ codes " must, " ++ decimal summary.failed_should ++ codes " should, "
+    if (summary.failed_must == 0) && (summary.failed_should == 0)
+    && (summary.failed_ours == 0) then []
+    else codes " (" ++ decimal summary.failed_must ++ codes " must, "
+    ++ decimal summary.failed_should ++ codes " should, "
     ++ decimal summary.failed_ours ++ codes " ours)"
 
 -- only cases of `wire` have other levels than must
@@ -90,15 +114,18 @@ levels_of suite summary = []
 abbrev pub first_counts : Suite → Summary → List ℕ
 first_counts suite summary =
     suite_word suite ++ codes ": " ++ decimal summary.cases ++ case_noun summary.cases
-    ++ decimal summary.ok ++ codes " ok, " ++ decimal summary.failed ++ codes " failed" ++ levels_of suite summary
+    ++ decimal summary.ok ++ codes " ok, " ++ decimal summary.failed ++ codes " failed"
+    ++ levels_of suite summary
 
 abbrev pub other_counts : Summary → List ℕ
 other_counts summary =
     counted summary.unsteady (codes "unsteady") ++ counted summary.not_tested (codes "not tested")
-    ++ counted summary.not_applicable (codes "not applicable") ++ counted summary.known (codes "known to fail")
+    ++ counted summary.not_applicable (codes "not applicable")
+    ++ counted summary.known (codes "known to fail")
     ++ counted summary.mended (codes "no longer failing")
 
 -- `wire: 4 cases, 1 ok, 2 failed (1 must, 1 should, 0 ours), 1 unsteady in 12 ms`
 abbrev pub summary_line : Suite → Summary → ℕ → List ℕ
 summary_line suite summary milliseconds =
-    first_counts suite summary ++ other_counts summary ++ codes " in " ++ decimal milliseconds ++ codes " ms\n"
+    first_counts suite summary ++ other_counts summary ++ codes " in "
+    ++ decimal milliseconds ++ codes " ms\n"

@@ -1,5 +1,21 @@
 -- Outcomes by the Test Anything Protocol, version 14.
-use Rattle.std.specs.Prelude.{ℕ, ◌==◌, ◌||◌, List, [], ◌∷◌, ◌++◌, Option, Some, None, if◌then◌else◌, codes, encode_utf8, option_map, string_bytes}
+use Rattle.std.specs.Prelude.{
+  ℕ,
+  ◌==◌,
+  ◌||◌,
+  List,
+  [],
+  ◌∷◌,
+  ◌++◌,
+  Option,
+  Some,
+  None,
+  if◌then◌else◌,
+  codes,
+  encode_utf8,
+  option_map,
+  string_bytes,
+}
 use Rattle.std.specs.Fmt.{decimal}
 use Rattle.std.specs.List.{flat_map}
 use Rattle.std.specs.Str.{chars}
@@ -73,14 +89,16 @@ entry name None = []
 entry name (Some text) = codes "  " ++ name ++ codes ": " ++ compact_text (string text) ++ 10 ∷ []
 
 abbrev pub verdict_note : Standing → Verdict → List ℕ
-verdict_note Standing.Mended verdict = codes "no longer fails: take it off the list of known failures"
+verdict_note Standing.Mended verdict =
+    codes "no longer fails: take it off the list of known failures"
 verdict_note Standing.AsFound verdict = verdict_word verdict
 verdict_note Standing.Known verdict = verdict_word verdict
 
 unfoldable pub rule_entries : Option Rule → List ℕ
 rule_entries None = []
 rule_entries (Some rule) =
-    entry (codes "rule") (Some (string_bytes rule.place)) ++ entry (codes "sentence") (option_map string_bytes rule.sentence)
+    entry (codes "rule") (Some (string_bytes rule.place))
+    ++ entry (codes "sentence") (option_map string_bytes rule.sentence)
 
 -- what stands after a test point that isn't ok: a block of YAML, indented by two blanks
 unfoldable pub yaml_block : Outcome → List ℕ
@@ -100,10 +118,12 @@ block_of Point.Skips outcome = []
 block_of Point.Fails outcome = yaml_block outcome
 block_of Point.Todo outcome = yaml_block outcome
 
--- the line of a test point, with a directive where it isn't to count: `not ok 3 - wire grpc/4 END_STREAM on HEADERS`
+-- the line of a test point, with a directive where it isn't to count:
+-- `not ok 3 - wire grpc/4 END_STREAM on HEADERS`
 unfoldable pub point_line : ℕ → Point → Outcome → List ℕ
 point_line number how outcome =
-    status how ++ codes " " ++ decimal number ++ codes " - " ++ suite_word outcome.suite ++ codes " "
+    status how ++ codes " " ++ decimal number ++ codes " - "
+    ++ suite_word outcome.suite ++ codes " "
     ++ escaped (titled outcome) ++ directive how outcome ++ codes "\n"
 
 -- a test point, and what stands after it

@@ -1,16 +1,30 @@
 -- Texts in XML 1.0, so that they read back as themselves.
-use Rattle.std.specs.Prelude.{ℕ, ◌==◌, ◌&&◌, ◌||◌, nat_le, Bool, List, ◌++◌, if◌then◌else◌, codes, encode_utf8}
+use Rattle.std.specs.Prelude.{
+  ℕ,
+  ◌==◌,
+  ◌&&◌,
+  ◌||◌,
+  nat_le,
+  Bool,
+  List,
+  ◌++◌,
+  if◌then◌else◌,
+  codes,
+  encode_utf8,
+}
 use Rattle.std.specs.List.{flat_map}
 use Rattle.std.specs.Str.{chars}
 
 -- the characters that a document may have (section 2.2): TAB, LF, CR, and these three ranges
 abbrev pub is_allowed : ℕ → Bool
 is_allowed c =
-    (c == 9) || (c == 10) || (c == 13) || (nat_le 32 c && nat_le c 0xd7ff) || (nat_le 0xe000 c && nat_le c 0xfffd)
+    (c == 9) || (c == 10) || (c == 13) || (nat_le 32 c && nat_le c 0xd7ff)
+    || (nat_le 0xe000 c && nat_le c 0xfffd)
     || (nat_le 0x10000 c && nat_le c 0x10ffff)
 
--- A character as a reader gives it back, in content and in an attribute's value: markup by its entities (section 4.6), white space
--- that a reader would change by references (sections 2.11, 3.3.3), and U+FFFD for one that isn't allowed.
+-- A character as a reader gives it back, in content and in an attribute's value: markup by its
+-- entities (section 4.6), white space that a reader would change by references (sections 2.11,
+-- 3.3.3), and U+FFFD for one that isn't allowed.
 abbrev pub char_text : ℕ → List ℕ
 char_text c =
     if c == 38 then codes "&amp;"

@@ -6,8 +6,8 @@ ghost use Rattle.results.specs.Causes.{cause_of, detail, details_of, rule_detail
 use crate::outcome::{Outcome, Rule};
 use std::alloc::{AllocError, Global};
 
-/// Adds why a case isn't ok, in one line without its end: the reason where there is one, else what was wanted and what came,
-/// else the verdict's word.
+/// Adds why a case isn't ok, in one line without its end: the reason where there is one, else what
+/// was wanted and what came, else the verdict's word.
 pub fn push_cause(text: &mut String, outcome: &Outcome) -> Result<(), AllocError>
     ensures { OnOk result (string_bytes text.new ≡ string_bytes text.old ++ cause_of outcome.now) }
 {
@@ -60,9 +60,11 @@ fn push_rule(text: &mut String, rule: &Option<Rule>) -> Result<(), AllocError>
     push_detail(text, "sentence", &rule.sentence)
 }
 
-/// Adds what is known of an outcome, in lines `wanted: ..`, `came: ..`, `reason: ..`, `rule: ..`, `sentence: ..`.
+/// Adds what is known of an outcome, in lines `wanted: ..`, `came: ..`, `reason: ..`, `rule: ..`,
+/// `sentence: ..`.
 pub fn push_details(text: &mut String, outcome: &Outcome) -> Result<(), AllocError>
-    ensures { OnOk result (string_bytes text.new ≡ string_bytes text.old ++ details_of outcome.now) }
+    ensures { OnOk result
+        (string_bytes text.new ≡ string_bytes text.old ++ details_of outcome.now) }
 {
     push_detail(text, "wanted", &outcome.wanted)?;
     push_detail(text, "came", &outcome.came)?;

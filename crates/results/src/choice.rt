@@ -1,7 +1,16 @@
 //! Which cases are run.
 
 ghost use Rattle.std.specs.Prelude.{◌≡◌, ◌≢◌, ◌↔◌, [], IfErr, IfOk, Any, IfNone, IfSome, IsTrue};
-ghost use Rattle.results.specs.Choices.{AllChoose, ArePlaces, Explains, IsChosen, IsChosenBy, IsFirstIdle, IsOfLevel, rank};
+ghost use Rattle.results.specs.Choices.{
+  AllChoose,
+  ArePlaces,
+  Explains,
+  IsChosen,
+  IsChosenBy,
+  IsFirstIdle,
+  IsOfLevel,
+  rank,
+};
 ghost use Rattle.results.specs.declared.choice.ChoiceFault.TheVariants.{OutOfMemory};
 
 use crate::pattern::is_match;
@@ -88,7 +97,7 @@ impl<'a> Entry<'a> {
         words.iter().any(|word| self.is_chosen_by(word))
     }
 
-    /// Whether it binds as much as a level.
+    /// Whether it binds at least as much as a level.
     fn is_of(&self, least: Option<Level>) -> bool
         ensures { IsTrue result ↔ IsOfLevel least self.now.level }
     {
@@ -145,8 +154,8 @@ fn idle_word<'a>(words: &[&'a str], entries: &[Entry<'_>]) -> Option<&'a str>
 ///
 /// # Errors
 ///
-/// `NoCase` with the first word that chooses no case, of those that choose and then of those that skip; `NothingLeft` where no
-/// case is left.
+/// `NoCase` with the first word that chooses no case, of those that choose and then of those that
+/// skip; `NothingLeft` where no case is left.
 pub fn chosen<'a>(
     alloc: Global,
     entries: &[Entry<'_>],

@@ -4,7 +4,21 @@ ghost use Rattle.std.specs.Prelude.{◌≡◌, false, IfOk, OnOk, map, option_ma
 ghost use Rattle.serde_json.specs.Data.{put as with_member};
 ghost use Rattle.serde_json.specs.View.{members_view, view};
 ghost use Rattle.serde_json.specs.Written.{has_float};
-ghost use Rattle.results.specs.Json.{count_members, ending_members, json_text, number_data, outcome_data, rule_members, hex_data, standing_data, subject_members, summary_data, text_data, texts_data, traffic_members};
+ghost use Rattle.results.specs.Json.{
+  count_members,
+  ending_members,
+  json_text,
+  number_data,
+  outcome_data,
+  rule_members,
+  hex_data,
+  standing_data,
+  subject_members,
+  summary_data,
+  text_data,
+  texts_data,
+  traffic_members,
+};
 
 use crate::known::Known;
 use crate::outcome::{Outcome, Rule, shown};

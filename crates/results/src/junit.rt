@@ -1,11 +1,32 @@
-//! Outcomes as JUnit's XML, as Jenkins' plugin and GitLab read it: a suite with a case for each outcome.
+//! Outcomes as JUnit's XML, as Jenkins' plugin and GitLab read it: a suite with a case for each
+//! outcome.
 //!
-//! A case has a `failure` exactly where it fails the run. One that isn't ok and doesn't fail it is `skipped`.
+//! A case has a `failure` exactly where it fails the run. One that isn't ok and doesn't fail it is
+//! `skipped`.
 
 ghost use Rattle.std.specs.Prelude.{◌≡◌, ◌++◌, IfOk, OnOk, count_by, string_bytes};
 ghost use Rattle.std.specs.List.{flat_map};
 ghost use Rattle.results.specs.Causes.{details_of};
-ghost use Rattle.results.specs.Junit.{case_attributes, case_element, case_line, counts, document, failure, inside, is_skipped, is_told, known_message, level_note, message_of, plain_message, seconds, skipped, suite_element, suites_element, type_by};
+ghost use Rattle.results.specs.Junit.{
+  case_attributes,
+  case_element,
+  case_line,
+  counts,
+  document,
+  failure,
+  inside,
+  is_skipped,
+  is_told,
+  known_message,
+  level_note,
+  message_of,
+  plain_message,
+  seconds,
+  skipped,
+  suite_element,
+  suites_element,
+  type_by,
+};
 ghost use Rattle.results.specs.Standings.{standing_of};
 ghost use Rattle.results.specs.Xml.{attributes, xml_text};
 
@@ -282,7 +303,7 @@ fn push_suites(
     push_end(xml, "testsuites")
 }
 
-/// Adds a document with the outcomes of a run, which took so many milliseconds.
+/// Adds a document with the outcomes of a run, and how many milliseconds it took.
 pub fn push_junit(
     alloc: Global,
     xml: &mut String,

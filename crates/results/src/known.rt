@@ -1,12 +1,42 @@
 //! The list of known failures: a file that names the cases that may fail, a line each.
 //!
-//! A line is blank, or a comment that begins with `#`, or a name, a space, and the reason why it may fail. The reason may
-//! begin with the word `sometimes`: then the case may pass too.
+//! A line is blank, or a comment that begins with `#`, or a name, a space, and the reason why it
+//! may fail. The reason may begin with the word `sometimes`: then the case may pass too.
 
-ghost use Rattle.std.specs.Prelude.{◌≡◌, ◌==◌, [], ◌∷◌, ◌++◌, IfErr, IfOk, IfNone, IfSome, OnOk, find, map, option_map, string_bytes};
+ghost use Rattle.std.specs.Prelude.{
+  ◌≡◌,
+  ◌==◌,
+  [],
+  ◌∷◌,
+  ◌++◌,
+  IfErr,
+  IfOk,
+  IfNone,
+  IfSome,
+  OnOk,
+  find,
+  map,
+  option_map,
+  string_bytes,
+};
 ghost use Rattle.std.specs.List.{after_first, before_first};
 ghost use Rattle.std.specs.Str.Lines.{lines};
-ghost use Rattle.results.specs.KnownList.{AreGood, Explains, IsFaultOf, IsRightAfter, IsWrongAfter, after_word, entries, entry, entry_by, entry_of, first_word, has_name, is_stray, said};
+ghost use Rattle.results.specs.KnownList.{
+  AreGood,
+  Explains,
+  IsFaultOf,
+  IsRightAfter,
+  IsWrongAfter,
+  after_word,
+  entries,
+  entry,
+  entry_by,
+  entry_of,
+  first_word,
+  has_name,
+  is_stray,
+  said,
+};
 ghost use Rattle.results.specs.declared.known.KnownFault.TheVariants.{OutOfMemory};
 
 use std::alloc::{AllocError, AllocFailed, Global};
@@ -84,7 +114,7 @@ struct Said<'a> {
 }
 
 impl Said<'_> {
-    /// The known failure that it tells of.
+    /// The known failure that it names.
     fn known(self, alloc: Global) -> Result<Known, AllocError>
         ensures { IfOk result (λ known. entry known ≡ said self.entry) }
     {

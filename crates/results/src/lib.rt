@@ -1,12 +1,16 @@
-//! Results of test cases: what came of each, which of them fail a run, and the forms in which a build reads them.
+//! Results of test cases: what came of each, which of them fail a run, and the forms in which a
+//! build reads them.
 //!
 //! - `outcome`, `words`: what came of a case, and the words for it.
-//! - `standing`: what is said of an outcome beside a list of known failures, and whether it fails the run.
-//! - `known`: that list, as it is read from a file; `renewal`: the one after a run, as it is written to one.
+//! - `standing`: what is said of an outcome beside a list of known failures, and whether it fails
+//!   the run.
+//! - `known`: that list, as it is read from a file; `renewal`: the one after a run, as it is
+//!   written to one.
 //! - `pattern`, `choice`: which cases a command line chooses by their names.
 //! - `summary`: how many cases ended in which way, and the line that says so.
 //! - `cause`: why a case isn't ok, in one line, and in more.
-//! - `json`, `junit`, `tap`: the forms (RFC 8259, JSON Lines; JUnit's XML; the Test Anything Protocol, version 14).
+//! - `json`, `junit`, `tap`: the forms (RFC 8259, JSON Lines; JUnit's XML; the Test Anything
+//!   Protocol, version 14).
 //! - `xml`: texts in XML.
 #![tactic(auto)]
 

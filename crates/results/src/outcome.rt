@@ -40,7 +40,7 @@ pub struct Outcome {
     /// How often it was tried, and how many of the tries passed.
     pub tries: u32,
     pub passed: u32,
-    /// The bytes that were sent and read in the try that is told of.
+    /// The bytes that were sent and read in the try that is reported.
     pub sent: Option<Vec<u8>>,
     pub read: Option<Vec<u8>>,
     /// How many bytes were sent and read.

@@ -1,10 +1,20 @@
 //! Words that choose cases by their names.
 
 ghost use Rattle.std.specs.Prelude.{◌<◌, ◌↔◌, ℕ, List, IfNone, IfSome, IsTrue};
-ghost use Rattle.results.specs.Patterns.{CutsAt, IsAtMost, IsGlob, IsInRange, IsOfGroup, IsRangeOf, Matches, Writes};
+ghost use Rattle.results.specs.Patterns.{
+  CutsAt,
+  IsAtMost,
+  IsGlob,
+  IsInRange,
+  IsOfGroup,
+  IsRangeOf,
+  Matches,
+  Writes,
+};
 
-/// Whether a word chooses the case of this name: it is the name, or the group that the name has before its `/`, or a range of a
-/// group, as `grpc/4-6`, in which the name's number is, or a text with `*`, each of which stands for any text.
+/// Whether a word chooses the case of this name: it is the name, or the group that the name has
+/// before its `/`, or a range of a group, as `grpc/4-6`, in which the name's number is, or a text
+/// with `*`, each of which stands for any text.
 pub fn is_match(word: &str, name: &str) -> bool
     ensures { IsTrue result ↔ Matches word.now name.now }
 {

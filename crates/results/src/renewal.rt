@@ -1,12 +1,28 @@
 //! The list of known failures after a run of some of the cases.
 //!
-//! It is made anew: each case that failed or is unsteady has one line, also one that was run several times, and known failures that
-//! were not run stay after these. Reasons stay. It has no comments: a caller that keeps those of the old list writes them before it.
+//! It is made anew: each case that failed or is unsteady has one line, also one that was run
+//! several times, and known failures that were not run stay after these. Reasons stay. It has no
+//! comments: a caller that keeps those of the old list writes them before it.
 
 ghost use Rattle.std.specs.Prelude.{◌≡◌, ◌||◌, ◌++◌, [], ◌∷◌, IfOk, OnOk, map, string_bytes};
 ghost use Rattle.std.specs.List.{filter_map, flat_map, list_any};
 ghost use Rattle.results.specs.KnownList.{entry, has_name};
-ghost use Rattle.results.specs.Renewals.{HaveOwnNames, entry_after, failed_entries, failed_entry, is_of, is_ok_of, line_of, list_text, listing, reason_of, renewal, unrun_entry, with_entries, with_entry};
+ghost use Rattle.results.specs.Renewals.{
+  HaveOwnNames,
+  entry_after,
+  failed_entries,
+  failed_entry,
+  is_of,
+  is_ok_of,
+  line_of,
+  list_text,
+  listing,
+  reason_of,
+  renewal,
+  unrun_entry,
+  with_entries,
+  with_entry,
+};
 
 use crate::cause::cause_text;
 use crate::known::Known;
@@ -196,7 +212,8 @@ fn lines_of(alloc: Global, all: &[Known]) -> Result<String, AllocError>
     Ok(text)
 }
 
-/// The list after a run: the cases that failed or are unsteady, in their order, and then those that were known and were not run.
+/// The list after a run: the cases that failed or are unsteady, in their order, and then those that
+/// were known and were not run.
 pub fn renewed(alloc: Global, known: &[Known], outcomes: &[Outcome]) -> Result<String, AllocError>
     ensures lines { IfOk result (λ text. string_bytes text
         ≡ list_text (renewal known.now outcomes.now)) }

@@ -1,7 +1,19 @@
 //! How many cases ended in which way.
 
 ghost use Rattle.std.specs.Prelude.{◌≡◌, ◌++◌, OnOk, count_by, string_bytes};
-ghost use Rattle.results.specs.Summaries.{CountsLevels, CountsOnce, counted, fails_at, first_counts, is_found, levels_of, levels_text, other_counts, stands, summary_line};
+ghost use Rattle.results.specs.Summaries.{
+  CountsLevels,
+  CountsOnce,
+  counted,
+  fails_at,
+  first_counts,
+  is_found,
+  levels_of,
+  levels_text,
+  other_counts,
+  stands,
+  summary_line,
+};
 ghost use Rattle.results.specs.Summaries as whole;
 
 use crate::outcome::Outcome;
@@ -9,7 +21,8 @@ use crate::standing::{Standing, failure_count};
 use crate::words::{Level, Suite, Verdict};
 use std::alloc::AllocError;
 
-/// How many cases of a run ended in which way. Each case is counted in one of the fields but `cases` and those of levels.
+/// How many cases of a run ended in which way. Each case is counted in one of the fields but
+/// `cases` and those of levels.
 #[derive(Clone, Copy)]
 pub struct Summary {
     pub cases: usize,
@@ -88,7 +101,8 @@ pub fn summary_of(outcomes: &[Outcome]) -> Summary
 
 /// Adds `, COUNT WHAT`, where the count isn't 0.
 fn push_count(text: &mut String, count: usize, what: &str) -> Result<(), AllocError>
-    ensures { OnOk result (string_bytes text.new ≡ string_bytes text.old ++ counted count what.now) }
+    ensures { OnOk result
+        (string_bytes text.new ≡ string_bytes text.old ++ counted count what.now) }
 {
     if count == 0 {
         return Ok(());
@@ -156,8 +170,9 @@ fn push_others(text: &mut String, summary: &Summary) -> Result<(), AllocError>
     push_count(text, summary.mended, "no longer failing")
 }
 
-/// Adds the last line of a run: `wire: 407 cases, 390 ok, 3 failed (1 must, 2 should, 0 ours), 1 unsteady, 13 not applicable in
-/// 12345 ms`. How many are ok and failed is always told, and else what isn't 0; levels, where a case of `wire` failed.
+/// Adds the last line of a run: `wire: 407 cases, 390 ok, 3 failed (1 must, 2 should, 0 ours), 1
+/// unsteady, 13 not applicable in 12345 ms`. The numbers of ok and failed cases are always there,
+/// the others if they aren't 0, and the levels if a case of `wire` failed.
 pub fn push_summary(
     text: &mut String,
     suite: Suite,

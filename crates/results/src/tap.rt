@@ -1,13 +1,41 @@
 //! Outcomes by the Test Anything Protocol (TAP 14).
 //!
-//! A test point is `not ok` without a directive exactly where the case fails the run, so that a harness and the exit status agree.
+//! A test point is `not ok` without a directive exactly where the case fails the run, so that a
+//! harness and the exit status agree.
 
-ghost use Rattle.std.specs.Prelude.{◌≡◌, ◌++◌, [], ◌∷◌, IfOk, OnOk, Some, codes, option_map, string_bytes};
+ghost use Rattle.std.specs.Prelude.{
+  ◌≡◌,
+  ◌++◌,
+  [],
+  ◌∷◌,
+  IfOk,
+  OnOk,
+  Some,
+  codes,
+  option_map,
+  string_bytes,
+};
 ghost use Rattle.std.specs.Fmt.{decimal};
 ghost use Rattle.std.specs.List.{flat_map};
 ghost use Rattle.serde_json.specs.Data.{string};
 ghost use Rattle.serde_json.specs.Written.{compact_text};
-ghost use Rattle.results.specs.Tap.{block_of, char_text, directive, entry, escaped, known_why, plain_why, point_line, point_of, point_text, rule_entries, status, verdict_note, why, yaml_block};
+ghost use Rattle.results.specs.Tap.{
+  block_of,
+  char_text,
+  directive,
+  entry,
+  escaped,
+  known_why,
+  plain_why,
+  point_line,
+  point_of,
+  point_text,
+  rule_entries,
+  status,
+  verdict_note,
+  why,
+  yaml_block,
+};
 ghost use Rattle.results.specs.Standings.{standing_of};
 
 use crate::cause::cause_text;
@@ -17,7 +45,8 @@ use crate::words::{Verdict, level_word};
 use serde_json::Value;
 use std::alloc::{AllocError, Global};
 
-/// The first line. What follows is the same by version 14, whose number perl's `prove` takes for an error.
+/// The first line. By version 14 the rest would be unchanged, but perl's `prove` takes that number
+/// for an error.
 pub const TAP_VERSION: &str = "TAP version 13\n";
 
 /// How a test point counts.
@@ -80,7 +109,8 @@ fn push_chars(line: &mut String, all: &[char]) -> Result<(), AllocError>
     Ok(())
 }
 
-/// A text as it stands in a test point's line: `#` and `\` have a `\` before them, and a line end is a blank.
+/// A text as it stands in a test point's line: `#` and `\` have a `\` before them, and a line end
+/// is a blank.
 fn escaped(alloc: Global, text: &str) -> Result<String, AllocError>
     ensures { IfOk result (λ line. string_bytes line ≡ escaped text.now) }
 {

@@ -3,7 +3,15 @@
 ghost use Rattle.std.specs.Prelude.{◌≡◌, ◌++◌, IfOk, OnOk, string_bytes};
 ghost use Rattle.std.specs.Fmt.{decimal};
 ghost use Rattle.std.specs.List.{flat_map};
-ghost use Rattle.results.specs.Xml.{attribute, char_text, declaration, end_tag, is_allowed, open_tag, xml_text};
+ghost use Rattle.results.specs.Xml.{
+  attribute,
+  char_text,
+  declaration,
+  end_tag,
+  is_allowed,
+  open_tag,
+  xml_text,
+};
 
 use std::alloc::{AllocError, Global};
 
@@ -17,8 +25,9 @@ fn is_allowed(c: char) -> bool
     )
 }
 
-/// Adds a character, so that it reads back as itself in an element's content and in an attribute's value: markup and line
-/// ends by references (sections 2.4, 2.11, 3.3.3), and one that XML doesn't allow as U+FFFD.
+/// Adds a character, so that it reads back as itself in an element's content and in an attribute's
+/// value: markup and line ends by references (sections 2.4, 2.11, 3.3.3), and one that XML doesn't
+/// allow as U+FFFD.
 fn push_char(xml: &mut String, c: char) -> Result<(), AllocError>
     ensures { OnOk result (string_bytes xml.new ≡ string_bytes xml.old ++ char_text c) }
 {

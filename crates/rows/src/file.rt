@@ -21,11 +21,11 @@ pub trait Subject {
     /// Begins anew, as each heading asks.
     fn restart(&mut self, alloc: Global);
 
-    /// Writes the answer to what a row gives, in the words of its file, behind nothing.
+    /// Writes the answer to what a row gives, in the words of its file, after nothing.
     fn answer(&mut self, alloc: Global, given: Given<'_>, answer: &mut String) -> Result<()>;
 }
 
-/// The line without its comment: all of one that begins with `#`, or what stands behind ` # `.
+/// The line without its comment: all of one that begins with `#`, or what follows ` # `.
 fn without_comment(line: &str) -> &str {
     if line.starts_with('#') {
         return "";
@@ -61,8 +61,8 @@ fn tell(rt: &impl Print, text: &str, wanted: &str, answer: &str) -> Result<()> {
     Ok(())
 }
 
-/// Tries the rows of a file, prints those whose answer isn't the wanted one and how many rows there are, and answers how
-/// many differ.
+/// Tries the rows of a file, prints those whose answer isn't the wanted one and how many rows there
+/// are, and answers how many differ.
 ///
 /// # Errors
 ///

@@ -3,7 +3,7 @@
 use anyhow::{Context, Result};
 use std::alloc::Global;
 
-/// The bytes of pairs of hexadecimal digits; behind some a star and how many times they come. A `^`
+/// The bytes of pairs of hexadecimal digits; after some a star and how many times they come. A `^`
 /// among them stands for the four bytes of a client's stream: each time of the next, from 1 on (RFC
 /// 9113, section 5.1.1).
 pub fn bytes_of(alloc: Global, text: &str) -> Result<Vec<u8>> {
@@ -41,7 +41,7 @@ pub fn frames_of(alloc: Global, bytes: &[u8]) -> Result<Vec<Vec<u8>>> {
     Ok(frames)
 }
 
-/// What comes so often as is said behind a star, or once.
+/// What comes so often as is said after a star, or once.
 pub fn times_of(word: &str) -> Result<(&str, u32)> {
     match word.split_once('*') {
         Some((once, times)) => Ok((once, times.parse::<u32>().context("no number of times")?)),

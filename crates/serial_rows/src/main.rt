@@ -4,9 +4,9 @@
 //! in an order that a row gives, or that follows from a number. `data/README.md` says how rows are
 //! written.
 //!
-//! To be read in this order: `serial`, what a connection has; `reader`, `worker` and `writer`, its
-//! steps; `pipe`, what it writes to; `runs`, the orders; `told`, what a peer reads of what was
-//! written; `digits`, `words` and `subject`, the rows.
+//! Read `serial`, what a connection has; `reader`, `worker` and `writer`, its steps; `pipe`, the
+//! device that it writes to; `runs`, the orders; `told`, what a peer reads of what was written;
+//! `digits`, `words` and `subject`, the rows.
 #![tactic(auto)]
 
 use anyhow::{Result, ensure};

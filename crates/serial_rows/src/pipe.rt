@@ -8,7 +8,8 @@ use std::io::Write;
 /// How many bytes most runs write at most.
 const WRITTEN: usize = 65_536;
 
-/// Keeps what is written, so many bytes a call at most, and fails from one of the calls on.
+/// Keeps what is written, at most a number of bytes for each call, and fails from one of the calls
+/// on.
 #[derive(Drop)]
 pub struct Pipe {
     pub bytes: Vec<u8>,

@@ -19,7 +19,7 @@ use std::time::Clock;
 const TURNS: u32 = 4096;
 
 impl<'a, R: Wait + Clock> Serial<'a, R> {
-    /// Reads bytes: their events wait behind the others.
+    /// Reads bytes: their events wait after the others.
     pub fn feed(&mut self, piece: &[u8]) -> Result<()> {
         let Ok(events) = self.core.feed(piece) else {
             let decided = self.reading.run_out();
@@ -95,8 +95,8 @@ impl<'a, R: Wait + Clock> Serial<'a, R> {
         }
     }
 
-    /// Has a worker answer a call that was admitted: one that is free, or a new one. Where there
-    /// are as many as calls may be live, it waits.
+    /// Hands a call that was admitted to a worker: one that is free, or a new one. If there are 64
+    /// workers, it waits.
     fn start(&mut self, request: Request) -> Result<()> {
         let (id, method) = (request.id, request.index);
         let mut number = self.reading.free();
@@ -177,8 +177,8 @@ impl<'a, R: Wait + Clock> Serial<'a, R> {
         Ok(())
     }
 
-    /// Puts an order. While there is no room the writer has its turns; once it has stopped, this
-    /// order and all behind it but the last are dropped, and the sender of a call that was to begin
+    /// Puts an order. While there is no room the writer has its turns. Once it has stopped, this
+    /// order and all after it but the last are dropped, and the sender of a call that was to begin
     /// comes back.
     fn put(&mut self, order: Order) -> Result<()> {
         let (kind, mut order) = (kind_of(&order), order);

@@ -9,7 +9,7 @@ use std::alloc::Global;
 use std::sync::Wait;
 use std::time::Clock;
 
-/// How many rounds a run has at most behind its own order, of a step of each kind.
+/// How many rounds a run has at most after its own order, of a step of each kind.
 const ROUNDS: u32 = 16_384;
 
 /// How many steps follow from a number.
@@ -29,7 +29,7 @@ const CANCEL: [u8; 13] = [0, 0, 4, 3, 0, 0, 0, 0, 0, 0, 0, 0, 8];
 pub struct Course<'a> {
     /// The steps that come first, by their words.
     pub steps: &'a str,
-    /// The number from which steps follow that come behind these.
+    /// The number from which steps follow that come after these.
     pub seed: Option<u64>,
     /// How many bytes a write takes at most.
     pub most: usize,
@@ -40,13 +40,13 @@ pub struct Course<'a> {
     /// How many orders may wait for the writer, and how many senders to be taken back.
     pub orders: usize,
     pub home: usize,
-    /// A stream whose call finds no memory, and behind how many of its turns.
+    /// A stream whose call finds no memory, and after how many of its turns.
     pub lacks: Option<(StreamId, u64)>,
     /// Whether each call is answered at once, by `callworker::Worker`, once no more comes.
     pub is_worked: bool,
-    /// A stream that the client resets, and behind how many turns of calls.
+    /// A stream that the client resets, and after how many turns of calls.
     pub reset: Option<(StreamId, u64)>,
-    /// A moment to which the clock jumps, and behind how many turns of calls.
+    /// A moment to which the clock jumps, and after how many turns of calls.
     pub jump: Option<(u64, u64)>,
 }
 

@@ -20,7 +20,7 @@ use std::snapshot::Snapshot;
 use std::sync::ledger::{Blank, Share};
 use std::sync::{Arc, Wait};
 use std::time::Clock;
-use writerloop::{Filled, Writing};
+use writerloop::{Filled, WriterEnding, Writing};
 
 pub type Shared = callworker::Shared<Brand, Brand, Brand>;
 
@@ -49,7 +49,7 @@ pub struct Serial<'a, R> {
     /// How many calls were admitted, and how many of them no worker serves.
     pub admitted: usize,
     pub unserved: usize,
-    /// The streams of the calls that were settled, rising in each look, and 0 behind each look that
+    /// The streams of the calls that were settled, rising in each look, and 0 after each look that
     /// was asked for or that settled one.
     pub settled: Vec<StreamId>,
     /// How the connection ended, if the reader ended it.
@@ -230,11 +230,10 @@ fn are_rising(accounts: &Accounts) -> bool {
 }
 
 /// How a connection ended, by what the reader and the writer see.
-fn ending_of(read: Ending, written: Option<Ending>) -> Ending {
+fn ending_of(read: Ending, written: Option<WriterEnding>) -> Ending {
     match (read, written) {
-        (Ending::OutOfMemory, _) | (_, Some(Ending::OutOfMemory)) => Ending::OutOfMemory,
-        (_, Some(Ending::ProtocolError(code))) => Ending::ProtocolError(code),
-        (_, Some(_)) => Ending::WriteFailed,
+        (Ending::OutOfMemory, _) => Ending::OutOfMemory,
+        (_, Some(end)) => end.ending(),
         (read, None) => read,
     }
 }

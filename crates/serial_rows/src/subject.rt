@@ -21,7 +21,7 @@ use std::time::Clock;
 enum Verdict {
     /// All is as it is wanted.
     Same,
-    /// Some of it is missing, of the stream alone that was reset, or behind a failed write.
+    /// Some of it is missing, of the stream alone that was reset, or after a failed write.
     Begins,
     Differs,
 }
@@ -88,7 +88,7 @@ struct Wanted<'a> {
 impl<'a> Wanted<'a> {
     /// The runs beside the plain one, which goes as this: that of the steps, those that follow from
     /// numbers, that of the worker's own loops, those of which each write fails in turn, and those
-    /// that are disturbed behind each turn.
+    /// that are disturbed after each turn.
     fn courses(&self, plain: Course<'a>) -> Result<Vec<Course<'a>>> {
         let words = self.words;
         let mut courses = Vec::new(self.alloc);
@@ -125,8 +125,7 @@ impl<'a> Wanted<'a> {
         Ok(courses)
     }
 
-    /// How a run compares with what is wanted. Of one that differs the answer tells what came of
-    /// it.
+    /// How a run compares with what is wanted. If it differs, the answer says what came of it.
     fn verdict(&self, ran: &Ran, answer: &mut String) -> Result<Verdict> {
         let streams = Streams::read(self.alloc, ran.written.as_slice())?;
         let text = text_of(self.alloc, self.words, &streams, ran)?;
@@ -198,9 +197,9 @@ fn text_of(alloc: Global, words: Words<'_>, streams: &Streams, ran: &Ran) -> Res
     Ok(text)
 }
 
-/// Tells of a call its stream, and by the word `rows` how many messages were taken and given, and
-/// the status, if it has one; by another how many bytes its worker was fed, and how its half was
-/// shut, if it was told so.
+/// Adds a call's stream. By the word `rows` it adds how many messages were taken and given, and the
+/// status, if there is one; by another word how many bytes its worker was fed, and how its half was
+/// shut, if the worker knows.
 fn push_account(text: &mut String, account: &CallAccount, word: &str) -> Result<()> {
     let (id, input, replies) = (account.id, account.input, account.traffic.replies);
     if word == "rows" {

@@ -22,7 +22,7 @@ enum Course {
 #[derive(Drop)]
 struct StreamText {
     text: String,
-    /// All its DATA, and how many of them the text tells.
+    /// All its DATA, and how many of them the text has.
     data: Vec<u8>,
     told: usize,
     course: Course,
@@ -41,7 +41,7 @@ pub struct Streams {
     /// DATA have, and by how much a WINDOW_UPDATE opens a window.
     pub frames: String,
     /// Whether some stream had another thing than a header block, DATA and trailers, in this order,
-    /// or one RST_STREAM in place of the trailers; or something behind these.
+    /// or one RST_STREAM in place of the trailers; or something after these.
     pub is_unlawful: bool,
 }
 
@@ -68,8 +68,8 @@ impl Streams {
         Ok(streams)
     }
 
-    /// Whether the DATA of each stream begin what came on it in the other; but for that stream, all
-    /// are the same.
+    /// Whether the DATA of the disturbed stream begin what came on it in the other; all other
+    /// streams have to be equal.
     pub fn begins(&self, other: &Streams, disturbed: StreamId) -> bool {
         self.streams.iter().all(|(id, stream)| match other.streams.get(id) {
             Some(whole) if *id == disturbed => {
@@ -80,7 +80,7 @@ impl Streams {
         })
     }
 
-    /// Writes all streams from this one on in ascending order, behind that of the connection.
+    /// Writes all streams from this one on in ascending order, after stream 0.
     pub fn push_text(&self, text: &mut String, from: StreamId) -> Result<()> {
         for (id, stream) in self.streams.iter() {
             if *id == 0 || *id >= from {
@@ -91,7 +91,7 @@ impl Streams {
         Ok(())
     }
 
-    /// Tells a frame.
+    /// Writes a frame as text.
     fn tell(&mut self, frame: &Frame) -> Result<()> {
         let (id, kind) = (frame.head.stream, frame.head.kind);
         let content = frame.content.as_slice();
@@ -130,7 +130,7 @@ impl Streams {
         self.streams.get_mut(&id).context("no stream")
     }
 
-    /// Tells the fields of a header block, once it has ended.
+    /// Writes the fields of a header block, once it has ended.
     fn tell_block(&mut self, frame: &Frame) -> Result<()> {
         let flags = frame.head.flags;
         if frame.head.kind == FrameKind::Headers {
@@ -160,7 +160,7 @@ impl Streams {
         Ok(())
     }
 
-    /// Tells a frame without DATA or a header block.
+    /// Writes a frame without DATA or a header block.
     fn tell_other(&mut self, frame: &Frame) -> Result<()> {
         let content = frame.content.as_slice();
         let stream = self.entry(frame.head.stream)?;
@@ -201,7 +201,7 @@ impl Streams {
 }
 
 impl StreamText {
-    /// Tells the DATA that came since the last other frame.
+    /// Writes the DATA that came since the last other frame.
     fn tell_data(&mut self) -> Result<()> {
         let data = &self.data[self.told..];
         if !data.is_empty() {
@@ -214,7 +214,7 @@ impl StreamText {
     }
 }
 
-/// Tells a field.
+/// Writes a field.
 fn push_field(text: &mut String, field: &Field) -> Result<()> {
     text.push_str("  ")?;
     push_octets(text, field.name.as_slice())?;

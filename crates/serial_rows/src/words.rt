@@ -5,8 +5,7 @@ use anyhow::{Context, Result, ensure};
 use callparts::HOME;
 use h2frame::StreamId;
 
-/// How many orders may wait for the writer, where a row says nothing of it: as many as in the
-/// server.
+/// How many orders may wait for the writer, if a row doesn't say: as in the server.
 const ORDERS: usize = 1024;
 
 /// The words that a row may have.
@@ -16,7 +15,7 @@ const NAMES: [&str; 20] = [
     "worked",
 ];
 
-/// The words of a row: the name of its connection, words with `=` and without, and behind a `:`
+/// The words of a row: the name of its connection, words with `=` and without, and after a `:`
 /// steps.
 #[derive(Clone, Copy)]
 pub struct Words<'a> {
@@ -25,7 +24,7 @@ pub struct Words<'a> {
     pub steps: &'a str,
 }
 
-/// A word, and what stands behind its `=`.
+/// A word, and what follows its `=`.
 fn parts_of(option: &str) -> (&str, &str) {
     option.split_once('=').unwrap_or((option, ""))
 }
@@ -48,7 +47,7 @@ impl<'a> Words<'a> {
         })
     }
 
-    /// What stands behind this word and its `=`; nothing where the row hasn't the word.
+    /// What follows this word and its `=`; nothing where the row hasn't the word.
     fn value(&self, name: &str) -> Option<&'a str> {
         let mut options = self.options.split_ascii_whitespace().map(parts_of);
         Some(options.find(|(word, _)| *word == name)?.1)

@@ -188,7 +188,7 @@ impl<'a, R: Wait + Clock> Serial<'a, R> {
             line: Arc::try_clone(&worker.line)?,
             shared: Arc::try_clone(&self.shared)?,
             gate: Arc::new(self.alloc, OpenGate)?,
-            start: Instant::now(self.rt)?,
+            start: Some(Instant::now(self.rt)?),
         };
         let _ways = threads.work::<Brand, Brand, R>(self.rt, self.methods, ways);
         let Ok(finished) = done.pop() else {

@@ -62,8 +62,8 @@ impl<'a, R: Wait + Clock> Serial<'a, R> {
         self.announce_on(0);
     }
 
-    /// The same of a stream, or of the connection where it is 0. It stays due where the writer
-    /// hasn't opened the stream.
+    /// Grants the credit that is due on a stream, or on the connection where it is 0. It stays due
+    /// if the writer hasn't opened the stream.
     fn announce_on(&mut self, id: StreamId) {
         if !self.writing.takes_credit(id) {
             return;
@@ -113,8 +113,8 @@ impl<'a, R: Wait + Clock> Serial<'a, R> {
         }
     }
 
-    /// What comes behind that. Where nothing can be written the calls are cut that wait for a
-    /// window which won't open.
+    /// What follows that. If nothing can be written, the calls that wait for a window which won't
+    /// open are cut.
     fn end_turn(&mut self, filled: Filled, is_silent: bool) {
         let rest = self.writing.rest(filled, is_silent);
         self.is_idle = rest != Rest::None;

@@ -1,4 +1,5 @@
--- What a whole header block comes to (RFC 9113, sections 4.3, 8.1 and 8.1.1), given the verdict of its HEADERS.
+-- What a whole header block means (RFC 9113, sections 4.3, 8.1 and 8.1.1), given the verdict of its
+-- HEADERS.
 use Rattle.std.specs.Prelude.{◌≡◌, ◌≢◌, ◌⊎◌, ℕ, Bool, true, false, List, [], ◌∷◌, Option}
 use Rattle.h2frame.specs.declared.error_code.ErrorCode.TheVariants.{ProtocolError}
 use Rattle.h2frame.specs.declared.frame.FrameHead.{FrameHead}
@@ -21,7 +22,8 @@ use Rattle.session.specs.declared.event.InEvent.TheVariants as events
 use Rattle.session.specs.Streams.{refusal, end_of}
 use Rattle.session.specs.Frames.{fatal}
 
--- a malformed head resets its stream at once, and nothing ends it; any other head may be the last of its stream
+-- a malformed head resets its stream at once, and nothing ends it; any other head may be the last
+-- of its stream
 abbrev pub bad_head_events : HeadFault → FrameHead → List InEvent
 bad_head_events Malformed head = events.BadHead head.stream Malformed ∷ []
 bad_head_events fault head = events.BadHead head.stream fault ∷ end_of head
@@ -30,13 +32,15 @@ abbrev pub after_bad_head : HeadFault → ℕ → List Event → List Event
 after_bad_head Malformed id history = Cut id ∷ history
 after_bad_head _ id history = history
 
--- the fields are the head of a call, or the first fault of them stands
+-- the fields are the head of a call, or have this first fault
 abbrev pub HeadGives : FrameHead → List Field → List Event → List InEvent → List Event → Type 0
 HeadGives head fields history given next =
-    ((call : CallHead) × IsHead fields call × (given ≡ events.Open head.stream call ∷ end_of head) × (next ≡ history))
-    ⊎ ((fault : HeadFault) × IsFirstHeadFault fields fault × (given ≡ bad_head_events fault head) × (next ≡ after_bad_head fault head.stream history))
+    ((call : CallHead) × IsHead fields call × (given ≡ events.Open head.stream call ∷ end_of head)
+    × (next ≡ history))
+    ⊎ ((fault : HeadFault) × IsFirstHeadFault fields fault × (given ≡ bad_head_events fault head)
+    × (next ≡ after_bad_head fault head.stream history))
 
--- malformed trailers are an error of the stream, which resets it; others end it
+-- malformed trailers are an error of the stream, which resets it; other trailers end it
 abbrev pub trailer_events : Bool → FrameHead → List InEvent
 trailer_events true head = refusal (StreamError ProtocolError) head
 trailer_events false head = end_of head
@@ -45,15 +49,21 @@ abbrev pub after_trailers : Bool → ℕ → List Event → List Event
 after_trailers true id history = Cut id ∷ history
 after_trailers false id history = history
 
--- a block that is refused is not looked at
-abbrev pub FieldsGive : HalfVerdict → FrameHead → List Field → List Event → List InEvent → List Event → Type 0
+-- the fields of a refused block aren't looked at
+abbrev pub FieldsGive : HalfVerdict → FrameHead → List Field → List Event → List InEvent
+    → List Event → Type 0
 FieldsGive Open head fields history given next = HeadGives head fields history given next
 FieldsGive Accept head fields history given next =
-    (given ≡ trailer_events (are_malformed_trailers fields) head) × (next ≡ after_trailers (are_malformed_trailers fields) head.stream history)
+    (given ≡ trailer_events (are_malformed_trailers fields) head)
+    × (next ≡ after_trailers (are_malformed_trailers fields) head.stream history)
 FieldsGive judged head fields history given next = (given ≡ refusal judged head) × (next ≡ history)
 
--- From what the decoder kept the block is read, whatever its stream; its first fault ends the connection.
-abbrev pub BlockGives : Option Table → FrameHead → HalfVerdict → List ℕ → List Event → List InEvent → List Event → Option Table → Type 0
+-- The block is read with the decoder's table, whatever its stream. Its first fault ends the
+-- connection.
+abbrev pub BlockGives : Option Table → FrameHead → HalfVerdict → List ℕ → List Event → List InEvent
+    → List Event → Option Table → Type 0
 BlockGives kept head judged block history given next kept_next =
-    ((fields : List Field) × Reads kept block fields kept_next × FieldsGive judged head fields history given next)
-    ⊎ ((fault : HpackFault) × IsFirstFault fault kept block × (fault ≢ OutOfMemory) × (given ≡ fatal (reason.Hpack fault)) × (next ≡ history))
+    ((fields : List Field) × Reads kept block fields kept_next
+    × FieldsGive judged head fields history given next)
+    ⊎ ((fault : HpackFault) × IsFirstFault fault kept block × (fault ≢ OutOfMemory)
+    × (given ≡ fatal (reason.Hpack fault)) × (next ≡ history))

@@ -1,5 +1,29 @@
 -- What a reading core keeps of the bytes that it was fed and of the events that it answered.
-use Rattle.std.specs.Prelude.{◌≡◌, ◌≢◌, ◌⊎◌, ℕ, Bool, true, false, List, [], ◌∷◌, ◌++◌, map, length, slice_get, ◌-◌, if◌then◌else◌, Option, Some, None, IsSome, Result, Ok, Err}
+use Rattle.std.specs.Prelude.{
+  ◌≡◌,
+  ◌≢◌,
+  ◌⊎◌,
+  ℕ,
+  Bool,
+  true,
+  false,
+  List,
+  [],
+  ◌∷◌,
+  ◌++◌,
+  map,
+  length,
+  slice_get,
+  ◌-◌,
+  if◌then◌else◌,
+  Option,
+  Some,
+  None,
+  IsSome,
+  Result,
+  Ok,
+  Err,
+}
 use Rattle.h2frame.specs.declared.fault.FrameFault.{FrameFault}
 use Rattle.h2frame.specs.declared.fault.FrameFault.TheVariants.{OutOfMemory}
 use Rattle.h2frame.specs.declared.frame.Frame.{Frame}
@@ -18,7 +42,16 @@ use Rattle.session.specs.Prefaces.{preface, Departs}
 use Rattle.session.specs.Streams.{after_frame, is_accepted}
 use Rattle.session.specs.Frames.{fatal}
 use Rattle.session.specs.HeaderBlocks.{Pending}
-use Rattle.session.specs.Events.{Passes, IsBegun, is_fatal, IsSettings, IsUnsettled, Close, Unfinished, Follows}
+use Rattle.session.specs.Events.{
+  Passes,
+  IsBegun,
+  is_fatal,
+  IsSettings,
+  IsUnsettled,
+  Close,
+  Unfinished,
+  Follows,
+}
 
 -- what is kept between two pieces
 pub record Core : Type 0 where
@@ -31,7 +64,8 @@ pub record Core : Type 0 where
 abbrev pub IsSound : Position → Streams → Type 0
 IsSound First streams = Unit {0}
 IsSound Between streams = Unit {0}
-IsSound (Inside block judged) streams = (block.whole ≡ false) × (is_accepted judged ≡ true → IsSome (half_of streams block.head.stream))
+IsSound (Inside block judged) streams =
+    (block.whole ≡ false) × (is_accepted judged ≡ true → IsSome (half_of streams block.head.stream))
 
 abbrev pub IsSoundNext : Option Position → Streams → Type 0
 IsSoundNext (Some position) streams = IsSound position streams
@@ -47,26 +81,34 @@ abbrev pub IsSettled : List Entry → Type 0
 IsSettled [] = ⊥
 IsSettled (entry ∷ entries) = IsSettings entry
 
--- whole groups came, and these entries behind them
-pub record IsPassed (entries behind : List Entry) (given : List InEvent) (history : List Event) (kept : Option Table) : Type 0 where
+-- whole groups came, and these entries after them
+pub record IsPassed (entries behind : List Entry) (given : List InEvent) (history : List Event)
+    (kept : Option Table) : Type 0 where
   pub passes : Passes entries behind given (record { history = history; kept = kept })
   pub settled : IsSettled entries
 
--- the frames of a header block came behind them, of which HEADERS had this verdict
-pub record IsInside (block : Pending) (judged : HalfVerdict) (history : List Event) (frames : List Frame) (streams : Streams) : Type 0 where
+-- the frames of a header block came after them, whose HEADERS had this verdict
+pub record IsInside (block : Pending) (judged : HalfVerdict) (history : List Event)
+    (frames : List Frame) (streams : Streams) : Type 0 where
   pub begun : IsBegun history frames block
   pub as_judged : judged ≡ verdict history block.head
   pub keeps : Keeps (after_frame judged block.head history) streams
 
-abbrev pub Holds : List Entry → List InEvent → Pending → HalfVerdict → Streams → Option Table → Type 0
+abbrev pub Holds : List Entry → List InEvent → Pending → HalfVerdict → Streams
+    → Option Table → Type 0
 Holds entries given block judged streams kept =
-    (history : List Event) × (frames : List Frame) × IsPassed entries (map Whole frames) given history kept × IsInside block judged history frames streams
+    (history : List Event) × (frames : List Frame)
+    × IsPassed entries (map Whole frames) given history kept
+    × IsInside block judged history frames streams
 
 -- the entries so far, with these events, lead to this position
 abbrev pub Leads : List Entry → List InEvent → Position → Streams → Option Table → Type 0
-Leads entries given First streams kept = (entries ≡ []) × (given ≡ []) × Keeps [] streams × (kept ≡ Some empty_table)
-Leads entries given Between streams kept = (history : List Event) × IsPassed entries [] given history kept × Keeps history streams
-Leads entries given (Inside block judged) streams kept = (block.whole ≡ false) × Holds entries given block judged streams kept
+Leads entries given First streams kept =
+    (entries ≡ []) × (given ≡ []) × Keeps [] streams × (kept ≡ Some empty_table)
+Leads entries given Between streams kept =
+    (history : List Event) × IsPassed entries [] given history kept × Keeps history streams
+Leads entries given (Inside block judged) streams kept =
+    (block.whole ≡ false) × Holds entries given block judged streams kept
 
 -- the entries and the rest, with these events, are the end of the connection
 abbrev pub Stops : List Entry → List ℕ → List InEvent → Type 0
@@ -79,7 +121,7 @@ abbrev pub LeadsOn : List Entry → List InEvent → Option Position → Streams
 LeadsOn entries given (Some position) streams kept = Leads entries given position streams kept
 LeadsOn entries given None streams kept = (rest : List ℕ) → Stops entries rest given
 
--- the position behind these events
+-- the position after these events
 abbrev pub ends_at : Option InEvent → Bool
 ends_at (Some event) = is_fatal event
 ends_at None = false
@@ -88,52 +130,77 @@ abbrev pub position_behind : List InEvent → Option Position
 position_behind given = if ends_at (slice_get given (length given - 1)) then None else Some Between
 
 -- Whatever whole groups led here, a frame that begins a group leads on.
-abbrev pub Begins : Streams → Option Table → List InEvent → Frame → Option Position → Streams → Option Table → List InEvent → Type 0
+abbrev pub Begins : Streams → Option Table → List InEvent → Frame → Option Position → Streams
+    → Option Table → List InEvent → Type 0
 Begins streams kept old frame next new_streams new_kept new =
     (entries : List Entry) (before : List InEvent) (history : List Event)
-    → Passes entries [] (before ++ old) (record { history = history; kept = kept }) → Keeps history streams → IsSettled (entries ++ Whole frame ∷ [])
+    → Passes entries [] (before ++ old) (record { history = history; kept = kept })
+    → Keeps history streams → IsSettled (entries ++ Whole frame ∷ [])
     → LeadsOn (entries ++ Whole frame ∷ []) (before ++ new) next new_streams new_kept
 
 -- Whatever entries led to the frames of a header block, they lead on.
-abbrev pub Collected : Pending → HalfVerdict → Streams → Option Table → List InEvent → Option Position → Streams → Option Table → List InEvent → Type 0
+abbrev pub Collected : Pending → HalfVerdict → Streams → Option Table → List InEvent
+    → Option Position → Streams → Option Table → List InEvent → Type 0
 Collected block judged streams kept old next new_streams new_kept new =
-    (entries : List Entry) (before : List InEvent) → Holds entries (before ++ old) block judged streams kept → LeadsOn entries (before ++ new) next new_streams new_kept
+    (entries : List Entry) (before : List InEvent)
+    → Holds entries (before ++ old) block judged streams kept
+    → LeadsOn entries (before ++ new) next new_streams new_kept
 
 -- Whatever entries and events led here, with these further entries they lead on.
-abbrev pub Advances : Position → Streams → Option Table → List InEvent → List Entry → Option Position → Streams → Option Table → List InEvent → Type 0
+abbrev pub Advances : Position → Streams → Option Table → List InEvent → List Entry
+    → Option Position → Streams → Option Table → List InEvent → Type 0
 Advances at streams kept old more next new_streams new_kept new =
-    (entries : List Entry) (before : List InEvent) → Leads entries (before ++ old) at streams kept → LeadsOn (entries ++ more) (before ++ new) next new_streams new_kept
+    (entries : List Entry) (before : List InEvent) → Leads entries (before ++ old) at streams kept
+    → LeadsOn (entries ++ more) (before ++ new) next new_streams new_kept
 
 -- a fault of the frame reader ends the connection
 abbrev pub IsEnd : Result Frame FrameFault → List InEvent → List InEvent → Type 0
 IsEnd (Ok frame) old new = ⊥
 IsEnd (Err fault) old new = (fault ≢ OutOfMemory) × (new ≡ old ++ fatal (reason.Frame fault))
 
--- the bytes behind the preface lead to this position
+-- the bytes after the preface lead to this position
 abbrev pub ReadsTo : List ℕ → List InEvent → Position → List ℕ → Streams → Option Table → Type 0
-ReadsTo text given position waiting streams kept = (entries : List Entry) × Joined text entries waiting × Leads entries given position streams kept
+ReadsTo text given position waiting streams kept =
+    (entries : List Entry) × Joined text entries waiting × Leads entries given position streams kept
 
--- they are the end of the connection
+-- the bytes after the preface are the end of the connection
 abbrev pub IsOver : List ℕ → List InEvent → Type 0
-IsOver text given = (entries : List Entry) × (rest : List ℕ) × Joined text entries rest × Stops entries rest given
+IsOver text given =
+    (entries : List Entry) × (rest : List ℕ) × Joined text entries rest × Stops entries rest given
 
--- the bytes behind the preface lead to this position, or are the end
-abbrev pub ReadsNext : List ℕ → List InEvent → Option Position → List ℕ → Streams → Option Table → Type 0
-ReadsNext text given (Some position) waiting streams kept = ReadsTo text given position waiting streams kept
+-- the bytes after the preface lead to this position, or are the end
+abbrev pub ReadsNext : List ℕ → List InEvent → Option Position → List ℕ → Streams
+    → Option Table → Type 0
+ReadsNext text given (Some position) waiting streams kept =
+    ReadsTo text given position waiting streams kept
 ReadsNext text given None waiting streams kept = IsOver text given
 
--- the bytes behind the preface lead to this stage, in which no frame is left that is whole
+-- the bytes after the preface lead to this stage, in which no whole frame is left
 abbrev pub ReadsOn : List ℕ → List InEvent → Stage → List ℕ → Streams → Option Table → Type 0
-ReadsOn text given (Reading position) waiting streams kept = ReadsTo text given position waiting streams kept × IsUnfinished waiting
+ReadsOn text given (Reading position) waiting streams kept =
+    ReadsTo text given position waiting streams kept × IsUnfinished waiting
 ReadsOn text given Dead waiting streams kept = IsOver text given
 ReadsOn text given (Greeting due) waiting streams kept = ⊥
+
+-- The frames that wait are read: whatever bytes behind the preface led to them, with these events,
+-- lead on to this stage.
+pub record ReadsWaiting (at : Position) (waiting : List ℕ) (streams : Streams) (kept : Option Table)
+    (before : List InEvent)
+    (next : Stage) (left : List ℕ) (new_streams : Streams) (new_kept : Option Table)
+    (after : List InEvent) : Type 0 where
+  pub sound : IsSoundStage next new_streams
+  pub reads : (text : List ℕ) (earlier : List InEvent)
+      → ReadsTo text (earlier ++ before) at waiting streams kept
+      → ReadsOn text (earlier ++ after) next left new_streams new_kept
 
 -- The bytes so far, with these events, lead to this core.
 abbrev pub AtStage : List ℕ → List InEvent → Stage → List ℕ → Streams → Option Table → Type 0
 AtStage bytes given (Greeting due) waiting streams kept =
-    (preface ≡ bytes ++ due) × (due ≢ []) × (given ≡ []) × (waiting ≡ []) × Keeps [] streams × (kept ≡ Some empty_table)
+    (preface ≡ bytes ++ due) × (due ≢ []) × (given ≡ []) × (waiting ≡ []) × Keeps [] streams
+    × (kept ≡ Some empty_table)
 AtStage bytes given (Reading position) waiting streams kept =
-    (text : List ℕ) × (bytes ≡ preface ++ text) × ReadsTo text given position waiting streams kept × IsUnfinished waiting
+    (text : List ℕ) × (bytes ≡ preface ++ text) × ReadsTo text given position waiting streams kept
+    × IsUnfinished waiting
 AtStage bytes given Dead waiting streams kept =
     (Departs preface bytes × (given ≡ fatal reason.Preface))
     ⊎ ((text : List ℕ) × (bytes ≡ preface ++ text) × IsOver text given)
@@ -143,10 +210,13 @@ pub record Reached (bytes : List ℕ) (given : List InEvent) (core : Core) : Typ
 
 -- a core by its parts
 abbrev pub core_of : Stage → List ℕ → Streams → Option Table → Core
-core_of stage waiting streams kept = record { stage = stage; waiting = waiting; streams = streams; kept = kept }
+core_of stage waiting streams kept =
+    record { stage = stage; waiting = waiting; streams = streams; kept = kept }
 
--- A piece leads from one core to another, and from some events of it to others: whatever bytes and events led to the
--- first core, with the piece, and with what is new of the events, they lead to the second.
-pub record Feeds (old : Core) (piece : List ℕ) (before : List InEvent) (new : Core) (after : List InEvent) : Type 0 where
+-- A piece leads from one core to another, and adds to the events: whatever bytes and events led to
+-- the first core, they lead to the second with the piece and the new events.
+pub record Feeds (old : Core) (piece : List ℕ) (before : List InEvent) (new : Core)
+    (after : List InEvent) : Type 0 where
   pub sound : IsSoundStage new.stage new.streams
-  pub follows : (bytes : List ℕ) (earlier : List InEvent) → Reached bytes (earlier ++ before) old → Reached (bytes ++ piece) (earlier ++ after) new
+  pub follows : (bytes : List ℕ) (earlier : List InEvent) → Reached bytes (earlier ++ before) old
+      → Reached (bytes ++ piece) (earlier ++ after) new

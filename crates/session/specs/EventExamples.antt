@@ -18,13 +18,16 @@ pub nothing_yet : Events [] []
 nothing_yet = Greeted preface refl refl
 
 pub half_a_preface : Events (0x50 ∷ 0x52 ∷ 0x49 ∷ []) []
-half_a_preface = Greeted (0x20 ∷ 0x2a ∷ 0x20 ∷ 0x48 ∷ 0x54 ∷ 0x54 ∷ 0x50 ∷ 0x2f ∷ 0x32 ∷ 0x2e ∷ 0x30 ∷ 0x0d ∷ 0x0a ∷ 0x0d ∷ 0x0a ∷ 0x53 ∷ 0x4d ∷ 0x0d ∷ 0x0a ∷ 0x0d ∷ 0x0a ∷ []) refl refl
+half_a_preface =
+    Greeted (0x20 ∷ 0x2a ∷ 0x20 ∷ 0x48 ∷ 0x54 ∷ 0x54 ∷ 0x50 ∷ 0x2f ∷ 0x32 ∷ 0x2e ∷ 0x30 ∷ 0x0d
+    ∷ 0x0a ∷ 0x0d ∷ 0x0a ∷ 0x53 ∷ 0x4d ∷ 0x0d ∷ 0x0a ∷ 0x0d ∷ 0x0a ∷ []) refl refl
 
 -- the first byte of another protocol's text
 pub another_text : Events (0x47 ∷ []) (fatal reason.Preface)
-another_text = Departed (λ more behind e. absurd (omega (arith, ap (λ (b : List ℕ). get_or b 0 0) e))) refl
+another_text =
+    Departed (λ more behind e. absurd (omega (arith, ap (λ (b : List ℕ). get_or b 0 0) e))) refl
 
--- SETTINGS without a parameter, and the spelling of it
+-- SETTINGS without a parameter, and its spelling
 abbrev pub plain_head : FrameHead
 plain_head = record { kind = Settings; flags = record { bits = 0 }; stream = 0; length = 0 }
 
@@ -54,7 +57,8 @@ settings_told = ([], record { each = tt; text = refl }, tt, refl)
 -- the preface and SETTINGS
 pub settings_alone : Events (preface ++ settings_text) (events.Control (controls.Settings []) ∷ [])
 settings_alone =
-    Read settings_text (Whole plain_settings ∷ []) [] Unfinished refl (settings_text, [], refl, settings_spelled, refl) (
+    Read settings_text (Whole plain_settings ∷ []) [] Unfinished refl
+    (settings_text, [], refl, settings_spelled, refl) (
     record {
       behind = [];
       before = events.Control (controls.Settings []) ∷ [];
@@ -64,7 +68,15 @@ settings_alone =
         groups = Single plain_settings ∷ [];
         parts = refl;
         opens = refl;
-        runs = (events.Control (controls.Settings []) ∷ [], [], start, ((inl ([], settings_told, refl), refl), refl), refl, (refl, refl), refl);
+        runs = (
+          events.Control (controls.Settings []) ∷ [],
+          [],
+          start,
+          ((inl ([], settings_told, refl), refl), refl),
+          refl,
+          (refl, refl),
+          refl,
+        );
       };
       closes = (inl refl, inl (lit< tt), refl);
       all = refl;

@@ -1,4 +1,5 @@
--- The bytes that flow control counts (RFC 9113, sections 6.1 and 6.9): of DATA the whole payload, padding too.
+-- The bytes that flow control counts (RFC 9113, sections 6.1 and 6.9): the whole payload of DATA,
+-- padding too.
 use Rattle.std.specs.Prelude.{ℕ, List, if◌then◌else◌, Bool, true, false}
 use Rattle.std.specs.List.{sum_by}
 use Rattle.h2frame.specs.declared.kind.FrameKind.{FrameKind}
@@ -7,7 +8,7 @@ use Rattle.h2frame.specs.FrameList.{Entry, Whole, NoIncrement}
 use Rattle.session.specs.declared.event.InEvent.{InEvent}
 use Rattle.session.specs.declared.event.InEvent.TheVariants as events
 
--- those that events tell, on a stream or on the connection alone
+-- those that events have, on a stream or on the connection alone
 abbrev pub counted_by : InEvent → ℕ
 counted_by (events.Data id piece counted) = counted
 counted_by (events.Loose counted) = counted

@@ -7,14 +7,21 @@ use Rattle.session.specs.declared.event.InEvent.TheVariants as events
 use Rattle.session.specs.Prefaces.{preface}
 use Rattle.session.specs.Events.{start, Single, Unfinished}
 use Rattle.session.specs.Framings.{Framed}
-use Rattle.session.specs.EventExamples.{plain_settings, settings_text, settings_spelled, settings_told}
+use Rattle.session.specs.EventExamples.{
+  plain_settings,
+  settings_text,
+  settings_spelled,
+  settings_told,
+}
 
 -- before the first byte none counts
 pub no_frame_yet : Framed [] [] []
 no_frame_yet = inl (inl (preface, refl, refl), refl)
 
 -- the preface, SETTINGS, and the first three bytes of another frame
-pub settings_counted : Framed (preface ++ settings_text ++ 0 ∷ 0 ∷ 8 ∷ []) (events.Control (controls.Settings []) ∷ []) (Whole plain_settings ∷ [])
+pub settings_counted :
+    Framed (preface ++ settings_text ++ 0 ∷ 0 ∷ 8 ∷ []) (events.Control (controls.Settings []) ∷ [])
+    (Whole plain_settings ∷ [])
 settings_counted =
     inr (record {
       text = settings_text ++ 0 ∷ 0 ∷ 8 ∷ [];
@@ -30,7 +37,15 @@ settings_counted =
         groups = Single plain_settings ∷ [];
         parts = refl;
         opens = refl;
-        runs = (events.Control (controls.Settings []) ∷ [], [], start, ((inl ([], settings_told, refl), refl), refl), refl, (refl, refl), refl);
+        runs = (
+          events.Control (controls.Settings []) ∷ [],
+          [],
+          start,
+          ((inl ([], settings_told, refl), refl), refl),
+          refl,
+          (refl, refl),
+          refl,
+        );
       };
       closes = (inl refl, inl (lit< tt), refl);
       all = refl;

@@ -1,5 +1,5 @@
--- The frames of a connection that count for its streams (RFC 9113, sections 3.4, 4.1 and 4.3): those of the whole groups
--- behind the preface, one list for all streams.
+-- The frames of a connection that count for its streams (RFC 9113, sections 3.4, 4.1 and 4.3):
+-- those of the whole groups after the preface, one list for all streams.
 use Rattle.std.specs.Prelude.{◌≡◌, ◌⊎◌, ℕ, List, [], ◌++◌}
 use Rattle.h2frame.specs.FrameList.{Entry, Joined}
 use Rattle.reasons.specs.declared.Reason.TheVariants as reason
@@ -8,15 +8,18 @@ use Rattle.session.specs.Prefaces.{preface, Departs}
 use Rattle.session.specs.Frames.{fatal}
 use Rattle.session.specs.Events.{Situation, Passes, Close, Closes, IsUnsettled}
 
--- no frame counts: the preface is unfinished, the bytes depart from it, or the first frame is no SETTINGS
+-- no frame counts: the preface is unfinished, the bytes depart from it, or the first frame isn't
+-- SETTINGS
 abbrev pub IsUnread : List ℕ → List InEvent → Type 0
 IsUnread bytes given =
     ((due : List ℕ) × (preface ≡ bytes ++ due) × (given ≡ []))
     ⊎ (Departs preface bytes × (given ≡ fatal reason.Preface))
-    ⊎ ((text : List ℕ) × (entries : List Entry) × (rest : List ℕ) × (bytes ≡ preface ++ text) × Joined text entries rest × IsUnsettled entries × (given ≡ fatal reason.First))
+    ⊎ ((text : List ℕ) × (entries : List Entry) × (rest : List ℕ) × (bytes ≡ preface ++ text)
+    × Joined text entries rest × IsUnsettled entries × (given ≡ fatal reason.First))
 
--- Behind the preface the bytes are these entries, whole groups with the events before, and then what closes them: a header
--- block that isn't whole, a fault, or what is fatal, with the last events.
+-- After the preface the bytes are these entries, which are whole groups with the first events, and
+-- then what closes them, with the last events: a header block that isn't whole, a fault, or what is
+-- fatal.
 pub record IsRead (bytes : List ℕ) (given : List InEvent) (entries : List Entry) : Type 0 where
   pub text : List ℕ
   pub behind : List Entry

@@ -1,4 +1,5 @@
--- A header block over its frames (RFC 9113, section 4.3): HEADERS, and CONTINUATION of the same stream behind it.
+-- A header block over its frames (RFC 9113, section 4.3): HEADERS, and then CONTINUATION of the
+-- same stream.
 use Rattle.std.specs.Prelude.{◌≡◌, ◌≤◌, ◌<◌, ◌+◌, ℕ, Bool, false, List, [], ◌∷◌, length, flat_map}
 use Rattle.std.specs.List.{AllByRecursion}
 use Rattle.h2frame.specs.declared.frame.Frame.{Frame}
@@ -8,13 +9,18 @@ use Rattle.h2frame.specs.Flags.{has, end_headers}
 use Rattle.reasons.specs.declared.Reason.{Reason}
 use Rattle.reasons.specs.declared.Reason.TheVariants as reason
 use Rattle.session.specs.declared.header_block.FragmentFault.{FragmentFault}
-use Rattle.session.specs.declared.header_block.FragmentFault.TheVariants.{Interrupted, TooLong, OutOfMemory}
+use Rattle.session.specs.declared.header_block.FragmentFault.TheVariants.{
+  Interrupted,
+  TooLong,
+  OutOfMemory,
+}
 
--- the most bytes of a header block that are taken (own)
+-- the most bytes of a header block that the server takes (a limit of our own)
 abbrev pub max_block : ℕ
 max_block = 65536
 
--- what is kept of a header block: the head of its HEADERS, its bytes so far, and whether they are all
+-- what is kept of a header block: the head of its HEADERS, its bytes so far, and whether they are
+-- all of them
 pub record Pending : Type 0 where
   pub head : FrameHead
   pub block : List ℕ
@@ -23,11 +29,12 @@ pub record Pending : Type 0 where
 abbrev pub IsContinuation : ℕ → Frame → Type 0
 IsContinuation id frame = (frame.head.kind ≡ Continuation) × (frame.head.stream ≡ id)
 
--- END_HEADERS is on no frame but the last, and on that where the block is whole
+-- only the last frame has END_HEADERS, and it has it where the block is whole
 abbrev pub AreMarked : List Frame → Bool → Type 0
 AreMarked [] ended = ⊥
 AreMarked (frame ∷ []) ended = has end_headers frame.head.flags ≡ ended
-AreMarked (frame ∷ next ∷ frames) ended = (has end_headers frame.head.flags ≡ false) × AreMarked (next ∷ frames) ended
+AreMarked (frame ∷ next ∷ frames) ended =
+    (has end_headers frame.head.flags ≡ false) × AreMarked (next ∷ frames) ended
 
 abbrev pub fragments : List Frame → List ℕ
 fragments frames = flat_map (λ (frame : Frame). frame.content) frames
@@ -44,13 +51,18 @@ pub record Collects (frames : List Frame) (pending : Pending) : Type 0 where
   pub short : length pending.block ≤ max_block
   pub marks : AreMarked frames pending.whole
 
--- why a frame doesn't go on with the block: it is another, or it has too many bytes
+-- why a frame doesn't go on with the block: it isn't CONTINUATION of the stream, or it has too many
+-- bytes
 abbrev pub Stands : FragmentFault → Pending → Frame → Type 0
 Stands Interrupted pending frame = IsContinuation pending.head.stream frame → ⊥
-Stands TooLong pending frame = IsContinuation pending.head.stream frame × (max_block < length pending.block + length frame.content)
-Stands OutOfMemory pending frame = IsContinuation pending.head.stream frame × (length pending.block + length frame.content ≤ max_block)
+Stands TooLong pending frame =
+    IsContinuation pending.head.stream frame
+    × (max_block < length pending.block + length frame.content)
+Stands OutOfMemory pending frame =
+    IsContinuation pending.head.stream frame
+    × (length pending.block + length frame.content ≤ max_block)
 
--- why the connection ends by a fault
+-- the reason for which a fault ends the connection
 abbrev pub fragment_reason : FragmentFault → Reason
 fragment_reason Interrupted = reason.Interrupted
 fragment_reason TooLong = reason.BlockTooLong

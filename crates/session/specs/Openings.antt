@@ -1,9 +1,9 @@
--- The streams that events tell to begin: their numbers rise (RFC 9113, section 5.1.1).
+-- The streams that begin by events: their numbers rise (RFC 9113, section 5.1.1).
 use Rattle.std.specs.Prelude.{ℕ, ◌<◌, List, [], ◌∷◌, flat_map}
 use Rattle.session.specs.declared.event.InEvent.{InEvent}
 use Rattle.session.specs.declared.event.InEvent.TheVariants as events
 
--- the stream that an event tells to begin, with a head of a call or without
+-- the stream that begins by an event, with the head of a call or without
 abbrev pub opening_of : InEvent → List ℕ
 opening_of (events.Open id call) = id ∷ []
 opening_of (events.BadHead id fault) = id ∷ []

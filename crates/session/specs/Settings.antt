@@ -1,9 +1,28 @@
 -- The content of a SETTINGS frame (RFC 9113, sections 6.5.1 and 6.5.2).
-use Rattle.std.specs.Prelude.{◌≡◌, ℕ, ◌^◌, ◌<◌, ◌||◌, nat_lt, if◌then◌else◌, List, ◌++◌, flat_map, filter_map, Option, Some, None}
+use Rattle.std.specs.Prelude.{
+  ◌≡◌,
+  ℕ,
+  ◌^◌,
+  ◌<◌,
+  ◌||◌,
+  nat_lt,
+  if◌then◌else◌,
+  List,
+  ◌++◌,
+  flat_map,
+  filter_map,
+  Option,
+  Some,
+  None,
+}
 use Rattle.std.specs.List.{AllByRecursion}
 use Rattle.std.specs.Int.{w16, w32, to_be_bytes}
 use Rattle.h2frame.specs.declared.setting.SettingId.{SettingId}
-use Rattle.h2frame.specs.declared.setting.SettingId.TheVariants.{EnablePush, InitialWindowSize, MaxFrameSize}
+use Rattle.h2frame.specs.declared.setting.SettingId.TheVariants.{
+  EnablePush,
+  InitialWindowSize,
+  MaxFrameSize,
+}
 use Rattle.h2frame.specs.declared.settings.PeerSetting.{PeerSetting}
 use Rattle.h2frame.specs.Setting.{setting_of, setting_code}
 use Rattle.h2frame.specs.Settings.{told}
@@ -15,7 +34,8 @@ use Rattle.session.specs.declared.settings.SettingsFault.TheVariants.{Refused, O
 
 -- two bytes of number, and four of value
 abbrev pub parameter_text : Parameter → List ℕ
-parameter_text parameter = to_be_bytes w16 (setting_code parameter.id) ++ to_be_bytes w32 parameter.value
+parameter_text parameter =
+    to_be_bytes w16 (setting_code parameter.id) ++ to_be_bytes w32 parameter.value
 
 pub record IsParameter (parameter : Parameter) : Type 0 where
   pub id : setting_of (setting_code parameter.id) ≡ parameter.id
@@ -27,9 +47,11 @@ pub record AreParameters (content : List ℕ) (parameters : List Parameter) : Ty
   pub each : AllByRecursion IsParameter parameters
   pub text : content ≡ flat_map parameter_text parameters
 
--- what is wrong with a parameter: server push is on or off, a window has 31 bits, a frame is of 2^14 to 2^24 - 1 bytes
+-- the fault of a parameter: server push is neither on nor off, a window has more than 31 bits, or a
+-- frame isn't of 2^14 to 2^24 - 1 bytes
 abbrev pub unless_within : ℕ → ℕ → ℕ → SettingId → Option Reason
-unless_within low high value id = if nat_lt value low || nat_lt high value then Some (Setting id) else None
+unless_within low high value id =
+    if nat_lt value low || nat_lt high value then Some (Setting id) else None
 
 abbrev pub value_fault : SettingId → ℕ → Option Reason
 value_fault EnablePush value = unless_within 0 1 value EnablePush
@@ -44,15 +66,17 @@ parameter_fault parameter = value_fault parameter.id parameter.value
 abbrev pub AreLawful : List Parameter → Type 0
 AreLawful parameters = AllByRecursion (λ parameter. parameter_fault parameter ≡ None) parameters
 
--- what a parameter tells a server
+-- what a parameter means to a server
 abbrev pub parameter_told : Parameter → Option PeerSetting
 parameter_told parameter = told parameter.id parameter.value
 
--- the content is lawful parameters, which tell these in their order
+-- the content is lawful parameters, which have these settings in order
 abbrev pub Tells : List ℕ → List PeerSetting → Type 0
-Tells content settings = (parameters : List Parameter) × AreParameters content parameters × AreLawful parameters × (settings ≡ filter_map parameter_told parameters)
+Tells content settings =
+    (parameters : List Parameter) × AreParameters content parameters × AreLawful parameters
+    × (settings ≡ filter_map parameter_told parameters)
 
--- Behind lawful parameters the first faulty one has this fault, and whatever follows it.
+-- After lawful parameters the first faulty one has this fault, whatever follows it.
 pub record IsRefused (content : List ℕ) (why : Reason) : Type 0 where
   pub front : List Parameter
   pub faulty : Parameter

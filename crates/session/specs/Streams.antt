@@ -1,5 +1,6 @@
--- What the frames of a stream come to (RFC 9113, sections 5.1, 6.1, 6.4 and 6.9), given the frames before them and the
--- streams that the server reset: a stream is reset at once where one of its frames is an error of the stream.
+-- What the frames of a stream mean (RFC 9113, sections 5.1, 6.1, 6.4 and 6.9), given the frames
+-- before them and the streams that the server reset. A stream is reset at once where one of its
+-- frames is an error of the stream.
 use Rattle.std.specs.Prelude.{ℕ, Bool, true, false, ◌==◌, if◌then◌else◌, List, [], ◌∷◌, ◌++◌}
 use Rattle.std.specs.Int.{w32, from_be_bytes}
 use Rattle.h2frame.specs.declared.error_code.ErrorCode.TheVariants.{ProtocolError}
@@ -10,14 +11,19 @@ use Rattle.h2frame.specs.ErrorCode.{error_of}
 use Rattle.h2frame.specs.Faults.{increment_of}
 use Rattle.h2frame.specs.Flags.{has, end_stream}
 use Rattle.flow.specs.declared.halves.HalfVerdict.{HalfVerdict}
-use Rattle.flow.specs.declared.halves.HalfVerdict.TheVariants.{Open, Accept, StreamError, ConnectionError}
+use Rattle.flow.specs.declared.halves.HalfVerdict.TheVariants.{
+  Open,
+  Accept,
+  StreamError,
+  ConnectionError,
+}
 use Rattle.flow.specs.Halves.{Event, Received, Cut, verdict}
 use Rattle.reasons.specs.declared.Reason.TheVariants as reason
 use Rattle.session.specs.declared.event.Control.TheVariants.{Window}
 use Rattle.session.specs.declared.event.InEvent.{InEvent}
 use Rattle.session.specs.declared.event.InEvent.TheVariants as events
 
--- the history after a frame that was judged so: an error of the stream resets it
+-- the history after a frame with this verdict: an error of the stream resets it
 abbrev pub after : HalfVerdict → ℕ → List Event → List Event
 after (StreamError error) id history = Cut id ∷ history
 after _ id history = history
@@ -25,19 +31,19 @@ after _ id history = history
 abbrev pub after_frame : HalfVerdict → FrameHead → List Event → List Event
 after_frame judged head history = after judged head.stream (Received head ∷ history)
 
--- the verdicts of frames that are no error: such HEADERS open a stream, or are its trailers
+-- the verdicts of frames that are no error: HEADERS with them open a stream, or are its trailers
 abbrev pub is_accepted : HalfVerdict → Bool
 is_accepted Open = true
 is_accepted Accept = true
 is_accepted _ = false
 
--- what every verdict but Accept comes to
+-- the events of a frame with a verdict other than Accept
 abbrev pub refusal : HalfVerdict → FrameHead → List InEvent
 refusal (StreamError error) head = events.StreamError head.stream error ∷ []
 refusal (ConnectionError error) head = events.Fatal (reason.Stream head.kind error) ∷ []
 refusal _ head = []
 
--- DATA that count no byte come to nothing by themselves; padding counts
+-- DATA that count no byte have no event; padding counts
 abbrev pub counted : ℕ → InEvent → List InEvent
 counted flow_bytes event = if flow_bytes == 0 then [] else event ∷ []
 
@@ -46,13 +52,17 @@ end_of head = if has end_stream head.flags then events.End head.stream ∷ [] el
 
 -- DATA on a stream that takes no more still count on the connection
 abbrev pub data_events : HalfVerdict → Frame → List InEvent
-data_events Accept frame = counted frame.head.length (events.Data frame.head.stream frame.content frame.head.length) ++ end_of frame.head
+data_events Accept frame =
+    counted frame.head.length (events.Data frame.head.stream frame.content frame.head.length)
+    ++ end_of frame.head
 data_events (ConnectionError error) frame = refusal (ConnectionError error) frame.head
-data_events judged frame = counted frame.head.length (events.Loose frame.head.length) ++ refusal judged frame.head
+data_events judged frame =
+    counted frame.head.length (events.Loose frame.head.length) ++ refusal judged frame.head
 
 -- RST_STREAM has the error in four bytes
 abbrev pub reset_events : HalfVerdict → Frame → List InEvent
-reset_events Accept frame = events.Reset frame.head.stream (error_of (from_be_bytes w32 frame.content)) ∷ []
+reset_events Accept frame =
+    events.Reset frame.head.stream (error_of (from_be_bytes w32 frame.content)) ∷ []
 reset_events judged frame = refusal judged frame.head
 
 abbrev pub window_event : Frame → InEvent
@@ -62,9 +72,11 @@ abbrev pub window_events : HalfVerdict → Frame → List InEvent
 window_events Accept frame = window_event frame ∷ []
 window_events judged frame = refusal judged frame.head
 
--- WINDOW_UPDATE without an increment is judged as one with it, and where that is lawful it is an error of the stream
+-- WINDOW_UPDATE without an increment is judged as one with it, and where that is lawful it is an
+-- error of the stream
 abbrev pub credit_head : ℕ → FrameHead
-credit_head id = record { kind = WindowUpdate; flags = record { bits = 0 }; stream = id; length = 4 }
+credit_head id =
+    record { kind = WindowUpdate; flags = record { bits = 0 }; stream = id; length = 4 }
 
 abbrev pub without_increment : HalfVerdict → HalfVerdict
 without_increment Accept = StreamError ProtocolError

@@ -1,11 +1,18 @@
-//! What a whole header block comes to (RFC 9113, sections 4.3 and 8.1).
+//! What a whole header block means (RFC 9113, sections 4.3 and 8.1).
 
 ghost use Rattle.std.specs.Prelude.{◌≡◌, ◌∷◌, ◌++◌, true, List, OnOk, IsSome};
 ghost use Rattle.callhead.specs.MalformedHeads.{are_malformed_trailers};
 ghost use Rattle.flow.specs.Halves.{Event, Stands, half_of};
 ghost use Rattle.session.specs.declared.event.InEvent.{InEvent};
 ghost use Rattle.session.specs.Streams.{end_of, is_accepted};
-ghost use Rattle.session.specs.Blocks.{HeadGives, BlockGives, bad_head_events, after_bad_head, trailer_events, after_trailers};
+ghost use Rattle.session.specs.Blocks.{
+  HeadGives,
+  BlockGives,
+  bad_head_events,
+  after_bad_head,
+  trailer_events,
+  after_trailers,
+};
 
 use crate::event::InEvent;
 use crate::judge::refuse;
@@ -17,7 +24,8 @@ use lists::Field;
 use reasons::Reason;
 use std::alloc::{AllocError, Global};
 
-/// The events of a whole header block, behind those before it. Its HEADERS, with this head, had this verdict.
+/// Adds the events of a whole header block to those before it. Its HEADERS, with this head, had
+/// this verdict.
 pub fn block_events(
     alloc: Global,
     halves: &mut Halves,
@@ -69,7 +77,7 @@ fn head_events(
     }
 }
 
-/// The events of fields that are no head of a call. Those that are malformed reset their stream.
+/// The events of fields that are no head of a call. Malformed ones reset their stream.
 fn bad_head_events(
     halves: &mut Halves,
     head: &FrameHead,
@@ -90,7 +98,7 @@ fn bad_head_events(
     begin(InEvent::BadHead(head.stream, fault), head, events)
 }
 
-/// The events of trailers. Those that are malformed reset their stream (RFC 9113, section 8.1.1).
+/// The events of trailers. Malformed ones reset their stream (RFC 9113, section 8.1.1).
 fn trailer_events(
     halves: &mut Halves,
     head: &FrameHead,

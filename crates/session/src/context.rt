@@ -1,4 +1,4 @@
-//! What the frames of a connection come to, one after another (RFC 9113, sections 3.4, 4.3 and 6).
+//! What the frames of a connection mean, one after another (RFC 9113, sections 3.4, 4.3 and 6).
 
 ghost use Rattle.std.specs.Prelude.{◌≡◌, ◌≢◌, ◌<◌, true, [], ◌∷◌, ◌++◌, None, Some, IfOk, IsSome};
 ghost use Rattle.h2frame.specs.FrameList.{Whole, NoIncrement, IsLawful, answered, refused};
@@ -9,7 +9,15 @@ ghost use Rattle.flow.specs.Halves.{Stands, half_of};
 ghost use Rattle.session.specs.declared.context.Position.TheVariants.{Inside};
 ghost use Rattle.session.specs.Streams.{is_accepted};
 ghost use Rattle.session.specs.Frames.{fatal};
-ghost use Rattle.session.specs.CoreStates.{IsSound, IsSoundNext, Advances, Begins, Collected, IsEnd, position_behind};
+ghost use Rattle.session.specs.CoreStates.{
+  IsSound,
+  IsSoundNext,
+  Advances,
+  Begins,
+  Collected,
+  IsEnd,
+  position_behind,
+};
 
 use crate::block::block_events;
 use crate::event::InEvent;
@@ -21,7 +29,7 @@ use hpack_codec::Decoder;
 use reasons::Reason;
 use std::alloc::{AllocError, Global};
 
-/// How far the frames of a connection have come, behind its preface.
+/// Where the frames after a connection's preface have led.
 #[derive(Drop)]
 pub enum Position {
     /// None came. The first has to be SETTINGS.
@@ -53,8 +61,8 @@ impl Context {
         }
     }
 
-    /// The events of what the frame reader answers next, behind those before it. No position follows the end of the
-    /// connection.
+    /// Adds the events of the frame reader's next answer to those before it. No position follows
+    /// the end of the connection.
     pub fn entry(
         &mut self,
         at: Position,
@@ -108,7 +116,7 @@ impl Context {
         }
     }
 
-    /// A fault of the frame reader stands where the next frame would.
+    /// A fault of the frame reader comes in place of the next frame.
     fn fault(
         &mut self,
         at: Position,
@@ -117,7 +125,7 @@ impl Context {
     ) -> Result<Option<Position>, AllocError>
         ensures sound { IfOk result (λ next. IsSoundNext next self.new.halves) }
 
-        // Where it is an entry of the frame list, as a frame is.
+        // A fault that is an entry of the frame list leads on as a frame does.
         ensures entry { IfOk result
             (λ next. refused fault ≢ []
             → Advances at self.old.halves self.old.decoder events.old.items (refused fault)
@@ -211,7 +219,7 @@ impl Context {
         }
     }
 
-    /// A header block has its events once it is whole.
+    /// A header block gives its events once it is whole.
     fn collect(
         &mut self,
         block: HeaderBlock,
@@ -267,7 +275,7 @@ fn end(reason: Reason, events: &mut Vec<InEvent>) -> Result<Option<Position>, Al
     Ok(None)
 }
 
-/// The position behind these events.
+/// The position after these events.
 fn between(events: &[InEvent]) -> Option<Position>
     ensures { result ≡ position_behind events.now }
 {

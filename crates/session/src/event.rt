@@ -1,20 +1,20 @@
-//! What the bytes of a connection come to, one event after another.
+//! The events of a connection.
 //!
-//! `Control` has what the peer tells or asks of the side that writes, and no ends of calls.
+//! `Control` has what the peer says to the side that writes, but no ends of calls.
 
 use bytes::Bytes;
 use callhead::{CallHead, HeadFault};
 use h2frame::{ErrorCode, PeerSettings, StreamId};
 use reasons::Reason;
 
-/// What the peer tells or asks of the side that writes.
+/// What the peer says to the side that writes.
 #[derive(Debug, Drop)]
 pub enum Control {
     /// SETTINGS, which are to be acknowledged.
     Settings(PeerSettings),
     /// PING with these eight bytes, which are to be sent back.
     Ping([u8; 8]),
-    /// So many bytes more may be sent on a stream, or on the connection where it is 0.
+    /// The peer lets this many more bytes be sent on a stream, or on the connection where it is 0.
     Window(StreamId, u32),
 }
 
@@ -23,9 +23,10 @@ pub enum Control {
 pub enum InEvent {
     /// A call begins.
     Open(StreamId, CallHead),
-    /// A stream begins whose head is not that of a call. One that is malformed is reset at once.
+    /// A stream begins without the head of a call. One with a malformed head is reset at once.
     BadHead(StreamId, HeadFault),
-    /// A piece of a stream's data, and how many bytes flow control counts for it, padding among them.
+    /// A piece of a stream's data, and how many bytes flow control counts for it, padding among
+    /// them.
     Data(StreamId, Bytes, u32),
     /// Bytes that flow control counts on the connection alone.
     Loose(u32),
@@ -33,7 +34,7 @@ pub enum InEvent {
     End(StreamId),
     /// The client reset a stream.
     Reset(StreamId, ErrorCode),
-    /// A stream is to be reset with this error, and from here on it counts as reset.
+    /// A stream is to be reset with this error, and counts as reset from here on.
     StreamError(StreamId, ErrorCode),
     Control(Control),
     /// The peer opens no more streams.

@@ -1,6 +1,21 @@
 //! A header block over its frames (RFC 9113, section 4.3).
 
-ghost use Rattle.std.specs.Prelude.{◌≡◌, ◌≤◌, ◌↔◌, ◌++◌, ◌∷◌, [], false, length, List, IfOk, IfErr, OnOk, OnErr, IsTrue};
+ghost use Rattle.std.specs.Prelude.{
+  ◌≡◌,
+  ◌≤◌,
+  ◌↔◌,
+  ◌++◌,
+  ◌∷◌,
+  [],
+  false,
+  length,
+  List,
+  IfOk,
+  IfErr,
+  OnOk,
+  OnErr,
+  IsTrue,
+};
 ghost use Rattle.h2frame.specs.declared.frame.Frame.{Frame as FrameOf};
 ghost use Rattle.h2frame.specs.declared.kind.FrameKind.TheVariants.{Headers};
 ghost use Rattle.session.specs.declared.header_block.FragmentFault.TheVariants.{OutOfMemory};
@@ -12,13 +27,13 @@ use std::alloc::{AllocError, Global};
 use std::marker::Model;
 use thiserror::Error;
 
-/// The most bytes of a header block that are taken.
+/// The most bytes of a header block that the server takes.
 pub const MAX_BLOCK: usize = 65_536;
 
 /// Why a header block doesn't go on.
 #[derive(Clone, Copy, Debug, PartialEq, Eq, Error)]
 pub enum FragmentFault {
-    /// Another frame stands inside it.
+    /// Another frame came inside it.
     #[error("a frame stands inside a header block")]
     Interrupted,
     /// It would be over 65,536 bytes.
@@ -49,8 +64,8 @@ impl From<AllocError> for FragmentFault {
     }
 }
 
-/// A header block whose frames come one after another. A clause sees the head of its HEADERS, its bytes so far, and
-/// whether they are all.
+/// A header block whose frames come one after another. A clause sees the head of its HEADERS, its
+/// bytes so far, and whether they are all of them.
 #[derive(Drop)]
 pub struct HeaderBlock {
     head: FrameHead,

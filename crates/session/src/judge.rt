@@ -1,14 +1,31 @@
-//! What a frame comes to that is no part of a header block (RFC 9113, section 6).
+//! What a frame outside a header block means (RFC 9113, section 6).
 
 ghost use Rattle.std.specs.Prelude.{◌≡◌, ◌<◌, ◌==◌, ◌++◌, true, List, length, IfOk, IsSome, OnOk};
 ghost use Rattle.std.specs.Int.{w32, from_be_bytes};
 ghost use Rattle.h2frame.specs.ErrorCode.{error_of};
 ghost use Rattle.h2frame.specs.Flags.{has, ack};
 ghost use Rattle.h2frame.specs.FrameList.{IsLawful};
-ghost use Rattle.h2frame.specs.declared.kind.FrameKind.TheVariants.{Data, Headers, Ping, RstStream, Settings, WindowUpdate};
+ghost use Rattle.h2frame.specs.declared.kind.FrameKind.TheVariants.{
+  Data,
+  Headers,
+  Ping,
+  RstStream,
+  Settings,
+  WindowUpdate,
+};
 ghost use Rattle.flow.specs.Halves.{Event, IsJudged, Stands, half_of, verdict};
 ghost use Rattle.session.specs.declared.event.InEvent.{InEvent};
-ghost use Rattle.session.specs.Streams.{after_frame, is_accepted, data_events, reset_events, window_events, refusal, credit_head, credit_verdict, without_increment};
+ghost use Rattle.session.specs.Streams.{
+  after_frame,
+  is_accepted,
+  data_events,
+  reset_events,
+  window_events,
+  refusal,
+  credit_head,
+  credit_verdict,
+  without_increment,
+};
 ghost use Rattle.session.specs.Frames.{Gives, SettingsGive, WindowGives, ping_events};
 
 use crate::event::{Control, InEvent};
@@ -67,7 +84,7 @@ pub(crate) fn credit_head(id: StreamId) -> FrameHead
     }
 }
 
-/// What becomes of a WINDOW_UPDATE without an increment, where one with it would be judged so.
+/// The verdict of a WINDOW_UPDATE without an increment, by that of one with an increment.
 fn without_increment(verdict: HalfVerdict) -> HalfVerdict
     ensures { result ≡ without_increment verdict }
 {
@@ -77,7 +94,7 @@ fn without_increment(verdict: HalfVerdict) -> HalfVerdict
     }
 }
 
-/// The events of a frame that is no part of a header block, in their order behind those before it.
+/// Adds the events of a frame outside a header block to those before it, in order.
 pub fn frame_events(
     alloc: Global,
     halves: &mut Halves,
@@ -105,7 +122,7 @@ pub fn frame_events(
     Ok(())
 }
 
-/// What the verdict of a frame comes to where the frame is not accepted.
+/// The events of a frame that isn't accepted, by its verdict.
 pub(crate) fn refuse(
     verdict: HalfVerdict,
     head: &FrameHead,

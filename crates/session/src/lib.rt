@@ -1,11 +1,12 @@
-//! What the bytes of an HTTP/2 connection mean (RFC 9113, sections 3.4 to 6), for the connection that stands on it.
+//! The events that the bytes of an HTTP/2 connection mean. RFC 9113, sections 3.4 to 6, says what
+//! they mean.
 //!
-//! Parts of a connection's reading, each with a contract of its own: `preface` is the text with which a client begins,
-//! `settings` the content of a SETTINGS frame, `judge` what a frame comes to, given those before it, `header_block` a header
-//! block over its frames, `block` what a whole one comes to, and `context` what frames come to one after another.
-//! `event` names what there is to come to. On these stands `in_core`: the reading core, which is fed a connection's bytes
-//! in any pieces and answers their events; `uses::in_pieces` reads a whole connection by it. `laws` has what follows of the
-//! definitions.
+//! Each part has a contract of its own: `preface` is the text with which a client begins,
+//! `settings` the content of a SETTINGS frame, `judge` what a frame means after those before it,
+//! `header_block` a header block over its frames, `block` what a whole block means, and `context`
+//! what frames mean one after another. `event` has the events. Over these `in_core` is the reading
+//! core: it is fed a connection's bytes in any pieces and answers their events. `uses::in_pieces`
+//! reads a whole connection by it. `laws` has what follows from the definitions.
 #![tactic(auto)]
 
 pub mod block;

@@ -14,7 +14,7 @@ const TEXT: &[u8] = b"PRI * HTTP/2.0\r\n\r\nSM\r\n\r\n";
 #[error("the connection doesn't begin with the preface of HTTP/2")]
 pub struct BadPreface;
 
-/// Reads the preface in whatever pieces it comes. A clause sees what is still due of it.
+/// Reads the preface, in whatever pieces it comes. A clause sees what is still due of it.
 #[derive(Drop)]
 pub struct Preface {
     due: &'static [u8],
@@ -43,11 +43,11 @@ impl Preface {
         self.due.is_empty()
     }
 
-    /// Takes what is due off the front of a piece, and answers what is behind it.
+    /// Takes what is due off the front of a piece, and answers what follows it.
     pub fn take<'p>(&mut self, piece: &'p [u8]) -> Result<&'p [u8], BadPreface>
         ensures ok { IfOk result (λ rest. Brings self.old piece.now self.new rest.now) }
 
-        // It is answered at the first byte that differs.
+        // The fault comes at the first byte that differs.
         ensures err { OnErr result (Departs self.old piece.now) }
         ensures unchanged { OnErr result (self.new ≡ self.old) }
     {

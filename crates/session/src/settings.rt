@@ -2,7 +2,14 @@
 
 ghost use Rattle.std.specs.Prelude.{◌≡◌, ◌%◌, length, IfOk, IfErr};
 ghost use Rattle.session.specs.declared.settings.SettingsFault.TheVariants.{OutOfMemory};
-ghost use Rattle.session.specs.Settings.{IsParameter, parameter_text, parameter_fault, parameter_told, IsSettingsFault, Tells};
+ghost use Rattle.session.specs.Settings.{
+  IsParameter,
+  parameter_text,
+  parameter_fault,
+  parameter_told,
+  IsSettingsFault,
+  Tells,
+};
 
 use h2frame::{PeerSetting, PeerSettings, SettingId};
 use reasons::Reason;
@@ -27,7 +34,7 @@ pub struct Parameter {
     pub value: u32,
 }
 
-/// Why the content of a SETTINGS frame is not taken.
+/// Why the content of a SETTINGS frame is refused.
 #[derive(Clone, Copy, Debug, PartialEq, Eq, Error)]
 pub enum SettingsFault {
     /// A parameter has a value that it may not have: the connection ends for this reason.
@@ -67,7 +74,7 @@ impl Parameter {
         }
     }
 
-    /// What is wrong with its value, as the reason for which the connection ends.
+    /// The reason for which the connection ends, if its value is faulty.
     pub fn fault(&self) -> Option<Reason>
         ensures { result ≡ parameter_fault self.now }
     {
@@ -84,7 +91,7 @@ impl Parameter {
         }
     }
 
-    /// What it tells the server, if it isn't for others.
+    /// The setting for the server, if the parameter concerns servers.
     pub fn told(&self) -> Option<PeerSetting>
         ensures { result ≡ parameter_told self.now }
     {
@@ -92,7 +99,7 @@ impl Parameter {
     }
 }
 
-/// What the parameters of a SETTINGS frame tell, in their order. One that is faulty refuses them all.
+/// The settings of a SETTINGS frame, in order. One faulty parameter refuses them all.
 pub fn read_settings(alloc: Global, content: &[u8]) -> Result<PeerSettings, SettingsFault>
     requires { length content.now % 6 ≡ 0 }
     ensures ok { IfOk result (λ settings. Tells content.now settings) }

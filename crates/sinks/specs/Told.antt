@@ -1,5 +1,19 @@
 -- What is printed of a case beside its own lines, whose bytes are kept, and when a run is over.
-use Rattle.std.specs.Prelude.{ℕ, Bool, true, false, List, [], ◌∷◌, ◌++◌, Option, Some, None, codes, string_bytes}
+use Rattle.std.specs.Prelude.{
+  ℕ,
+  Bool,
+  true,
+  false,
+  List,
+  [],
+  ◌∷◌,
+  ◌++◌,
+  Option,
+  Some,
+  None,
+  codes,
+  string_bytes,
+}
 use Rattle.results.specs.Standings.{standing_of}
 use Rattle.results.specs.declared.known.Known.{Known}
 use Rattle.results.specs.declared.outcome.Outcome.{Outcome}
@@ -10,7 +24,8 @@ use Rattle.results.specs.declared.words.Verdict.{Verdict}
 abbrev pub line_of : Standing → Option Known → List ℕ
 line_of Standing.Known (Some known) = codes "  known: " ++ string_bytes known.reason ++ 10 ∷ []
 line_of Standing.Known None = []
-line_of Standing.Mended known = codes "  no longer fails: take it off the list of known failures" ++ 10 ∷ []
+line_of Standing.Mended known =
+    codes "  no longer fails: take it off the list of known failures" ++ 10 ∷ []
 line_of Standing.AsFound known = []
 
 -- what the list of known failures has of a case, in a line, where it has something

@@ -1,4 +1,5 @@
-//! Files that are read and written. Where that can't be, a line on standard error says which, and why.
+//! Files that are read and written. Where that can't be, a line on standard error says which, and
+//! why.
 
 use crate::fault::SinkFault;
 use std::alloc::Global;
@@ -29,7 +30,7 @@ pub fn read<R: Files + Eprint + AllocGlobal>(rt: &R, name: &str) -> Result<Strin
     match fs::read_to_string(rt, name) {
         Ok(text) => Ok(text),
         Err(error) => {
-            // The exit status tells of it even where nothing can be said here.
+            // The exit status reports it even if nothing can be written here.
             let _said = eprintln!(rt; "interop: {name} can't be read: {error}");
             Err(SinkFault::ReadFailed)
         }
@@ -44,8 +45,8 @@ pub fn write<R: Files + Eprint>(rt: &R, name: &str, text: &[u8]) -> Result<(), S
     }
 }
 
-/// Writes a file so that no reader finds a part of it: beside its place first. What stands there and is no plain file, as a
-/// pipe, is written as it is.
+/// Writes a file so that no reader finds a part of it: beside its place first. What stands there
+/// and is no plain file, as a pipe, is written as it is.
 ///
 /// # Errors
 ///

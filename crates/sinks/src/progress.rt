@@ -1,4 +1,5 @@
-//! The line that counts while a run goes on. It stands on standard error, and only where that is a terminal.
+//! The line that counts while a run goes on. It stands on standard error, and only where that is a
+//! terminal.
 
 use std::time::{Clock, Instant};
 
@@ -14,14 +15,14 @@ pub struct Progress {
     is_shown: bool,
     total: usize,
     done: usize,
-    /// How many are told as failed, and how many fail the run.
+    /// How many cases count as failed, and how many fail the run.
     failed: usize,
     failing: usize,
     begun: Option<Instant>,
 }
 
 impl Progress {
-    /// Of a run of so many cases that begins now.
+    /// The progress of a run that begins now, by its number of cases.
     pub fn begin(clock: &impl Clock, word: &'static str, total: usize, is_shown: bool) -> Progress {
         Progress {
             word,

@@ -1,4 +1,5 @@
-//! The bytes of a case that failed, as hexadecimal text: a file of those that were sent, and one of those that were read.
+//! The bytes of a case that failed, as hexadecimal text: a file of those that were sent, and one of
+//! those that were read.
 
 ghost use Rattle.std.specs.Prelude.{◌≡◌};
 ghost use Rattle.sinks.specs.Told.{is_saved};
@@ -19,7 +20,8 @@ pub fn is_saved(outcome: &Outcome) -> bool
     )
 }
 
-/// Writes the bytes of a case that failed into files of a directory: `NAME.sent.hex` and `NAME.read.hex`, with `-` for `/`.
+/// Writes the bytes of a case that failed into files of a directory: `NAME.sent.hex` and
+/// `NAME.read.hex`, with `-` for `/`.
 pub fn save<R: Files + Eprint>(
     rt: &R,
     alloc: Global,

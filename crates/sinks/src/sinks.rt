@@ -72,7 +72,7 @@ pub struct Sinks<'a, R: Files> {
     known: Vec<Known>,
     /// What the list of known failures begins with: lines that name no case.
     head: String,
-    /// What was told of, in the order of the cases.
+    /// The outcomes that were reported, in the order of the cases.
     pub outcomes: Vec<Outcome>,
     /// Whether something was printed of a case.
     has_told: bool,
@@ -86,7 +86,8 @@ impl<'a, R: Files + Clock + Eprint + AllocGlobal + Drop> Sinks<'a, R> {
     ///
     /// # Errors
     ///
-    /// `ReadFailed` and `BadKnown` of the list of known failures, `WriteFailed` of a file; standard error says why.
+    /// `ReadFailed` and `BadKnown` of the list of known failures, `WriteFailed` of a file; standard
+    /// error says why.
     pub fn open(rt: R, alloc: Global, run: Run<'a, '_>) -> Result<Sinks<'a, R>, SinkFault> {
         let reporting = run.reporting;
         let (known, head) = match reporting.known {
@@ -133,7 +134,7 @@ impl<'a, R: Files + Clock + Eprint + AllocGlobal + Drop> Sinks<'a, R> {
     /// Says on standard error why a case failed. The line that counts may stand there.
     pub fn note(&self, case: &str, why: &str) {
         self.progress.hide(&self.rt);
-        // The result tells of it even where nothing can be said here.
+        // The result reports it even if nothing can be written here.
         let _said = eprintln!(self.rt; "{case}: {why}");
         self.progress.show(&self.rt);
     }
@@ -143,8 +144,8 @@ impl<'a, R: Files + Clock + Eprint + AllocGlobal + Drop> Sinks<'a, R> {
         self.progress.hide(&self.rt);
     }
 
-    /// Takes what came of a case that has just ended: writes its line of JSON and its bytes, and counts it. Of one that is ok or
-    /// doesn't apply the bytes are dropped.
+    /// Takes what came of a case that has just ended: writes its line of JSON and its bytes, and
+    /// counts it. Of one that is ok or doesn't apply the bytes are dropped.
     pub fn ended<W: ConnWrite>(
         &mut self,
         outcome: &mut Outcome,
@@ -156,7 +157,8 @@ impl<'a, R: Files + Clock + Eprint + AllocGlobal + Drop> Sinks<'a, R> {
         self.put(outcome, output)
     }
 
-    /// Takes what came of a case, as `ended` does, where the server is gone: that is no known failure, and no new list is written.
+    /// Takes what came of a case, as `ended` does, where the server is gone: that is no known
+    /// failure, and no new list is written.
     pub fn lost<W: ConnWrite>(
         &mut self,
         outcome: &mut Outcome,
@@ -187,14 +189,15 @@ impl<'a, R: Files + Clock + Eprint + AllocGlobal + Drop> Sinks<'a, R> {
         Ok(())
     }
 
-    /// Prints the lines of a case that has ended. Cases are told of in their order.
+    /// Prints the lines of a case that has ended. Cases are reported in their order.
     pub fn tell<W: ConnWrite>(
         &mut self,
         outcome: Outcome,
         lines: &[u8],
         output: &mut W,
     ) -> Result<(), SinkFault>
-        ensures kept { OnOk result (self.new.outcomes.items ≡ self.old.outcomes.items ++ outcome ∷ []) }
+        ensures kept { OnOk result
+            (self.new.outcomes.items ≡ self.old.outcomes.items ++ outcome ∷ []) }
         ensures text { OnOk result (self.old.form ≡ forms.Text
             → Appends (W.contents output.old) (W.contents output.new)
             (lines.now ++ standing_line outcome)) }
@@ -247,7 +250,8 @@ impl<'a, R: Files + Clock + Eprint + AllocGlobal + Drop> Sinks<'a, R> {
         self.reporting.fails_fast && self.progress.is_failing()
     }
 
-    /// Says that the run ends before all of its cases were run, and why, where a form has words for it.
+    /// Says that the run ends before all of its cases were run, and why, where a form has words for
+    /// it.
     pub fn bail_out<W: ConnWrite>(&mut self, why: &str, output: &mut W) -> Result<(), SinkFault> {
         self.is_cut = true;
         if self.form == Form::Tap {
@@ -257,10 +261,11 @@ impl<'a, R: Files + Clock + Eprint + AllocGlobal + Drop> Sinks<'a, R> {
         Ok(())
     }
 
-    /// Prints how many cases ended in which way, and writes the files that are written at the end. It answers whether the run
-    /// hasn't failed.
+    /// Prints how many cases ended in which way, and writes the files that are written at the end.
+    /// It answers whether the run hasn't failed.
     pub fn close<W: ConnWrite>(&mut self, output: &mut W) -> Result<bool, SinkFault>
-        ensures { IfOk result (λ passes. passes ≡ not (list_any fails_the_run self.old.outcomes.items)) }
+        ensures { IfOk result
+            (λ passes. passes ≡ not (list_any fails_the_run self.old.outcomes.items)) }
     {
         let passes = !fail_the_run(self.outcomes.as_slice());
         let milliseconds = self.progress.milliseconds(&self.rt);
@@ -357,7 +362,8 @@ fn head_of(alloc: Global, text: &str) -> Result<String, AllocError> {
     Ok(head)
 }
 
-/// The known failures that a file lists, each the name of a case, and the lines that it begins with and that name none.
+/// The known failures that a file lists, each the name of a case, and the lines that it begins with
+/// and that name none.
 fn known_failures<R: Files + Eprint + AllocGlobal>(
     rt: &R,
     alloc: Global,

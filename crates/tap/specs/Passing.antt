@@ -1,4 +1,4 @@
--- What passes through a device, and who sees it.
+-- What passes through a device, and what its tap sees.
 use Rattle.std.specs.Prelude.{◌≡◌, ⊤, ℕ, List, [], ◌∷◌, ◌++◌, Option, Some, None}
 use Rattle.tap.specs.declared.tapped.Tapped.{Tapped}
 
@@ -6,7 +6,7 @@ use Rattle.tap.specs.declared.tapped.Tapped.{Tapped}
 abbrev pub device_of : {D T : Type 0} → Tapped D T → D
 device_of tapped = tapped.device
 
--- who looks at it, if anyone does
+-- its tap, if it has one
 abbrev pub tap_of : {D T : Type 0} → Tapped D T → Option T
 tap_of tapped = tapped.tap
 
@@ -19,14 +19,15 @@ pub record Piece : Type 0 where
   pub way : Way
   pub bytes : List ℕ
 
--- Where it is known what was seen, these bytes came after it.
+-- These bytes come after what was seen, if that is known.
 abbrev pub Sees : Option (List Piece) → Option (List Piece) → Way → List ℕ → Type 0
 Sees None new way bytes = ⊤
 Sees (Some old) None way bytes = ⊥
 Sees (Some old) (Some new) way bytes = new ≡ old ++ (record { way = way; bytes = bytes } ∷ [])
 
--- Whoever looks at a device, if anyone does, sees these bytes.
-abbrev pub IsShown : {T : Type 0} → (T → Option (List Piece)) → Option T → Option T → Way → List ℕ → Type 0
+-- The tap of a device, if it has one, sees these bytes.
+abbrev pub IsShown : {T : Type 0} → (T → Option (List Piece)) → Option T → Option T
+    → Way → List ℕ → Type 0
 IsShown seen None new way bytes = new ≡ None
 IsShown seen (Some old) None way bytes = ⊥
 IsShown seen (Some old) (Some new) way bytes = Sees (seen old) (seen new) way bytes

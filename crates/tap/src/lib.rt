@@ -1,7 +1,7 @@
-//! Devices at which someone looks.
+//! A device that shows what passes through it.
 //!
-//! A `Tapped` device reads and writes as the device in it does, byte for byte and fault for fault. Where it has a `Tap`, that is shown
-//! what was read, and what was written, once it has passed.
+//! A `Tapped` device reads and writes as the device in it does, byte for byte and fault for fault.
+//! If it has a `Tap`, it shows that what was read and what was written, once it has passed.
 #![tactic(auto)]
 
 mod tapped;

@@ -1,4 +1,4 @@
-//! A device, and who looks at it.
+//! A device with a tap.
 
 ghost use Rattle.std.specs.Prelude.{◌≡◌, ◌<◌, true, List, Option, length, take, IfOk, OnOk, OnErr};
 ghost use Rattle.std.specs.Io.{ReadsAtMost, WritesAtMost};
@@ -12,21 +12,21 @@ use std::net::{OpenStream, Shutdown, SocketAddr};
 use std::os::fd::{AsRawFd, RawFd};
 use std::time::Duration;
 
-/// Whoever is shown what passes on a connection.
+/// Sees what passes on a connection.
 pub trait Tap {
     /// What was seen, where that is known.
     ghost seen: { Self → Option (List Piece) };
 
-    /// These bytes were read.
+    /// Sees bytes that were read.
     fn saw_read(&mut self, bytes: &[u8])
         ensures { Sees (seen self.old) (seen self.new) read bytes.now };
 
-    /// These bytes were written.
+    /// Sees bytes that were written.
     fn saw_written(&mut self, bytes: &[u8])
         ensures { Sees (seen self.old) (seen self.new) written bytes.now };
 }
 
-/// A device, and who looks at it, if anyone does.
+/// A device, and its tap, if it has one.
 #[derive(Drop)]
 pub struct Tapped<D, T> {
     device: D,
@@ -48,7 +48,7 @@ impl<D, T> Tapped<D, T> {
         &self.device
     }
 
-    /// Who looks at it, if anyone does.
+    /// Its tap, if it has one.
     pub fn tap(&self) -> &Option<T>
         ensures { result.now ≡ tap_of self.now }
     {
@@ -57,7 +57,7 @@ impl<D, T> Tapped<D, T> {
 }
 
 impl<D, T: Tap> Tapped<D, T> {
-    /// These bytes were read.
+    /// Shows the tap bytes that were read.
     fn show_read(&mut self, bytes: &[u8])
         ensures device { device_of self.new ≡ device_of self.old }
         ensures shown { IsShown T.seen (tap_of self.old) (tap_of self.new) read bytes.now }
@@ -67,7 +67,7 @@ impl<D, T: Tap> Tapped<D, T> {
         }
     }
 
-    /// These bytes were written.
+    /// Shows the tap bytes that were written.
     fn show_written(&mut self, bytes: &[u8])
         ensures device { device_of self.new ≡ device_of self.old }
         ensures shown { IsShown T.seen (tap_of self.old) (tap_of self.new) written bytes.now }

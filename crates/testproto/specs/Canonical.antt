@@ -1,5 +1,26 @@
 -- The fields that are written of each message: by ascending number, defaults left out.
-use Rattle.std.specs.Prelude.{ℕ, zero, suc, ◌^◌, ◌<◌, ℤ, pos, negsuc, Bool, true, false, List, [], ◌∷◌, ◌++◌, map, length, Option, Some, None}
+use Rattle.std.specs.Prelude.{
+  ℕ,
+  zero,
+  suc,
+  ◌^◌,
+  ◌<◌,
+  ℤ,
+  pos,
+  negsuc,
+  Bool,
+  true,
+  false,
+  List,
+  [],
+  ◌∷◌,
+  ◌++◌,
+  map,
+  length,
+  Option,
+  Some,
+  None,
+}
 use Rattle.std.specs.Int.{w64, cast_unsigned}
 use Rattle.pbwire.specs.Fields.{Field, field_with, varint, bytes}
 use Rattle.pbwire.specs.Spelling.{spelling_of_all}
@@ -14,7 +35,9 @@ use Rattle.testproto.specs.declared.messages.StreamingInputCallRequest.{Streamin
 use Rattle.testproto.specs.declared.messages.StreamingInputCallResponse.{StreamingInputCallResponse}
 use Rattle.testproto.specs.declared.messages.ResponseParameters.{ResponseParameters}
 use Rattle.testproto.specs.declared.messages.StreamingOutputCallRequest.{StreamingOutputCallRequest}
-use Rattle.testproto.specs.declared.messages.StreamingOutputCallResponse.{StreamingOutputCallResponse}
+use Rattle.testproto.specs.declared.messages.StreamingOutputCallResponse.{
+  StreamingOutputCallResponse,
+}
 
 -- a negative number is written as the 64 bits that have the same low 32
 abbrev pub int32_fields : ℕ → ℤ → List Field
@@ -32,7 +55,8 @@ bytes_fields number [] = []
 bytes_fields number (b ∷ bs) = field_with number (bytes (b ∷ bs)) ∷ []
 
 abbrev pub message_field : {M : Type 0} → (M → List Field) → ℕ → M → Field
-message_field fields_of number message = field_with number (bytes (spelling_of_all (fields_of message)))
+message_field fields_of number message =
+    field_with number (bytes (spelling_of_all (fields_of message)))
 
 -- a message that is present is written, also when it has no fields
 abbrev pub message_fields : {M : Type 0} → (M → List Field) → ℕ → Option M → List Field
@@ -66,16 +90,22 @@ simple_request_fields m =
     ++ message_fields bool_value_fields 8 m.expect_compressed
 
 abbrev pub simple_response_fields : SimpleResponse → List Field
-simple_response_fields m = message_fields payload_fields 1 m.payload ++ bytes_fields 2 m.username ++ bytes_fields 3 m.oauth_scope
+simple_response_fields m =
+    message_fields payload_fields 1 m.payload ++ bytes_fields 2 m.username
+    ++ bytes_fields 3 m.oauth_scope
 
 abbrev pub streaming_input_call_request_fields : StreamingInputCallRequest → List Field
-streaming_input_call_request_fields m = message_fields payload_fields 1 m.payload ++ message_fields bool_value_fields 2 m.expect_compressed
+streaming_input_call_request_fields m =
+    message_fields payload_fields 1 m.payload
+    ++ message_fields bool_value_fields 2 m.expect_compressed
 
 abbrev pub streaming_input_call_response_fields : StreamingInputCallResponse → List Field
 streaming_input_call_response_fields m = int32_fields 1 m.aggregated_payload_size
 
 abbrev pub response_parameters_fields : ResponseParameters → List Field
-response_parameters_fields m = int32_fields 1 m.size ++ int32_fields 2 m.interval_us ++ message_fields bool_value_fields 3 m.compressed
+response_parameters_fields m =
+    int32_fields 1 m.size ++ int32_fields 2 m.interval_us
+    ++ message_fields bool_value_fields 3 m.compressed
 
 abbrev pub streaming_output_call_request_fields : StreamingOutputCallRequest → List Field
 streaming_output_call_request_fields m =
@@ -89,7 +119,10 @@ streaming_output_call_response_fields m = message_fields payload_fields 1 m.payl
 
 -- ---- the law of the canonical spelling
 
--- What is written of a message that can be, where it fits into memory, has that message as its value.
-abbrev pub IsReadBack : {M : Type 0} → (M → Type 0) → (M → List Field) → (Field → Type 0) → (List Field → M → Type 0) → Type 0
+-- What is written of a message that can be, where it fits into memory, has that message as its
+-- value.
+abbrev pub IsReadBack : {M : Type 0} → (M → Type 0) → (M → List Field) → (Field → Type 0)
+    → (List Field → M → Type 0) → Type 0
 IsReadBack {M} fits fields_of accepts is_value =
-    (message : M) → fits message → length (spelling_of_all (fields_of message)) < 2 ^ 64 → IsValueOf accepts is_value (spelling_of_all (fields_of message)) message
+    (message : M) → fits message → length (spelling_of_all (fields_of message)) < 2 ^ 64
+    → IsValueOf accepts is_value (spelling_of_all (fields_of message)) message

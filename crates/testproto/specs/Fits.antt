@@ -10,7 +10,9 @@ use Rattle.testproto.specs.declared.messages.StreamingInputCallRequest.{Streamin
 use Rattle.testproto.specs.declared.messages.StreamingInputCallResponse.{StreamingInputCallResponse}
 use Rattle.testproto.specs.declared.messages.ResponseParameters.{ResponseParameters}
 use Rattle.testproto.specs.declared.messages.StreamingOutputCallRequest.{StreamingOutputCallRequest}
-use Rattle.testproto.specs.declared.messages.StreamingOutputCallResponse.{StreamingOutputCallResponse}
+use Rattle.testproto.specs.declared.messages.StreamingOutputCallResponse.{
+  StreamingOutputCallResponse,
+}
 
 -- a message with neither a number nor a string
 abbrev pub FitsAlways : {M : Type 0} → M → Type 0

@@ -1,4 +1,5 @@
--- The messages of grpc.testing (messages.proto and empty.proto): the value of a list of fields, and which fields are accepted.
+-- The messages of grpc.testing (messages.proto and empty.proto): the value of a list of fields, and
+-- which fields are accepted.
 use Rattle.std.specs.Prelude.{◌≡◌, ◌⊎◌, List}
 use Rattle.pbwire.specs.Fields.{Field}
 use Rattle.testproto.specs.declared.fault.ProtoFault.{ProtoFault}
@@ -12,8 +13,22 @@ use Rattle.testproto.specs.declared.messages.StreamingInputCallRequest.{Streamin
 use Rattle.testproto.specs.declared.messages.StreamingInputCallResponse.{StreamingInputCallResponse}
 use Rattle.testproto.specs.declared.messages.ResponseParameters.{ResponseParameters}
 use Rattle.testproto.specs.declared.messages.StreamingOutputCallRequest.{StreamingOutputCallRequest}
-use Rattle.testproto.specs.declared.messages.StreamingOutputCallResponse.{StreamingOutputCallResponse}
-use Rattle.testproto.specs.Values.{int32, boolean, byte_string, contents, IsEmbedded, AreRepeated, AcceptsText, AcceptsMessage, HasFault, RefusesText, RefusesMessage}
+use Rattle.testproto.specs.declared.messages.StreamingOutputCallResponse.{
+  StreamingOutputCallResponse,
+}
+use Rattle.testproto.specs.Values.{
+  int32,
+  boolean,
+  byte_string,
+  contents,
+  IsEmbedded,
+  AreRepeated,
+  AcceptsText,
+  AcceptsMessage,
+  HasFault,
+  RefusesText,
+  RefusesMessage,
+}
 
 -- every field is accepted where there is no text and no message
 abbrev pub AcceptsAll : Field → Type 0
@@ -77,9 +92,12 @@ pub record AcceptsSimpleResponse (field : Field) : Type 0 where
   pub oauth_scope : AcceptsText 3 field
 
 abbrev pub RefusesSimpleResponse : Field → ProtoFault → Type 0
-RefusesSimpleResponse field fault = RefusesMessage (HasFault AcceptsAll RefusesNone) 1 field fault ⊎ (RefusesText 2 field fault ⊎ RefusesText 3 field fault)
+RefusesSimpleResponse field fault =
+    RefusesMessage (HasFault AcceptsAll RefusesNone) 1 field fault
+    ⊎ (RefusesText 2 field fault ⊎ RefusesText 3 field fault)
 
-pub record IsStreamingInputCallRequest (fields : List Field) (request : StreamingInputCallRequest) : Type 0 where
+pub record IsStreamingInputCallRequest (fields : List Field)
+    (request : StreamingInputCallRequest) : Type 0 where
   pub payload : IsEmbedded IsPayload (contents 1 fields) request.payload
   pub expect_compressed : IsEmbedded IsBoolValue (contents 2 fields) request.expect_compressed
 
@@ -88,12 +106,16 @@ pub record AcceptsStreamingInputCallRequest (field : Field) : Type 0 where
   pub expect_compressed : AcceptsMessage AcceptsAll 2 field
 
 abbrev pub RefusesStreamingInputCallRequest : Field → ProtoFault → Type 0
-RefusesStreamingInputCallRequest field fault = RefusesMessage (HasFault AcceptsAll RefusesNone) 1 field fault ⊎ RefusesMessage (HasFault AcceptsAll RefusesNone) 2 field fault
+RefusesStreamingInputCallRequest field fault =
+    RefusesMessage (HasFault AcceptsAll RefusesNone) 1 field fault
+    ⊎ RefusesMessage (HasFault AcceptsAll RefusesNone) 2 field fault
 
-pub record IsStreamingInputCallResponse (fields : List Field) (response : StreamingInputCallResponse) : Type 0 where
+pub record IsStreamingInputCallResponse (fields : List Field)
+    (response : StreamingInputCallResponse) : Type 0 where
   pub aggregated_payload_size : response.aggregated_payload_size ≡ int32 1 fields
 
-pub record IsResponseParameters (fields : List Field) (parameters : ResponseParameters) : Type 0 where
+pub record IsResponseParameters (fields : List Field)
+    (parameters : ResponseParameters) : Type 0 where
   pub size : parameters.size ≡ int32 1 fields
   pub interval_us : parameters.interval_us ≡ int32 2 fields
   pub compressed : IsEmbedded IsBoolValue (contents 3 fields) parameters.compressed
@@ -104,9 +126,11 @@ AcceptsResponseParameters = AcceptsMessage AcceptsAll 3
 abbrev pub RefusesResponseParameters : Field → ProtoFault → Type 0
 RefusesResponseParameters = RefusesMessage (HasFault AcceptsAll RefusesNone) 3
 
-pub record IsStreamingOutputCallRequest (fields : List Field) (request : StreamingOutputCallRequest) : Type 0 where
+pub record IsStreamingOutputCallRequest (fields : List Field)
+    (request : StreamingOutputCallRequest) : Type 0 where
   pub response_type : request.response_type ≡ int32 1 fields
-  pub response_parameters : AreRepeated IsResponseParameters (contents 2 fields) request.response_parameters
+  pub response_parameters :
+      AreRepeated IsResponseParameters (contents 2 fields) request.response_parameters
   pub payload : IsEmbedded IsPayload (contents 3 fields) request.payload
   pub response_status : IsEmbedded IsEchoStatus (contents 7 fields) request.response_status
 
@@ -121,7 +145,8 @@ RefusesStreamingOutputCallRequest field fault =
     ⊎ (RefusesMessage (HasFault AcceptsAll RefusesNone) 3 field fault
     ⊎ RefusesMessage (HasFault AcceptsEchoStatus RefusesEchoStatus) 7 field fault)
 
-pub record IsStreamingOutputCallResponse (fields : List Field) (response : StreamingOutputCallResponse) : Type 0 where
+pub record IsStreamingOutputCallResponse (fields : List Field)
+    (response : StreamingOutputCallResponse) : Type 0 where
   pub payload : IsEmbedded IsPayload (contents 1 fields) response.payload
 
 abbrev pub AcceptsStreamingOutputCallResponse : Field → Type 0

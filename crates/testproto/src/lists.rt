@@ -1,5 +1,5 @@
-//! Byte lists and texts as contracts see them: as the list. Both are borrowed: a message that was read points into the
-//! bytes that it was read from, and takes no memory for them.
+//! Byte lists and texts as contracts see them: as the list. Both are borrowed: a message that was
+//! read points into the bytes that it was read from, and takes no memory for them.
 
 ghost use Rattle.std.specs.Prelude.{◌≡◌, List, ℕ, [], IsUtf8};
 

@@ -1,8 +1,26 @@
 //! What every message has, and how it is read.
 //!
-//! `size`: no length where it passes a `usize`; `encode` then answers out of memory.
+//! `size` answers no length where that passes a `usize`; `encode` then answers out of memory.
 
-ghost use Rattle.std.specs.Prelude.{◌≡◌, ◌≢◌, ◌++◌, ◌∷◌, [], ◌^◌, ◌≤◌, List, length, take, IfOk, IfErr, IfSome, IfNone, OnOk, OnErr, MatchResult};
+ghost use Rattle.std.specs.Prelude.{
+  ◌≡◌,
+  ◌≢◌,
+  ◌++◌,
+  ◌∷◌,
+  [],
+  ◌^◌,
+  ◌≤◌,
+  List,
+  length,
+  take,
+  IfOk,
+  IfErr,
+  IfSome,
+  IfNone,
+  OnOk,
+  OnErr,
+  MatchResult,
+};
 ghost use Rattle.pbwire.specs.Fields.{Field, field_of};
 ghost use Rattle.pbwire.specs.Spelling.{spelling_of_all};
 ghost use Rattle.testproto.specs.declared.fault.ProtoFault.{ProtoFault as Fault};
@@ -37,7 +55,7 @@ pub trait Message<'a>: Drop {
     fn empty(alloc: Global) -> Self
         ensures { is_value [] result };
 
-    /// Takes one more field. Where that fails, the message is of no more use.
+    /// Takes one more field. If that fails, the message is of no more use.
     fn take(&mut self, alloc: Global, item: &FieldItem<'a>) -> Result<(), ProtoFault>
         ensures value { OnOk result ((before : List Field) → is_value before self.old
             → is_value (before ++ field_of item.now ∷ []) self.new) }
@@ -51,8 +69,8 @@ pub trait Message<'a>: Drop {
         ensures fits { IfSome result (λ size. fits self.now) }
         ensures too_long { IfNone result (2 ^ 64 ≤ length (spelling_of_all (fields_of self.now))) };
 
-    /// Appends the fields of the message, by ascending number, defaults left out. Where that fails, some of their bytes
-    /// may stand at the end of the buffer.
+    /// Appends the fields of the message, by ascending number, defaults left out. Where that fails,
+    /// some of their bytes may stand at the end of the buffer.
     fn put_fields(&self, out: &mut Vec<u8>) -> Result<(), ProtoFault>
         ensures ok { OnOk result
             (out.new.items ≡ out.old.items ++ spelling_of_all (fields_of self.now)) }
@@ -73,9 +91,10 @@ pub trait Message<'a>: Drop {
 
     /// The message that the bytes, all of them, are.
     ///
-    /// What has bytes or a text points into these; memory is taken for repeated messages alone.
+    /// Bytes and texts of the message point into these bytes. It takes memory only for repeated
+    /// messages.
     final fn decode(alloc: Global, bytes: &'a [u8]) -> Result<Self, ProtoFault>
-        // What is answered is the value of the bytes, or the fault that stands in them.
+        // The answer is the value of the bytes, or a fault that they have.
         ensures ok { IfOk result (λ message. IsValueOf accepts is_value bytes.now message) }
         ensures err { IfErr result
             (λ fault. fault ≢ OutOfMemory → HasFault accepts refuses bytes.now fault) }
@@ -102,7 +121,7 @@ pub trait Message<'a>: Drop {
     /// It sets aside the room once and fills it, so a large body is copied once.
     final fn encode(&self, alloc: Global) -> Result<Vec<u8>, ProtoFault>
         ensures ok { IfOk result (λ bytes. bytes.items ≡ spelling_of_all (fields_of self.now)) }
-        // So they are read as this message again.
+        // So the bytes are read back as this message.
         ensures read_back { IfOk result (λ bytes. IsValueOf accepts is_value bytes.items self.now) }
         ensures memory { IfErr result (λ fault. fault ≡ OutOfMemory) }
     {
@@ -135,7 +154,7 @@ pub(crate) fn decode_message<'a, M: Message<'a>>(
     alloc: Global,
     bytes: &'a [u8],
 ) -> Result<M, ProtoFault>
-    // What is answered is the value of the bytes, or a fault that stands in them.
+    // The answer is the value of the bytes, or a fault that they have.
     ensures ok { IfOk result (λ message. IsValueOf M.accepts M.is_value bytes.now message) }
     ensures err { IfErr result
         (λ fault. fault ≢ OutOfMemory → HasFault M.accepts M.refuses bytes.now fault) }
@@ -175,7 +194,7 @@ pub(crate) fn encode_message<'a, M: Message<'a>>(
     message: &M,
 ) -> Result<Vec<u8>, ProtoFault>
     ensures ok { IfOk result (λ bytes. bytes.items ≡ spelling_of_all (M.fields_of message.now)) }
-    // So they are read as this message again.
+    // So the bytes are read back as this message.
     ensures read_back { IfOk result
         (λ bytes. IsValueOf M.accepts M.is_value bytes.items message.now) }
     ensures memory { IfErr result (λ fault. fault ≡ OutOfMemory) }

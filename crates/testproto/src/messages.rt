@@ -94,7 +94,9 @@ pub struct ParameterList {
 
 impl Model for ParameterList {
     ghost use Rattle.std.specs.Prelude.{List};
-    ghost use Rattle.testproto.specs.declared.messages.ResponseParameters.{ResponseParameters as Parameters};
+    ghost use Rattle.testproto.specs.declared.messages.ResponseParameters.{
+      ResponseParameters as Parameters,
+    };
 
     ghost Value = { List Parameters };
 

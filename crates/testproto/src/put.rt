@@ -1,11 +1,35 @@
-//! One field of a message, as it is written, by its kind: how long it is, and the field at the end of a buffer.
-//! A default is left out.
+//! One field of a message, as it is written, by its kind: how long it is, and the field at the end
+//! of a buffer. A default is left out.
 
-ghost use Rattle.std.specs.Prelude.{◌≡◌, ◌+◌, ◌++◌, ◌^◌, ◌≤◌, ℕ, length, take, IfSome, IfNone, OnOk, IfErr};
+ghost use Rattle.std.specs.Prelude.{
+  ◌≡◌,
+  ◌+◌,
+  ◌++◌,
+  ◌^◌,
+  ◌≤◌,
+  ℕ,
+  length,
+  take,
+  IfSome,
+  IfNone,
+  OnOk,
+  IfErr,
+};
 ghost use Rattle.pbwire.specs.Fields.{field_with, content_of, varint};
-ghost use Rattle.pbwire.specs.Spelling.{varint_spelling, spelling_of, spelling_of_all, IsFieldNumber};
+ghost use Rattle.pbwire.specs.Spelling.{
+  varint_spelling,
+  spelling_of,
+  spelling_of_all,
+  IsFieldNumber,
+};
 ghost use Rattle.testproto.specs.declared.fault.ProtoFault.TheVariants.{OutOfMemory};
-ghost use Rattle.testproto.specs.Canonical.{int32_fields, bool_fields, bytes_fields, message_field, message_fields};
+ghost use Rattle.testproto.specs.Canonical.{
+  int32_fields,
+  bool_fields,
+  bytes_fields,
+  message_field,
+  message_fields,
+};
 ghost use Rattle.testproto.specs.Sizes.{delimited_len};
 
 use crate::fault::ProtoFault;
@@ -104,7 +128,7 @@ pub(crate) fn add_message<'a, M: Message<'a>>(
     }
 }
 
-/// Appends a field. It fails for memory alone.
+/// Appends a field. It fails only for want of memory.
 fn put(number: u32, value: &FieldValue<'_>, out: &mut Vec<u8>) -> Result<(), ProtoFault>
     requires { IsFieldNumber number }
     ensures ok { OnOk result

@@ -1,19 +1,137 @@
-//! Which field of each message is which. Every impl has the same shape: three lists with a call for each field.
+//! The fields of each message. Every impl has three lists, each with a call for each field.
 //!
-//! A message takes a field by asking each of its own fields in turn, and not by a `match` on numbers: each kind is
-//! then written and proved once. At most eight comparisons a field.
+//! A message takes a field by asking each of its own fields in turn, not by a `match` on numbers:
+//! so each kind is written and proved once. That is at most eight comparisons for each field.
 
-ghost use Rattle.std.specs.Prelude.{◌≢◌, ◌++◌, ◌∷◌, [], List, length, ◌≡◌, ◌+◌, ◌^◌, ◌≤◌, take, IfErr, IfSome, IfNone, OnOk};
+ghost use Rattle.std.specs.Prelude.{
+  ◌≢◌,
+  ◌++◌,
+  ◌∷◌,
+  [],
+  List,
+  length,
+  ◌≡◌,
+  ◌+◌,
+  ◌^◌,
+  ◌≤◌,
+  take,
+  IfErr,
+  IfSome,
+  IfNone,
+  OnOk,
+};
 ghost use Rattle.pbwire.specs.Spelling.{spelling_of_all, IsFieldNumber};
 ghost use Rattle.pbwire.specs.Fields.{Field, field_of};
 ghost use Rattle.testproto.specs.declared.fault.ProtoFault.TheVariants.{OutOfMemory};
-ghost use Rattle.testproto.specs.Values.{contents, AreRepeated, AcceptsMessage, RefusesMessage, HasFault};
-ghost use Rattle.testproto.specs.Messages.{AcceptsAll, RefusesNone, IsEmpty, IsPayload, IsBoolValue, IsEchoStatus, IsSimpleRequest, IsSimpleResponse, IsStreamingInputCallRequest, IsStreamingInputCallResponse, IsResponseParameters, IsStreamingOutputCallRequest, IsStreamingOutputCallResponse, AcceptsEchoStatus, RefusesEchoStatus, AcceptsSimpleRequest, RefusesSimpleRequest, AcceptsSimpleResponse, RefusesSimpleResponse, AcceptsStreamingInputCallRequest, RefusesStreamingInputCallRequest, AcceptsResponseParameters, RefusesResponseParameters, AcceptsStreamingOutputCallRequest, RefusesStreamingOutputCallRequest, AcceptsStreamingOutputCallResponse, RefusesStreamingOutputCallResponse};
-ghost use Rattle.testproto.specs.Canonical.{empty_fields, payload_fields, bool_value_fields, echo_status_fields, simple_request_fields, simple_response_fields, streaming_input_call_request_fields, streaming_input_call_response_fields, response_parameters_fields, streaming_output_call_request_fields, streaming_output_call_response_fields, repeated_fields};
-ghost use Rattle.testproto.specs.Laws.{apart_none, one_empty, one_payload, one_bool_value, one_echo_status, one_simple_request, one_simple_response, one_streaming_input_call_request, one_streaming_input_call_response, one_response_parameters, one_streaming_output_call_request, one_streaming_output_call_response, apart_echo_status, apart_simple_request, apart_simple_response, apart_streaming_input_call_request, apart_response_parameters, apart_streaming_output_call_request, apart_streaming_output_call_response};
-ghost use Rattle.testproto.specs.Fits.{FitsAlways, FitsPayload, FitsEchoStatus, FitsSimpleRequest, FitsSimpleResponse, FitsStreamingInputCallRequest, FitsStreamingInputCallResponse, FitsResponseParameters, FitsStreamingOutputCallRequest, FitsStreamingOutputCallResponse};
-ghost use Rattle.testproto.specs.Written.{read_empty, read_payload, read_bool_value, read_echo_status, read_simple_request, read_simple_response, read_streaming_input_call_request, read_streaming_input_call_response, read_response_parameters, read_streaming_output_call_request, read_streaming_output_call_response};
-ghost use Rattle.testproto.specs.Totals.{total_empty, total_payload, total_bool_value, total_echo_status, total_simple_request, total_simple_response, total_streaming_input_call_request, total_streaming_input_call_response, total_response_parameters, total_streaming_output_call_request, total_streaming_output_call_response};
+ghost use Rattle.testproto.specs.Values.{
+  contents,
+  AreRepeated,
+  AcceptsMessage,
+  RefusesMessage,
+  HasFault,
+};
+ghost use Rattle.testproto.specs.Messages.{
+  AcceptsAll,
+  RefusesNone,
+  IsEmpty,
+  IsPayload,
+  IsBoolValue,
+  IsEchoStatus,
+  IsSimpleRequest,
+  IsSimpleResponse,
+  IsStreamingInputCallRequest,
+  IsStreamingInputCallResponse,
+  IsResponseParameters,
+  IsStreamingOutputCallRequest,
+  IsStreamingOutputCallResponse,
+  AcceptsEchoStatus,
+  RefusesEchoStatus,
+  AcceptsSimpleRequest,
+  RefusesSimpleRequest,
+  AcceptsSimpleResponse,
+  RefusesSimpleResponse,
+  AcceptsStreamingInputCallRequest,
+  RefusesStreamingInputCallRequest,
+  AcceptsResponseParameters,
+  RefusesResponseParameters,
+  AcceptsStreamingOutputCallRequest,
+  RefusesStreamingOutputCallRequest,
+  AcceptsStreamingOutputCallResponse,
+  RefusesStreamingOutputCallResponse,
+};
+ghost use Rattle.testproto.specs.Canonical.{
+  empty_fields,
+  payload_fields,
+  bool_value_fields,
+  echo_status_fields,
+  simple_request_fields,
+  simple_response_fields,
+  streaming_input_call_request_fields,
+  streaming_input_call_response_fields,
+  response_parameters_fields,
+  streaming_output_call_request_fields,
+  streaming_output_call_response_fields,
+  repeated_fields,
+};
+ghost use Rattle.testproto.specs.Laws.{
+  apart_none,
+  one_empty,
+  one_payload,
+  one_bool_value,
+  one_echo_status,
+  one_simple_request,
+  one_simple_response,
+  one_streaming_input_call_request,
+  one_streaming_input_call_response,
+  one_response_parameters,
+  one_streaming_output_call_request,
+  one_streaming_output_call_response,
+  apart_echo_status,
+  apart_simple_request,
+  apart_simple_response,
+  apart_streaming_input_call_request,
+  apart_response_parameters,
+  apart_streaming_output_call_request,
+  apart_streaming_output_call_response,
+};
+ghost use Rattle.testproto.specs.Fits.{
+  FitsAlways,
+  FitsPayload,
+  FitsEchoStatus,
+  FitsSimpleRequest,
+  FitsSimpleResponse,
+  FitsStreamingInputCallRequest,
+  FitsStreamingInputCallResponse,
+  FitsResponseParameters,
+  FitsStreamingOutputCallRequest,
+  FitsStreamingOutputCallResponse,
+};
+ghost use Rattle.testproto.specs.Written.{
+  read_empty,
+  read_payload,
+  read_bool_value,
+  read_echo_status,
+  read_simple_request,
+  read_simple_response,
+  read_streaming_input_call_request,
+  read_streaming_input_call_response,
+  read_response_parameters,
+  read_streaming_output_call_request,
+  read_streaming_output_call_response,
+};
+ghost use Rattle.testproto.specs.Totals.{
+  total_empty,
+  total_payload,
+  total_bool_value,
+  total_echo_status,
+  total_simple_request,
+  total_simple_response,
+  total_streaming_input_call_request,
+  total_streaming_input_call_response,
+  total_response_parameters,
+  total_streaming_output_call_request,
+  total_streaming_output_call_response,
+};
 ghost use Rattle.std.specs.List.{AllByRecursion};
 
 use crate::fault::ProtoFault;

@@ -1,10 +1,39 @@
-//! One field of a message, by its kind. Each call takes the field that it is passed where that has the
-//! number and the wire type of the kind; any other field changes nothing.
+//! One field of a message, by its kind. Each function takes the field that it is passed if that has
+//! the number and the wire type of the kind; any other field changes nothing.
 
-ghost use Rattle.std.specs.Prelude.{◌≡◌, ◌≢◌, ◌++◌, ◌∷◌, [], List, ℕ, IfOk, IfErr, IfSome, IfNone, OnOk, MatchOption};
+ghost use Rattle.std.specs.Prelude.{
+  ◌≡◌,
+  ◌≢◌,
+  ◌++◌,
+  ◌∷◌,
+  [],
+  List,
+  ℕ,
+  IfOk,
+  IfErr,
+  IfSome,
+  IfNone,
+  OnOk,
+  MatchOption,
+};
 ghost use Rattle.pbwire.specs.Fields.{Field, field_of};
 ghost use Rattle.testproto.specs.declared.fault.ProtoFault.TheVariants.{OutOfMemory};
-ghost use Rattle.testproto.specs.Values.{varint_in, content_in, contents, int32, boolean, byte_string, AreJoined, IsEmbedded, AcceptsText, AcceptsMessage, RefusesText, RefusesMessage, HasFault, IsValueOf};
+ghost use Rattle.testproto.specs.Values.{
+  varint_in,
+  content_in,
+  contents,
+  int32,
+  boolean,
+  byte_string,
+  AreJoined,
+  IsEmbedded,
+  AcceptsText,
+  AcceptsMessage,
+  RefusesText,
+  RefusesMessage,
+  HasFault,
+  IsValueOf,
+};
 
 use crate::fault::ProtoFault;
 use crate::lists::{ByteList, Text};

@@ -18,5 +18,6 @@ HasPadding false payload padding rest = (padding ≡ 0) × (payload ≡ rest)
 
 -- what is after the priority, if there is one
 abbrev pub HasPriority : Bool → List ℕ → List ℕ → Type 0
-HasPriority true payload rest = (priority : List ℕ) × (payload ≡ priority ++ rest) × (length priority ≡ 5)
+HasPriority true payload rest =
+    (priority : List ℕ) × (payload ≡ priority ++ rest) × (length priority ≡ 5)
 HasPriority false payload rest = payload ≡ rest

@@ -19,4 +19,5 @@ pending_of trace Server = trace.server
 -- what waited and what a side sends now is in these lines, byte by byte, and then waits
 abbrev pub IsTold : Trace → Trace → Side → List ℕ → List Line → Type 0
 IsTold old new side bytes lines =
-    Cut (pending_of old side).stage ((pending_of old side).bytes ++ bytes) (items_of lines) (pending_of new side).stage (pending_of new side).bytes
+    Cut (pending_of old side).stage ((pending_of old side).bytes ++ bytes) (items_of lines)
+    (pending_of new side).stage (pending_of new side).bytes

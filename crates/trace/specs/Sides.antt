@@ -7,7 +7,7 @@ abbrev pub of_side : {T : Type 0} → Sides T → Side → T
 of_side sides Client = sides.client
 of_side sides Server = sides.server
 
--- with another thing of one side
+-- both sides with another thing of one
 abbrev pub with_side : {T : Type 0} → Sides T → Side → T → Sides T
 with_side sides Client value = record sides { client = value }
 with_side sides Server value = record sides { server = value }

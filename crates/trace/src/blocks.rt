@@ -14,7 +14,7 @@ use lists::Field;
 use std::alloc::{AllocError, Global};
 use std::mem;
 
-/// Reads the header blocks of one side, in their order.
+/// Reads the header blocks of one side, in order.
 #[derive(Drop)]
 pub struct Blocks {
     alloc: Global,
@@ -37,7 +37,7 @@ impl Blocks {
         }
     }
 
-    /// What HEADERS, PUSH_PROMISE or CONTINUATION come to.
+    /// What HEADERS, PUSH_PROMISE or CONTINUATION mean.
     pub fn take(&mut self, head: &FrameHead, payload: &[u8]) -> Result<Told, AllocError> {
         match head.kind {
             FrameKind::Continuation => self.next_frame(head, payload),
@@ -69,7 +69,8 @@ impl Blocks {
         self.told(head, begun)
     }
 
-    /// What the frame with this head comes to, which has a fragment of the block that another began.
+    /// What the frame with this head means, which has a fragment of the block that another frame
+    /// began.
     fn told(&mut self, head: &FrameHead, begun: FrameHead) -> Result<Told, AllocError> {
         if !head.flags.contains(Flags::END_HEADERS) {
             return Ok(Told::Fragment);
@@ -94,7 +95,8 @@ impl Blocks {
         self.bytes.extend_from_slice(fragment)
     }
 
-    /// The block that this frame began is whole: its fields, over the table of this side, or the first fault.
+    /// The block that this frame began is whole: its fields, over the table of this side, or the
+    /// first fault.
     fn end(&mut self, head: FrameHead) -> Result<Block, AllocError>
         ensures bytes { IfOk result (λ block. block.bytes.items ≡ self.old.bytes.items) }
         ensures fields { IfOk result (λ block. IfOk block.fields (λ fields.
@@ -118,7 +120,7 @@ impl Blocks {
     }
 }
 
-/// The fields of a block, or its first fault; that memory runs out is no fault of the block.
+/// The fields of a block, or its first fault. Want of memory isn't a fault of the block.
 fn fields_of(
     decoder: &mut Decoder,
     block: &[u8],
@@ -135,7 +137,7 @@ fn fields_of(
     }
 }
 
-/// The status of the call that the server ends by HEADERS with these fields, where they tell one.
+/// The status of the call that the server ends by HEADERS with these fields, if they have one.
 fn status_of(
     alloc: Global,
     side: Side,

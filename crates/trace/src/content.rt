@@ -15,7 +15,8 @@ const PROMISED_LEN: usize = 4;
 /// The bytes of a parameter of SETTINGS (section 6.5.1).
 pub const PARAMETER_LEN: usize = 6;
 
-/// The content of a frame, without padding, and without the priority of HEADERS; nothing where these are longer than the payload.
+/// The content of a frame, without padding and the priority of HEADERS. Nothing if these are longer
+/// than the payload.
 pub fn content_of<'a>(head: &FrameHead, payload: &'a [u8]) -> Option<&'a [u8]>
     ensures { IfSome result (λ content. IsContent head.now payload.now content.now) }
 {
@@ -67,7 +68,7 @@ fn before_padding(payload: &[u8], padding: usize) -> Option<&[u8]>
     Some(content)
 }
 
-/// The number in four bytes from this place on, and 0 where they are not there.
+/// The number in four bytes from this place on, or 0 if they aren't there.
 pub fn number_at(bytes: &[u8], at: usize) -> u32 {
     match bytes.get(at..) {
         Some([a, b, c, d, ..]) => u32::from_be_bytes([*a, *b, *c, *d]),

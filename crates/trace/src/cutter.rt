@@ -1,6 +1,24 @@
-//! Cutting the bytes of one side into its preface and frames, in whatever pieces they come (RFC 9113, sections 3.4 and 4.1).
+//! Cutting the bytes of one side into its preface and frames, in whatever pieces they come (RFC
+//! 9113, sections 3.4 and 4.1).
 
-ghost use Rattle.std.specs.Prelude.{◌≡◌, ◌<◌, ◌≤◌, ◌^◌, ◌++◌, ℕ, List, [], false, length, drop, IfOk, IfNone, IfSome, IsTrue, OnOk};
+ghost use Rattle.std.specs.Prelude.{
+  ◌≡◌,
+  ◌<◌,
+  ◌≤◌,
+  ◌^◌,
+  ◌++◌,
+  ℕ,
+  List,
+  [],
+  false,
+  length,
+  drop,
+  IfOk,
+  IfNone,
+  IfSome,
+  IsTrue,
+  OnOk,
+};
 ghost use Rattle.h2frame.specs.FrameList.{BeginsWith};
 ghost use Rattle.h2frame.specs.Reading.{head_at};
 ghost use Rattle.trace.specs.declared.item.Stage.TheVariants as stages;
@@ -20,7 +38,8 @@ const PREFACE_LEN: usize = 24;
 
 const PREFACE: &[u8] = b"PRI * HTTP/2.0\r\n\r\nSM\r\n\r\n";
 
-/// Cuts the bytes of one side. A clause sees what comes next, and the bytes that came and are no whole item.
+/// Cuts the bytes of one side. A clause sees what comes next, and the bytes that came and aren't a
+/// whole item.
 #[derive(Drop)]
 pub struct Cutter {
     stage: Stage,
@@ -46,18 +65,19 @@ impl Cutter {
         }
     }
 
-    /// Takes the next piece of the bytes, and answers the items that are whole by it.
+    /// Takes the next piece of the bytes, and answers the items that it makes whole.
     pub fn cut(&mut self, piece: &[u8]) -> Result<Vec<Item>, AllocError>
         // Each byte of what was kept and of the piece is in one of them, in order, or is kept.
         ensures cut { IfOk result (λ cut.
-            Cut self.old.stage (self.old.bytes ++ piece.now) cut.items self.new.stage self.new.bytes) }
+            Cut self.old.stage (self.old.bytes ++ piece.now) cut.items
+            self.new.stage self.new.bytes) }
         ensures all { OnOk result (IsUnfinished self.new.stage self.new.bytes) }
     {
         self.kept.extend_from_slice(piece)?;
         items_of(&mut self.stage, &mut self.kept)
     }
 
-    /// What is left over, where there are bytes that are no whole item. None follow.
+    /// The bytes that are left over, if there are any. No more bytes follow.
     #[tactic(auto, using(crate::proofs::Cutting::no_leftover, crate::proofs::Cutting::a_leftover))]
     pub fn end(self) -> Result<Option<Item>, AllocError>
         ensures { IfOk result (λ end. item_list end ≡ rest_of self) }

@@ -11,10 +11,11 @@ use std::alloc::{AllocError, AllocFailed, Global};
 use std::str;
 use thiserror::Error;
 
-/// What a client's bytes begin with (RFC 9113, section 3.4).
+/// The beginning of a client's bytes (RFC 9113, section 3.4).
 const PREFACE: &[u8] = b"PRI * HTTP/2.0\r\n\r\nSM\r\n\r\n";
 
-/// What a file of packets begins with: one that `capture` reads, of the other order of bytes, in nanoseconds, and pcapng's.
+/// The beginnings of files of packets: one that `capture` reads, one with the other order of bytes,
+/// those in nanoseconds, and pcapng's.
 const PCAP: &[u8] = b"\xd4\xc3\xb2\xa1";
 
 const PCAP_SWAPPED: &[u8] = b"\xa1\xb2\xc3\xd4";
@@ -74,9 +75,11 @@ impl<T: Drop> From<AllocFailed<T>> for InputFault {
 
 /// What the sides of a connection sent, in order, by a file of one of these forms:
 ///
-/// - a capture, as the crate `capture` reads it, of one connection: its client sent the first packet;
+/// - a capture, as the crate `capture` reads it, of one connection: its client sent the first
+///   packet;
 /// - lines `client DIGITS` and `server DIGITS`, with a time in microseconds before the side or not;
-/// - hexadecimal digits alone, or the bytes themselves, of one side: of the client if they begin with its preface.
+/// - hexadecimal digits alone, or the bytes themselves, of one side: of the client if they begin
+///   with its preface.
 pub fn sent_of(alloc: Global, file: &[u8]) -> Result<Vec<Sent>, InputFault> {
     if is_capture(file) {
         return match read(alloc, file) {
@@ -171,7 +174,7 @@ fn of_lines(alloc: Global, text: &str) -> Result<Vec<Sent>, InputFault> {
     Ok(sent)
 }
 
-/// What a line says, at this time if it tells none.
+/// What a line says, at this time if it has none.
 fn of_line(alloc: Global, time: u64, line: &str) -> Result<Option<Sent>, AllocError> {
     let (mut told, mut side) = (None, None);
     let mut digits = Vec::new(alloc);
@@ -201,7 +204,7 @@ fn of_line(alloc: Global, time: u64, line: &str) -> Result<Option<Sent>, AllocEr
     }))
 }
 
-/// The time that a word is, where none was told before it.
+/// The time that a word is, if none came before it.
 fn time_named(word: &str, before: Option<u64>) -> Option<u64> {
     match before {
         Some(_) => None,

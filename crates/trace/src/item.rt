@@ -17,7 +17,8 @@ pub enum Stage {
 pub enum Item {
     /// The preface of a client's connection.
     Preface,
-    /// A frame and its whole payload, with padding and priority, whatever faults it has (section 4.1).
+    /// A frame and its whole payload, with padding and priority, whatever faults it has (section
+    /// 4.1).
     Frame(FrameHead, Bytes),
     /// The last bytes of a side, which are no whole preface or frame.
     Rest(Bytes),

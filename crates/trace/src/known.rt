@@ -1,4 +1,4 @@
-//! What is known of a connection by its frames so far, and what the next one comes to.
+//! What is known of a connection by its frames so far, and what the next one means.
 
 use crate::blocks::Blocks;
 use crate::content::{PARAMETER_LEN, content_of, number_at};
@@ -37,7 +37,7 @@ impl Known {
         }
     }
 
-    /// What the next item of a side comes to.
+    /// What the next item of a side means.
     pub fn tell(&mut self, side: Side, item: &Item) -> Result<Told, AllocError> {
         match item {
             Item::Frame(head, payload) => self.frame(side, head, payload.as_slice()),

@@ -1,4 +1,4 @@
-//! Laws of how bytes are cut, for callers. None of them does anything.
+//! Laws of how bytes are cut, for callers. The functions do nothing.
 
 ghost use Rattle.std.specs.Prelude.{◌≡◌, ℕ, List, ◌++◌, Option};
 ghost use Rattle.h2frame.specs.declared.fault.FrameFault.{FrameFault};
@@ -10,7 +10,7 @@ ghost use Rattle.trace.specs.declared.item.Stage.{Stage as StageOf};
 ghost use Rattle.trace.specs.declared.item.Stage.TheVariants as stages;
 ghost use Rattle.trace.specs.Cuts.{Cut, IsUnfinished, Spells};
 
-/// What is cut of one piece after the other is what is cut of both together.
+/// One piece cut after another gives what both give together.
 pub fn joins()
     ensures { (first next last : StageOf) (bytes rest piece left : List ℕ)
         (items others : List ItemOf) →

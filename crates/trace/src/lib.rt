@@ -1,19 +1,21 @@
-//! What is on the wire: a line for each frame of a connection, in both directions.
+//! A line for each frame of a connection, in both directions.
 //!
-//! A `Trace` is shown the bytes that each side of a connection sends, in any pieces. It cuts them into a client's preface and frames, and
-//! answers a `Line` for each: when it came, who sent it, what its head says, and what that comes to: fields, windows, messages, the
-//! status of a call. It goes on after faults, which it names.
+//! A `Trace` is shown the bytes that each side of a connection sends, in any pieces. It cuts them
+//! into a client's preface and frames, and answers a `Line` for each: when it came, who sent it,
+//! what its head says, and what it means for fields, windows, messages and the status of a call. It
+//! goes on after faults, which it names.
 //!
-//! That each byte is in one line, in order, and that the lines are the same however the bytes were cut into pieces, is what `Trace` and
-//! the laws say. That fields are those of their block, by the tables of its side, is what `Blocks` says. What a line says as text is
-//! tried (`checks/frames`).
+//! `Trace` and the laws say that each byte is in one line, in order, and that the lines don't
+//! depend on how the bytes were cut into pieces. `Blocks` says that fields are those of their
+//! block, by the tables of its side. A check tries what a line says as text (`checks/frames`).
 //!
-//! `sent_of` reads what a file has of a connection, and `push_frames` shows it: a command has only to read the file and to write the
-//! text.
+//! `sent_of` reads what a file has of a connection, and `push_frames` shows it: a command has only
+//! to read the file and to write the text.
 //!
-//! Read `item` for what bytes are cut into, `cutter` for the cutting; `content`, `blocks`, `spelling`, `messages`, `windows` and `streams`
-//! for what is known of a connection, `told` and `known` for what a frame comes to, `tracing` for the lines; `names`, `text` and `line` for
-//! how they are written; `input` and `report` for files.
+//! Read `item` for what bytes are cut into, `cutter` for the cutting; `content`, `blocks`,
+//! `spelling`, `messages`, `windows` and `streams` for what is known of a connection, `told` and
+//! `known` for what a frame means, `tracing` for the lines; `names`, `text` and `line` for how they
+//! are written; `input` and `report` for files.
 #![tactic(auto)]
 
 mod blocks;

@@ -17,7 +17,7 @@ use std::fmt;
 /// The microseconds of a second.
 const SECOND: u64 = 1_000_000;
 
-/// Of how many messages in one frame of DATA short lines tell at most.
+/// How many messages in one frame of DATA a short line shows at most.
 const MOST_PARTS: usize = 8;
 
 /// How much a line says.
@@ -29,7 +29,7 @@ pub enum Form {
     Full,
 }
 
-/// A piece of what a side sent, and what it comes to.
+/// A piece of what a side sent, and what it means.
 #[derive(Debug, Drop, PartialEq, Eq)]
 pub struct Line {
     /// How many microseconds the connection has gone on.
@@ -152,7 +152,7 @@ impl Shown<'_> {
         }
     }
 
-    /// What the frame comes to.
+    /// Writes what the frame means.
     fn told<W: fmt::Write>(&self, f: &mut fmt::Formatter<W>, told: &Told) -> fmt::Result {
         match told {
             Told::Nothing => Ok(()),
@@ -177,7 +177,7 @@ impl Shown<'_> {
         }
     }
 
-    /// What DATA have of messages. Of many the first are shown alone, unless all bytes are wanted.
+    /// What DATA have of messages. Of many only the first are shown, unless all bytes are wanted.
     fn parts<W: fmt::Write>(&self, f: &mut fmt::Formatter<W>, parts: &[Part]) -> fmt::Result {
         let count = match self.form {
             Form::Short => MOST_PARTS,
@@ -239,7 +239,7 @@ impl Shown<'_> {
     }
 }
 
-/// Bytes of which a front may be shown alone.
+/// Bytes of which only a front may be shown.
 #[derive(Clone, Copy)]
 struct Shortened<T> {
     front: T,

@@ -1,4 +1,5 @@
-//! Where messages begin and end in the DATA of one side of a call (gRPC over HTTP/2, "Length-Prefixed-Message").
+//! Where messages begin and end in the DATA of one side of a call (gRPC over HTTP/2,
+//! "Length-Prefixed-Message").
 
 ghost use Rattle.std.specs.Prelude.{◌≤◌, length};
 
@@ -12,7 +13,7 @@ const PREFIX: usize = 5;
 pub struct Part {
     /// Which message of this side of the call it is, from 1 on.
     pub number: u64,
-    /// What the prefix says, where all of it came.
+    /// What the prefix says, if all of it came.
     pub prefix: Option<Prefix>,
     /// How many bytes of the message there are, without those of the prefix.
     pub bytes: usize,
@@ -23,7 +24,7 @@ pub struct Part {
 /// What a prefix says.
 #[derive(Clone, Copy, Debug, PartialEq, Eq)]
 pub struct Prefix {
-    /// 0, or 1 where the message is compressed.
+    /// 0, or 1 if the message is compressed.
     pub flag: u8,
     pub length: u32,
 }
@@ -71,8 +72,8 @@ impl Messages {
         self.prefixed > 0 || self.current.is_some()
     }
 
-    /// What a byte and those after it have of the message in hand, or of the next one, and what is left of them. A byte of a prefix that
-    /// isn't whole has nothing.
+    /// What a byte and those after it have of the message in hand, or of the next one, and what is
+    /// left of them. A byte of a prefix that isn't whole has nothing.
     fn part<'b>(&mut self, first: u8, behind: &'b [u8]) -> (Option<Part>, &'b [u8])
         ensures { length result.1.now ≤ length behind.now }
     {
@@ -87,7 +88,8 @@ impl Messages {
         (Some(part), rest)
     }
 
-    /// What bytes have of the message with this prefix, of which so many are to come, beside those that were taken.
+    /// What bytes have of the message with this prefix, of which `left` are to come, beside those
+    /// that were taken.
     fn more<'b>(
         &mut self,
         prefix: Prefix,
@@ -110,7 +112,7 @@ impl Messages {
         (part, behind)
     }
 
-    /// A message of whose prefix not all came.
+    /// A message whose prefix isn't whole.
     fn begun_part(&self) -> Part {
         Part {
             number: self.begun,
@@ -120,7 +122,7 @@ impl Messages {
         }
     }
 
-    /// The next byte of a prefix comes: what the prefix says, where it is whole by it.
+    /// The next byte of a prefix comes. Answers what the prefix says, if it is whole now.
     fn prefix_by(&mut self, byte: u8) -> Option<Prefix> {
         if self.prefixed == 0 {
             self.begun = self.begun.saturating_add(1);

@@ -4,7 +4,8 @@ use crate::spelling::Spelling;
 use h2frame::{Flags, FrameHead, FrameKind, SettingId};
 use std::fmt;
 
-/// The flags of a frame, each behind a blank: those that its type has by their names, and what is left as a number.
+/// The flags of a frame, each after a blank: those that its type has by their names, and what is
+/// left as a number.
 #[derive(Clone, Copy)]
 pub struct FlagNames(pub FrameHead);
 

@@ -5,7 +5,8 @@ use crate::line::{Form, Line, Shown};
 use crate::tracing::Trace;
 use std::alloc::AllocError;
 
-/// Pushes the line of each frame of what the sides of a connection sent, and then of what each has left over.
+/// Pushes the line of each frame of what the sides of a connection sent, and then of what each has
+/// left over.
 pub fn push_frames(text: &mut String, sent: &[Sent], form: Form) -> Result<(), AllocError> {
     let mut trace = Trace::new(*text.allocator());
     let mut last = 0;

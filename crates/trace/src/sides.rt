@@ -23,7 +23,7 @@ impl<T: Copy> Sides<T> {
         }
     }
 
-    /// There is something else of a side.
+    /// Replaces what there is of a side.
     pub fn set(&mut self, side: Side, value: T)
         ensures { self.new ≡ with_side self.old side value }
     {

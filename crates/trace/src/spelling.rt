@@ -14,13 +14,13 @@ pub enum Spelling {
     Indexed(u32),
     /// It becomes an entry, and has its name by index, or at 0 in full (section 6.2.1).
     Added(u32),
-    /// It becomes none (section 6.2.2).
+    /// It doesn't become an entry (section 6.2.2).
     Plain(u32),
-    /// It is never to become one (section 6.2.3).
+    /// It is never to become an entry (section 6.2.3).
     Never(u32),
 }
 
-/// How the fields of a block that was read are spelled, in their order.
+/// How the fields of a block that was read are spelled, in order.
 pub fn spellings(alloc: Global, block: &[u8]) -> Result<Vec<Spelling>, AllocError> {
     let mut spellings = Vec::new(alloc);
     let mut rest = block;
@@ -33,7 +33,7 @@ pub fn spellings(alloc: Global, block: &[u8]) -> Result<Vec<Spelling>, AllocErro
     Ok(spellings)
 }
 
-/// How the first field is spelled, and what is after it; a change of the table's size is none.
+/// How the first field is spelled, and what follows it. A change of the table's size isn't a field.
 fn first_spelling(block: &[u8]) -> Option<(Option<Spelling>, &[u8])>
     ensures { IfSome result (λ found. length found.1.now < length block.now) }
 {
@@ -78,7 +78,8 @@ fn behind_text(bytes: &[u8]) -> Option<&[u8]>
     Some(behind)
 }
 
-/// An integer that begins in the last bits of a byte, which are all ones in `most`, and what is after it (section 5.1).
+/// An integer that begins in the last bits of a byte, which are all ones in `most`, and what is
+/// after it (section 5.1).
 fn integer(most: u8, bytes: &[u8]) -> Option<(u32, &[u8])>
     ensures { IfSome result (λ read. length read.1.now < length bytes.now) }
 {

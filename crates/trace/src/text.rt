@@ -2,10 +2,11 @@
 
 use std::fmt;
 
-/// How many bytes of a text are shown at most, where not all are.
+/// How many bytes of a text are shown at most, if not all are.
 const SHOWN: usize = 128;
 
-/// Bytes between quotes: `\"`, `\\`, `\n`, `\r`, `\t`, and `\xNN` for each other byte that isn't a printable character of ASCII.
+/// Bytes between quotes: `\"`, `\\`, `\n`, `\r`, `\t`, and `\xNN` for each other byte that isn't a
+/// printable character of ASCII.
 #[derive(Clone, Copy)]
 pub struct Quoted<'a>(pub &'a [u8]);
 

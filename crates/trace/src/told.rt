@@ -1,4 +1,4 @@
-//! What a frame comes to, beside what its own bytes say.
+//! What a frame means, beside what its own bytes say.
 
 use crate::messages::Part;
 use crate::spelling::Spelling;
@@ -7,20 +7,21 @@ use h2frame::{FrameFault, FrameHead};
 use hpack_codec::HpackFault;
 use lists::Field;
 
-/// What a frame comes to by the frames before it.
+/// What a frame means after the frames before it.
 #[derive(Debug, Drop, PartialEq, Eq)]
 pub enum Told {
     /// No more than its bytes say.
     Nothing,
-    /// It breaks a rule, and nothing is made of it.
+    /// It breaks a rule, and isn't used.
     Fault(FrameFault),
     /// It is a fragment of a header block that goes on.
     Fragment,
     /// It goes on with no header block.
     NoBlock,
-    /// A header block is whole by it.
+    /// It makes a header block whole.
     Block(Block),
-    /// What DATA have of the messages of the call, the windows of the side that sent them, and whether the stream ends inside a message.
+    /// What DATA have of the messages of the call, the windows of the side that sent them, and
+    /// whether the stream ends inside a message.
     Data {
         parts: Vec<Part>,
         connection: Change,
@@ -29,7 +30,7 @@ pub enum Told {
     },
     /// A window of the other side grows.
     Credit(Change),
-    /// The windows of the other side's streams have another size at first.
+    /// The windows of the other side's streams get another initial size.
     Resized(Change),
 }
 
@@ -42,6 +43,6 @@ pub struct Block {
     /// How its fields are spelled.
     pub spellings: Vec<Spelling>,
     pub fields: Result<Vec<Field>, HpackFault>,
-    /// The status of the call, where the server ends it by this block, and the text with it.
+    /// The status of the call and its text, if the server ends it by this block.
     pub status: Option<(u32, String)>,
 }

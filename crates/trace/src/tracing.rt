@@ -14,7 +14,7 @@ use crate::told::Told;
 use capture::Side;
 use std::alloc::{AllocError, Global};
 
-/// Follows a connection, and tells its frames.
+/// Follows a connection, and answers a line for each of its frames.
 #[derive(Drop)]
 pub struct Trace {
     alloc: Global,
@@ -39,7 +39,8 @@ impl Trace {
         }
     }
 
-    /// A side sends these bytes, so many microseconds after the connection began: a line for each frame that is whole by them.
+    /// A side sends these bytes, `time` microseconds after the connection began. Answers a line for
+    /// each frame that they make whole.
     pub fn sent(&mut self, time: u64, side: Side, bytes: &[u8]) -> Result<Vec<Line>, AllocError>
         // Each byte that the side sent is in one line, in order, or waits for more.
         ensures cut { IfOk result (λ lines. IsTold self.old self.new side bytes.now lines.items) }

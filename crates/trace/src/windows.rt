@@ -12,14 +12,14 @@ pub struct Change {
     pub after: i64,
 }
 
-/// What one side may send: on the connection, and at first on each stream.
+/// What one side may send: on the connection, and initially on each stream.
 #[derive(Clone, Copy, Debug, PartialEq, Eq)]
 pub struct Windows {
     connection: i64,
     initial: i64,
 }
 
-/// What one side may send on a stream, beyond what it might at first.
+/// What one side may send on a stream, beyond the initial size.
 #[derive(Clone, Copy, Debug, PartialEq, Eq)]
 pub struct Moved(i64);
 
@@ -30,7 +30,7 @@ impl Windows {
         initial: INITIAL_WINDOW as i64,
     };
 
-    /// The connection's window changes by so many bytes.
+    /// The connection's window changes by `bytes`.
     pub fn change(&mut self, bytes: i64) -> Change
         ensures before { result.before ≡ self.old.connection }
         ensures after { result.after ≡ saturate_signed w64 (self.old.connection +ℤ bytes) }
@@ -44,7 +44,7 @@ impl Windows {
         }
     }
 
-    /// The window of a stream changes by so many bytes.
+    /// The window of a stream changes by `bytes`.
     pub fn change_stream(&self, moved: &mut Moved, bytes: i64) -> Change
         ensures before { result.before ≡ saturate_signed w64 (self.now.initial +ℤ moved.old.0) }
         ensures moved { moved.new.0 ≡ saturate_signed w64 (moved.old.0 +ℤ bytes) }
@@ -58,7 +58,8 @@ impl Windows {
         }
     }
 
-    /// The windows of streams have another size at first. Those of open streams move with it (section 6.9.2).
+    /// The windows of streams get another initial size. Those of open streams move with it (section
+    /// 6.9.2).
     pub fn resize(&mut self, size: u32) -> Change
         ensures before { result.before ≡ self.old.initial }
         ensures after { result.after ≡ pos size }

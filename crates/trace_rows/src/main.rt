@@ -1,12 +1,12 @@
 //! Traces and captures of connections, for tests.
 //!
-//! Standard input has what the sides of a connection sent, as `trace::sent_of` reads it. By its words the program prints something else
-//! of it:
+//! Standard input has what the sides of a connection sent, as `trace::sent_of` reads it. By its
+//! words the program prints something else of it:
 //!
 //! - `short`, `full`: the line of each frame.
-//! - `cut N`: the same as `short`, of the same bytes in pieces of N.
-//! - `capture`: a capture of them in hexadecimal digits, between port 40000 of one host and port 50051 of another; `capture6`: over
-//!   IPv6.
+//! - `cut N`: what `short` prints, for these bytes in pieces of N.
+//! - `capture`: a capture of them in hexadecimal digits, between port 40000 of one host and port
+//!   50051 of another; `capture6`: over IPv6.
 //!
 //! And of a file that standard input has in hexadecimal digits:
 //!
@@ -43,7 +43,7 @@ fn print_frames(rt: &(impl Print + AllocGlobal), sent: &[Sent], form: Form) -> R
     Ok(())
 }
 
-/// The same bytes in pieces of at most so many.
+/// The bytes in pieces of at most `most`.
 fn cut(alloc: Global, sent: &[Sent], most: usize) -> Result<Vec<Sent>>
     requires { 0 < most }
 {

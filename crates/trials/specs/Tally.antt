@@ -1,5 +1,21 @@
--- A case that is run several times: what came of its runs, and the line that tells it.
-use Rattle.std.specs.Prelude.{◌≡◌, ℕ, ◌+◌, List, [], ◌∷◌, ◌++◌, min, Option, Some, None, Result, Ok, Err, codes}
+-- A case that is run several times: the outcomes of its runs, and the line that reports them.
+use Rattle.std.specs.Prelude.{
+  ◌≡◌,
+  ℕ,
+  ◌+◌,
+  List,
+  [],
+  ◌∷◌,
+  ◌++◌,
+  min,
+  Option,
+  Some,
+  None,
+  Result,
+  Ok,
+  Err,
+  codes,
+}
 use Rattle.std.specs.Option.{option_or}
 use Rattle.std.specs.Fmt.{decimal}
 use Rattle.cases.specs.Faults.{code_of}
@@ -12,7 +28,8 @@ no_run = record { passed = 0; fault = None }
 -- one more run passed, or failed, where the first fault is kept
 abbrev pub Counts : Tally → Result (Unit {0}) CaseFault → Tally → Type 0
 Counts before (Ok done) after = after ≡ record before { passed = min (before.passed + 1) 65535 }
-Counts before (Err fault) after = after ≡ record before { fault = option_or before.fault (Some fault) }
+Counts before (Err fault) after =
+    after ≡ record before { fault = option_or before.fault (Some fault) }
 
 -- ` ok`, or ` failed CODE`
 abbrev pub ending_of : Option CaseFault → List ℕ
@@ -25,7 +42,8 @@ outcome_of name fault = codes "case " ++ name ++ ending_of fault
 
 -- ` (PASSED of TIMES)`, and the line's end
 abbrev pub count_of : ℕ → ℕ → List ℕ
-count_of passed times = codes " (" ++ decimal passed ++ codes " of " ++ decimal times ++ codes ")" ++ 10 ∷ []
+count_of passed times =
+    codes " (" ++ decimal passed ++ codes " of " ++ decimal times ++ codes ")" ++ 10 ∷ []
 
 -- `case NAME ok (PASSED of TIMES)`, or `case NAME failed CODE (PASSED of TIMES)`
 abbrev pub tally_line : List ℕ → Tally → ℕ → List ℕ

@@ -96,7 +96,7 @@ where
     let Some(failure) = failure else {
         return Ok(());
     };
-    // The line that is printed tells of the fault even where nothing can be said here.
+    // The line that is printed reports the fault even if nothing can be written here.
     let note = failure.note.as_str();
     let _said = eprintln!(rt; "{name}: {note}");
     Err(failure.fault)

@@ -42,8 +42,9 @@ impl<'a> Target<'a> {
     }
 }
 
-/// Lists the names of cases, or runs those that the words choose, as often and as many at a time as they say, and tells what came
-/// of each. Where `is_shown`, standard error is a terminal, and shows how far it is.
+/// Lists the names of cases, or runs those that the words choose, as often and as many at a time as
+/// they say, and reports each outcome. If `is_shown`, standard error is a terminal, and shows how
+/// far the run is.
 pub fn run_case<R, W>(
     rt: R,
     words: CaseWords<'_>,
@@ -124,7 +125,7 @@ fn entries_of(alloc: Global) -> Result<Vec<Entry<'static>>, TrialFault> {
     Ok(entries)
 }
 
-/// Runs the cases at these places of the names, and tells what came of each.
+/// Runs the cases at these places of the names, and reports each outcome.
 fn run_chosen<R, W>(
     rt: R,
     places: &[usize],
@@ -149,7 +150,8 @@ where
     end_run(&rt, &recorder, verdict)
 }
 
-/// Runs the cases at these places of the names, where it is written what passes, and tells what came of each.
+/// Runs the cases at these places of the names while a recorder writes what passes, and reports
+/// each outcome.
 fn run_recorded<R, W>(
     rt: R,
     places: &[usize],
@@ -178,7 +180,7 @@ where
     Ok(Verdict::from(sinks.close(output)?))
 }
 
-/// Runs the case or the soak of this name, as the words say, and tells what came of it.
+/// Runs the case or the soak of this name, as the words say, and reports its outcome.
 fn run_named<R, W>(
     rt: R,
     name: &str,
@@ -229,7 +231,8 @@ fn is_there<R: Net + Clock>(rt: &R, alloc: Global, words: &CaseRun<'_>) -> bool 
     }
 }
 
-/// Tells what came of a case, in every place where results go. Where the server is gone, that is no known failure.
+/// Reports the outcome of a case, in every place where results go. That the server is gone is no
+/// known failure.
 fn tell<R, W>(
     sinks: &mut Sinks<'_, R>,
     mut outcome: Outcome,
@@ -275,7 +278,7 @@ where
     Ok(outcome_of(alloc, name, attempt)?)
 }
 
-/// Runs a case so many times: what came of it is what came of the first run that failed, if one did.
+/// Runs a case `times` times. Its outcome is that of the first run that failed, if one did.
 fn run_often<R>(
     rt: &R,
     alloc: Global,
@@ -318,7 +321,7 @@ where
 
 /// Says that there is no case of this name, and which there are.
 fn refuse_name(rt: &impl Eprint, name: &str) {
-    // The exit status tells of it even where nothing can be said here.
+    // The exit status reports it even if nothing can be written here.
     let _said = eprint!(rt; "interop: there is no case {name}: all");
     for known in NAMES {
         let _said = eprint!(rt; ", {known}");
@@ -334,7 +337,7 @@ fn print_unknown<W: ConnWrite>(alloc: Global, name: &str, output: &mut W) -> Res
     print_line(alloc, name, Err(CaseFault::UnknownCase), output)
 }
 
-/// Whether the case has a line of its own, though there is none of its name: it is to be run, and standard output has text.
+/// Whether the case has a line of its own: it is to be run, and standard output has text.
 fn is_named(name: &str, words: &CaseRun<'_>) -> bool {
     Form::of(&words.reporting) == Form::Text && words.names.iter().any(|word| *word == name)
 }

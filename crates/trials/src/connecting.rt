@@ -1,4 +1,4 @@
-//! A connection to a server that cases are run against, or why there is none.
+//! A connection to the server under test, or why there is none.
 
 use cases::{Failure, Limit, TICK};
 use std::alloc::Global;

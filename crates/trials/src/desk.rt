@@ -1,4 +1,4 @@
-//! Wire cases that have ended, in whatever order, and are told of in their own.
+//! Wire cases that have ended, in any order, and are reported in their own.
 
 use crate::trial::TrialFault;
 use device::ConnWrite;
@@ -31,12 +31,12 @@ struct Lost {
     why: String,
 }
 
-/// The cases of a run that have ended, by their places, until they are told of in their order.
+/// The cases of a run that have ended, by their places, until they are reported in order.
 #[derive(Drop)]
 pub(crate) struct Desk {
     alloc: Global,
     waiting: Vec<Option<Ended>>,
-    /// The place of the case that is told of next.
+    /// The place of the case that is reported next.
     next: usize,
     is_verbose: bool,
     /// Whether one failed and that is enough.
@@ -89,7 +89,7 @@ impl Desk {
         }
     }
 
-    /// Takes what came of the case at a place, and tells of those whose turn it is.
+    /// Takes the outcome of the case at a place, and reports the cases whose turn it is.
     pub(crate) fn take<R, W>(
         &mut self,
         place: usize,
@@ -111,7 +111,7 @@ impl Desk {
         }
     }
 
-    /// Takes a case that was run, and tells of those whose turn it is.
+    /// Takes a case that was run, and reports the cases whose turn it is.
     fn put<R, W>(
         &mut self,
         place: usize,
@@ -146,9 +146,9 @@ impl Desk {
         Some(ended)
     }
 
-    /// Tells of the cases that have ended, though others before them have not, and of one that couldn't be tested: of a server
-    /// that a case has ended, the first that wasn't run, or else the last, unless that one fails the run by
-    /// itself.
+    /// Reports the cases that have ended, though others before them have not, and one that couldn't
+    /// be tested: if a case has ended the server, the first that wasn't run, or else the last,
+    /// unless that one fails the run by itself.
     pub(crate) fn tell_rest<R, W>(
         &mut self,
         cases: &[Case],
@@ -177,7 +177,7 @@ impl Desk {
         self.tell_lost(cases, sinks, output)
     }
 
-    /// Tells what came of a case.
+    /// Reports the outcome of a case.
     fn tell<R, W>(
         &self,
         ended: Ended,
@@ -194,7 +194,8 @@ impl Desk {
         Ok(())
     }
 
-    /// Tells of a case that couldn't be tested. Where none had a connection, the text of that stands on standard error alone.
+    /// Reports a case that couldn't be tested. If none had a connection, only standard error has
+    /// the text of that.
     fn tell_lost<R, W>(
         &self,
         cases: &[Case],

@@ -1,4 +1,4 @@
-//! A connection whose bytes are kept, for whoever has to look at them where a case failed.
+//! A connection whose bytes are kept, for the report of a case that failed.
 
 ghost use Rattle.std.specs.Prelude.{◌≡◌};
 

@@ -1,9 +1,11 @@
 //! Cases and wire cases, run against a server.
 //!
-//! - `run_case` runs test cases (`client`, `attempt`), several at a time (`load`), or as a soak (`soak`). `connecting` makes the
-//!   connections, `kept` keeps what passes on one.
-//! - `run_wire` lists wire cases, or runs them side by side (`wire_cases`), and tells what came of them (`desk`).
-//! - `tally`: the line of a case that was run several times; `trial`: what came of all, and why they were not run to their end.
+//! - `run_case` runs test cases (`client`, `attempt`), several at a time (`load`), or as a soak
+//!   (`soak`). `connecting` makes the connections, `kept` keeps what passes on one.
+//! - `run_wire` lists wire cases, or runs them side by side (`wire_cases`), and reports their
+//!   outcomes (`desk`).
+//! - `tally`: the line of a case that was run several times; `trial`: what came of all, and why
+//!   they were not run to their end.
 #![tactic(auto)]
 
 mod attempt;

@@ -37,8 +37,8 @@ struct Trial {
     recorder: Option<Arc<Recorder>>,
 }
 
-/// Runs a case as often as the words say, so many at a time. Its lines are that of the case, and one of its times: within which
-/// half of the runs ended, and 99 of 100.
+/// Runs a case as often as the words say, and as many at a time. Its lines are that of the case,
+/// and one of its times: within which half of the runs ended, and 99 of 100.
 pub(crate) fn load_case<R>(
     rt: R,
     case: Case,
@@ -80,7 +80,7 @@ where
     Ok(outcome)
 }
 
-/// What came of so many runs, so many at a time: each thread makes one after another.
+/// The outcome of `times` runs, `streams` at a time: each thread makes one after another.
 fn all_runs<R>(
     rt: R,
     alloc: Global,
@@ -111,7 +111,7 @@ where
     Ok(runs)
 }
 
-/// How many of so many runs the thread of this place makes.
+/// How many of the runs the thread at this place makes.
 fn share(times: u16, streams: u16, place: u16) -> u16 {
     let least = times.checked_div(streams).unwrap_or(times);
     let more = times.checked_rem(streams).unwrap_or(0);
@@ -122,7 +122,7 @@ fn share(times: u16, streams: u16, place: u16) -> u16 {
     }
 }
 
-/// What came of so many runs, one after another.
+/// The outcome of a number of runs, one after another.
 fn runs_of<R>(rt: &R, alloc: Global, trial: &Trial, count: u16) -> Result<Vec<Run>, AllocError>
 where
     R: Net + Wait + Clock + Eprint + AllocGlobal + Copy + Drop,
@@ -178,7 +178,7 @@ fn push_times(
     lines.extend_from_slice(text.as_bytes())
 }
 
-/// The index of the least of so many times, in their order, within which so many of 100 are.
+/// The index of the least of `count` times, in order, within which `percent` of 100 are.
 pub(crate) fn nearest_rank(count: u32, percent: u16) -> usize
     requires { percent ≤ 100 }
     ensures { result ≡ rank_of count percent }

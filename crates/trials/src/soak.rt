@@ -87,8 +87,8 @@ fn whole(words: SoakWords) -> Duration {
     }
 }
 
-/// Makes the calls, as many as there is time for, and answers what came of each, and of the end of
-/// the last connection.
+/// Makes the calls for which there is time, and answers the outcome of each, and how the last
+/// connection ended.
 fn iterate<R>(
     rt: R,
     alloc: Global,
@@ -250,8 +250,8 @@ fn wait<R: Clock>(rt: &R, plan: &Plan<'_>, begun: Duration) {
     }
 }
 
-/// Whether a soak passed, and else the fault of the first call that failed; that calls are missing
-/// comes behind that.
+/// Whether a soak passed, and else the fault of the first call that failed. That calls are missing
+/// counts only without such a fault.
 fn verdict(
     iterations: &[Iteration],
     closing: Option<CaseFault>,

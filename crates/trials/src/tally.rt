@@ -1,4 +1,4 @@
-//! A case that is run several times: a line tells how often it passed.
+//! A case that is run several times: a line says how often it passed.
 
 ghost use Rattle.std.specs.Prelude.{◌≡◌, ◌++◌, OnOk};
 ghost use Rattle.trials.specs.Tally.{Counts, count_of, no_run, outcome_of, tally_line};
@@ -27,7 +27,7 @@ impl Tally {
         }
     }
 
-    /// Tells what came of one more run.
+    /// Counts the outcome of one more run.
     pub fn count(&mut self, answer: Result<(), CaseFault>)
         ensures { Counts self.old answer self.new }
     {
@@ -38,7 +38,8 @@ impl Tally {
     }
 }
 
-/// Appends the line of a case that was run so many times: how many of the runs passed, and the fault of the first that failed.
+/// Appends the line of a case that was run several times: how many of the runs passed, and the
+/// fault of the first that failed.
 pub fn push_tally(
     text: &mut Vec<u8>,
     name: &str,

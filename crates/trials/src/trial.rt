@@ -36,7 +36,7 @@ impl From<bool> for Verdict {
 /// Why cases were not run to their end.
 #[derive(Clone, Copy, Debug, PartialEq, Eq)]
 pub enum TrialFault {
-    /// The list of known failures is none.
+    /// The list of known failures can't be read as one.
     BadKnown,
     /// A file couldn't be read or written, or the clock not be read.
     Failed,
@@ -122,7 +122,7 @@ pub fn refuse_choice(rt: &impl Eprint, fault: ChoiceFault<'_>) -> Result<Verdict
     if fault == ChoiceFault::OutOfMemory {
         return Err(TrialFault::OutOfMemory);
     }
-    // The exit status tells of it even where nothing can be said here.
+    // The exit status reports it even if nothing can be written here.
     let _said = eprintln!(rt; "interop: {fault}");
     Ok(Verdict::UnknownCase)
 }

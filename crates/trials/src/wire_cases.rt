@@ -59,7 +59,7 @@ impl<R: Net<Stream = TcpStream> + Clock + AllocGlobal + Drop> Target<R> {
         let place = Place::new(self.host.as_str(), self.port);
         match connect(&self.rt, self.rt.alloc(), place, limit) {
             Ok(stream) => {
-                // A connection on which no time can be set is broken, and a read tells of that.
+                // A connection on which no time can be set is broken, and a read reports that.
                 let _set = stream.set_write_timeout(Some(self.silence));
                 Ok(stream)
             }
@@ -127,13 +127,15 @@ struct Found {
     answers: Vec<Option<Result<Ended, WireFault>>>,
 }
 
-/// Lists the wire cases, or runs those that the words choose, and tells what came of each: `Failed`, where one failed the run, or
-/// the server answers no more. Where `is_shown`, standard error is a terminal, and shows how far it is.
+/// Lists the wire cases, or runs those that the words choose, and reports each outcome. It answers
+/// `Failed` if one failed the run, or the server answers no more. If `is_shown`, standard error is
+/// a terminal, and shows how far the run is.
 ///
 /// # Errors
 ///
-/// `BadKnown` where the file of known failures is none; `Failed` where a line or a file can't be written or read, or where there
-/// was no connection for a case: it isn't tested, and nothing is told of those after it. Standard error says why.
+/// It answers `BadKnown` if the file of known failures can't be read as one, and `Failed` if a line
+/// or a file can't be written or read, or if there was no connection for a case: that one isn't
+/// tested, and those after it aren't reported. Standard error says why.
 pub fn run_wire<R, W>(
     rt: R,
     words: WireWords<'_>,
@@ -192,7 +194,7 @@ struct Plan<'a> {
     words: &'a WireRun<'a>,
 }
 
-/// Runs cases, where it is written what passes, and tells what came of each.
+/// Runs cases while a recorder writes what passes, and reports each outcome.
 fn run_recorded<R, W>(
     rt: R,
     plan: Plan<'_>,
@@ -237,14 +239,14 @@ where
 {
     sinks.bail_out(why, output)?;
     sinks.close(output)?;
-    // The exit status tells of it even where nothing can be said here.
+    // The exit status reports it even if nothing can be written here.
     let _said = eprintln!(rt; "interop: {why}");
     Err(TrialFault::Failed)
 }
 
 /// Says that there is no case of this name, and which there are.
 fn refuse_name(rt: &impl Eprint, name: &str) -> Verdict {
-    // The exit status tells of it even where nothing can be said here.
+    // The exit status reports it even if nothing can be written here.
     let _said = eprintln!(rt; "interop: there is no wire case {name}: {KNOWN}");
     Verdict::UnknownCase
 }
@@ -286,7 +288,7 @@ fn picked(alloc: Global, cases: &[Case], places: &[usize]) -> Result<Vec<Case>, 
     Ok(picked)
 }
 
-/// Runs cases, each once, and tells what came of each.
+/// Runs cases, each once, and reports each outcome.
 fn run_round<R, W>(
     rt: R,
     alloc: Global,
@@ -367,7 +369,8 @@ where
     R: Net<Stream = TcpStream> + Wait + Clock + Eprint + AllocGlobal,
     R: Copy + Drop,
 {
-    /// Runs one case after another, each the next that no other thread has begun, but those that no other is to run beside.
+    /// Runs one case after another, each the next that no other thread has begun, but those that no
+    /// other is to run beside.
     fn work(&self, rt: &impl Wait, alloc: Global) {
         for _ in self.cases.as_slice() {
             let place = self.next.fetch_add(1, Ordering::SeqCst) as usize;
@@ -385,7 +388,8 @@ where
         }
     }
 
-    /// Takes what came of each case as it ends, and of those that no other runs beside, which are run last.
+    /// Takes what came of each case as it ends, and of those that no other runs beside, which are
+    /// run last.
     fn tell_all<S, W>(
         &self,
         rt: &S,

@@ -8,7 +8,8 @@ use Rattle.wire.specs.declared.seen.Seen.{Seen}
 use Rattle.wire.specs.Reactions.{Judges}
 
 unclaimed : (seen : Seen) (r : Reaction) (held : Bool)
-    → ((codes : Vec ℕ) → r ≡ reaction.Connection codes → ⊥) → ((codes : Vec ℕ) → r ≡ reaction.Goaway codes → ⊥)
+    → ((codes : Vec ℕ) → r ≡ reaction.Connection codes → ⊥)
+    → ((codes : Vec ℕ) → r ≡ reaction.Goaway codes → ⊥)
     → (r ≡ reaction.Closed → ⊥)
     → ((stream : ℕ) (codes : Vec ℕ) → r ≡ reaction.Reset stream codes → ⊥)
     → ((stream : ℕ) (codes : Vec ℕ) → r ≡ reaction.Stream stream codes → ⊥)
@@ -25,7 +26,8 @@ unclaimed seen reaction.Orderly held a b c d e f g h = absurd (h refl)
 unclaimed seen other held a b c d e f g h = tt
 
 pub unclaimed_answer : (seen : Seen) (r : Reaction) (answer : Result Bool WireFault)
-    → ((codes : Vec ℕ) → r ≡ reaction.Connection codes → ⊥) → ((codes : Vec ℕ) → r ≡ reaction.Goaway codes → ⊥)
+    → ((codes : Vec ℕ) → r ≡ reaction.Connection codes → ⊥)
+    → ((codes : Vec ℕ) → r ≡ reaction.Goaway codes → ⊥)
     → (r ≡ reaction.Closed → ⊥)
     → ((stream : ℕ) (codes : Vec ℕ) → r ≡ reaction.Reset stream codes → ⊥)
     → ((stream : ℕ) (codes : Vec ℕ) → r ≡ reaction.Stream stream codes → ⊥)

@@ -1,5 +1,26 @@
 -- Which errors a server said, and what a judgment of its reactions rests on.
-use Rattle.std.specs.Prelude.{◌≡◌, ⊤, ℕ, ◌⊎◌, ◌==◌, nat_le, Bool, true, false, ◌||◌, not, List, Option, Some, None, IsSome, is_none, ◌&&◌, if◌then◌else◌, length}
+use Rattle.std.specs.Prelude.{
+  ◌≡◌,
+  ⊤,
+  ℕ,
+  ◌⊎◌,
+  ◌==◌,
+  nat_le,
+  Bool,
+  true,
+  false,
+  ◌||◌,
+  not,
+  List,
+  Option,
+  Some,
+  None,
+  IsSome,
+  is_none,
+  ◌&&◌,
+  if◌then◌else◌,
+  length,
+}
 use Rattle.std.specs.Ordering.{nat_cmp}
 use Rattle.std.specs.List.{All, Any, list_any}
 use Rattle.std.specs.BTreeMap.{get}
@@ -14,7 +35,8 @@ abbrev pub is_one_of : Option ℕ → List ℕ → Bool
 is_one_of None codes = false
 is_one_of (Some code) codes = list_any (λ it. it == code) codes
 
--- GOAWAY with one of these errors, or the end of the connection where no GOAWAY says an error (RFC 9113, section 5.4.1)
+-- GOAWAY with one of these errors, or the end of the connection where no GOAWAY says an error (RFC
+-- 9113, section 5.4.1)
 abbrev pub has_ended : Option ℕ → Bool → List ℕ → Bool
 has_ended None closed codes = closed
 has_ended (Some code) closed codes = if code == 0 then closed else list_any (λ it. it == code) codes
@@ -34,9 +56,12 @@ abbrev pub Judges : Seen → Reaction → Bool → Type 0
 Judges seen (reaction.Connection codes) held = held ≡ has_ended seen.goaway seen.closed codes.items
 Judges seen (reaction.Goaway codes) held = held ≡ is_one_of seen.goaway codes.items
 Judges seen reaction.Closed held = held ≡ seen.closed
-Judges seen (reaction.Reset stream codes) held = held ≡ was_reset (get nat_cmp seen.streams stream) codes.items
+Judges seen (reaction.Reset stream codes) held =
+    held ≡ was_reset (get nat_cmp seen.streams stream) codes.items
 Judges seen (reaction.Stream stream codes) held =
-    held ≡ (has_ended seen.goaway seen.closed codes.items || was_reset (get nat_cmp seen.streams stream) codes.items)
+    held
+    ≡ (has_ended seen.goaway seen.closed codes.items
+    || was_reset (get nat_cmp seen.streams stream) codes.items)
 Judges seen (reaction.Acks count) held = held ≡ (seen.acks == count)
 Judges seen (reaction.Largest most) held = held ≡ nat_le seen.largest most
 Judges seen reaction.Orderly held = held ≡ not seen.late

@@ -1,9 +1,12 @@
 //! What the server announced: the values of its SETTINGS, and the amounts that rows take from them.
 //!
-//! An amount is a number, or the name of a setting with `/N`, `+N` or `-N` after it: `frame`, `table+1`, `frame/6+1`.
+//! An amount is a number, or the name of a setting with `/N`, `+N` or `-N` after it: `frame`,
+//! `table+1`, `frame/6+1`.
 //!
-//! - `frame`: SETTINGS_MAX_FRAME_SIZE. `table`: SETTINGS_HEADER_TABLE_SIZE. `window`: SETTINGS_INITIAL_WINDOW_SIZE.
-//! - `streams`: SETTINGS_MAX_CONCURRENT_STREAMS. `list`: SETTINGS_MAX_HEADER_LIST_SIZE. A server may announce neither.
+//! - `frame`: SETTINGS_MAX_FRAME_SIZE. `table`: SETTINGS_HEADER_TABLE_SIZE. `window`:
+//!   SETTINGS_INITIAL_WINDOW_SIZE.
+//! - `streams`: SETTINGS_MAX_CONCURRENT_STREAMS. `list`: SETTINGS_MAX_HEADER_LIST_SIZE. A server
+//!   may announce neither.
 
 use crate::fault::WireFault;
 use h2frame::SettingId;
@@ -37,7 +40,7 @@ pub struct Need {
     bound: Bound,
 }
 
-/// Where a setting's value has to lie.
+/// In what range a setting's value has to be.
 #[derive(Clone, Copy, Debug, PartialEq, Eq)]
 enum Bound {
     AtLeast(u64),
@@ -132,7 +135,7 @@ impl Setting {
 }
 
 impl Need {
-    /// Reads what stands behind `needs`: the name of a setting, `at least` or `at most`, and a number.
+    /// Reads what follows `needs`: the name of a setting, `at least` or `at most`, and a number.
     pub fn read(text: &str) -> Result<Need, WireFault> {
         let (name, rest) = text.split_once(' ').ok_or(WireFault::BadRow)?;
         let setting = Setting::named(name).ok_or(WireFault::BadRow)?;

@@ -35,7 +35,7 @@ impl Case {
         })
     }
 
-    /// The case that a text has: its title, its level and section, and the lines behind them.
+    /// The case that a text has: its title, its level and section, and then its lines.
     fn read(group: Group, number: u32, text: &'static str) -> Option<Case> {
         let (title, rest) = text.split_once('\n')?;
         let (about, script) = rest.split_once('\n')?;

@@ -1,18 +1,20 @@
 //! What frames carry, as the rows spell it.
 //!
-//! Words with blanks between them, each of which adds bytes. A N is an amount (`announced`): a number, or one that is taken from
-//! what the server announced, as `frame+1`.
+//! Words with blanks between them, each of which adds bytes. A N is an amount (`announced`): a
+//! number, or one that is taken from what the server announced, as `frame+1`.
 //!
-//! - `0801`: these bytes, in hexadecimal; `00*N`: so many times.
-//! - `te=trailers`: a field of a header block, without indexing and with its name spelled out (RFC 7541, section 6.2.2);
-//!   `%0a` in it is that byte.
+//! - `0801`: these bytes, in hexadecimal; `00*N`: N times.
+//! - `te=trailers`: a field of a header block, without indexing and with its name spelled out (RFC
+//!   7541, section 6.2.2); `%0a` in it is that byte.
 //! - `str:trailers`: a string of a header block, its length first (section 5.2).
-//! - `call:EmptyCall`: the fields that open a call of this method of the test service. `path:EmptyCall`: its `:path` alone.
+//! - `call:EmptyCall`: the fields that open a call of this method of the test service.
+//!   `path:EmptyCall`: its `:path` alone.
 //! - `pad:N`: a field without indexing that is N bytes long in all, at least 300.
 //! - `size:N`: a change of the table's size to N (RFC 7541, section 6.3).
 //!
-//! A word that begins with `!` is a fault: where the case is first tried without its fault (`control`, in `step`) it is left out.
-//! A word that begins with `~` stands there alone, in place of a fault. So `call:EmptyCall !X=a`, and `!te=gzip ~te=trailers`.
+//! A word that begins with `!` is a fault: where the case is first tried without its fault
+//! (`control`, in `step`) it is left out. A word that begins with `~` is only there, in place of a
+//! fault. So `call:EmptyCall !X=a`, and `!te=gzip ~te=trailers`.
 
 ghost use Rattle.std.specs.Prelude.{◌<◌, IfSome};
 
@@ -38,7 +40,8 @@ pub const SAMPLE: Announced = Announced {
 };
 
 impl Reading {
-    /// A line, or a word, as it stands here, without its mark; `None` where it doesn't stand here.
+    /// A line, or a word, as it is in this try, without its mark; `None` if this try doesn't have
+    /// it.
     pub fn unmarked<'a>(&self, text: &'a str) -> Option<&'a str> {
         if let Some(fault) = text.strip_prefix('!') {
             return (!self.is_control).then_some(fault);
@@ -59,7 +62,8 @@ const LITERAL: u8 = 0;
 /// A length has no more groups of seven bits than this.
 const MOST_SEPTETS: u32 = 10;
 
-/// The first bits of a change of the table's size, and the bits of its number in the first byte (RFC 7541, section 6.3).
+/// The first bits of a change of the table's size, and the bits of its number in the first byte
+/// (RFC 7541, section 6.3).
 const SIZE_CHANGE: u8 = 0x20;
 
 const SIZE_MASK: u8 = 0x1f;
@@ -111,7 +115,7 @@ fn push_word(
     push_repeated(alloc, bytes, word, 1)
 }
 
-/// Adds bytes in hexadecimal, so many times.
+/// Adds bytes in hexadecimal, as often as the word says.
 fn push_repeated(
     alloc: Global,
     bytes: &mut Vec<u8>,
@@ -163,8 +167,8 @@ fn push_string(alloc: Global, bytes: &mut Vec<u8>, text: &str) -> Result<(), Wir
     Ok(())
 }
 
-/// Adds a field without indexing that is so many bytes long in all. Its name has one byte, or two where no value would have the
-/// right length else: the length of a value may take a byte more.
+/// Adds a field without indexing that has this many bytes in all. Its name has one byte, or two if
+/// otherwise no value would have the right length: the length of a value may take one more byte.
 fn push_pad(alloc: Global, bytes: &mut Vec<u8>, length: u64) -> Result<(), WireFault> {
     if length < LEAST_PAD || length > MOST {
         return Err(WireFault::BadRow);
@@ -198,7 +202,8 @@ fn push_length(bytes: &mut Vec<u8>, length: u64) -> Result<(), WireFault> {
     push_integer(bytes, 0, LENGTH_MASK, length)
 }
 
-/// Adds an integer whose prefix has these bits, behind the first bits of its byte (RFC 7541, section 5.1).
+/// Adds an integer whose prefix has these bits, after the first bits of its byte (RFC 7541, section
+/// 5.1).
 fn push_integer(bytes: &mut Vec<u8>, first: u8, mask: u8, value: u64) -> Result<(), WireFault> {
     if value < u64::from(mask) {
         bytes.push(first | value as u8)?;

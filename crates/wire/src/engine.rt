@@ -1,4 +1,5 @@
-//! One try of a case, over one connection: its steps in order, and then a wait for a lawful reaction.
+//! One try of a case, over one connection: its steps in order, and then a wait for a lawful
+//! reaction.
 
 ghost use Rattle.std.specs.Prelude.{◌≡◌, false, IfOk, IsTrue};
 ghost use Rattle.std.specs.List.{All, Any};
@@ -23,7 +24,7 @@ const PADDED_LEN: u64 = 257;
 /// The greatest number of streams that a step opens.
 const MOST_STREAMS: u64 = 10_000;
 
-/// So many connections are made where the server ends each before it says anything.
+/// How many connections are made if the server ends each before it says anything.
 const MOST_CONNECTIONS: usize = 3;
 
 /// The greatest number of a stream, without the reserved bit.
@@ -40,7 +41,7 @@ const PRIORITY_LEN: usize = 5;
 pub enum Unfit {
     /// The server's SETTINGS aren't what it rests on.
     Setting(Need),
-    /// The server's windows have no room for so many bytes of DATA.
+    /// The server's windows have no room for this many bytes of DATA.
     Window(u64),
 }
 
@@ -67,7 +68,8 @@ pub struct Try {
 ///
 /// # Errors
 ///
-/// `NoConnection` where there is no connection to the server, or where it ends each before it says anything.
+/// `NoConnection` where there is no connection to the server, or where it ends each before it says
+/// anything.
 pub fn try_case<V: Server>(
     alloc: Global,
     case: Case,
@@ -116,8 +118,8 @@ pub fn try_case<V: Server>(
     })
 }
 
-/// A connection, on which the client greets the server, or leaves that to the case. A server that ends a connection before it says
-/// anything may have too many: another is tried.
+/// A connection, on which the client greets the server, or leaves that to the case. A server that
+/// ends a connection before it says anything may have too many: another is tried.
 fn open<'a, V: Server>(
     alloc: Global,
     server: &'a V,
@@ -141,7 +143,8 @@ fn open<'a, V: Server>(
     Err(WireFault::NoConnection(String::from_str(alloc, why)?))
 }
 
-/// What a try without a lawful reaction is. A case that began before the server's SETTINGS came is read by them now.
+/// What a try without a lawful reaction is. A case that began before the server's SETTINGS came is
+/// read by them now.
 fn failure_of(
     alloc: Global,
     case: Case,
@@ -215,7 +218,8 @@ fn drip<V: Server>(talk: &mut Talk<'_, V>, bytes: &[u8]) -> Result<(), WireFault
     Ok(())
 }
 
-/// Writes a frame; DATA once the server's windows have room for it. It answers where they have none.
+/// Writes a frame; DATA once the server's windows have room for it. It answers where they have
+/// none.
 fn write_frame<V: Server>(
     alloc: Global,
     talk: &mut Talk<'_, V>,
@@ -245,8 +249,8 @@ fn write_frame<V: Server>(
     Ok(Some(Unfit::Window(count)))
 }
 
-/// The payload of HEADERS. Where the server's table is smaller than tables are at first, its first block begins with a change of the
-/// table's size to that (RFC 7541, section 4.2).
+/// The payload of HEADERS. Where the server's table is smaller than tables are at first, its first
+/// block begins with a change of the table's size to that (RFC 7541, section 4.2).
 fn with_table_size<V: Server>(
     alloc: Global,
     talk: &mut Talk<'_, V>,
@@ -315,7 +319,7 @@ fn sync<V: Server>(talk: &mut Talk<'_, V>) -> Result<(), WireFault> {
     Ok(())
 }
 
-/// Opens streams from 1 on, so many, and ends none.
+/// Opens a number of streams, from 1 on, and ends none.
 fn open_many<V: Server>(
     alloc: Global,
     talk: &mut Talk<'_, V>,
@@ -334,7 +338,7 @@ fn open_many<V: Server>(
     Ok(())
 }
 
-/// Resets streams from 1 on, so many.
+/// Resets a number of streams, from 1 on.
 fn cancel_many<V: Server>(talk: &mut Talk<'_, V>, count: u64) -> Result<(), WireFault> {
     if count > MOST_STREAMS {
         return Err(WireFault::BadRow);
@@ -381,8 +385,9 @@ fn upload<V: Server>(
     Ok(())
 }
 
-/// Waits for a lawful reaction, and answers whether there was one. Once the server has read all that was said, only an answer of a
-/// call is waited for until nothing comes, unless that was waited for already; what a server does by itself comes within a moment.
+/// Waits for a lawful reaction, and answers whether there was one. Once the server has read all
+/// that was said, only an answer of a call is waited for until nothing comes, unless that was
+/// waited for already; what a server does by itself comes within a moment.
 fn judge<V: Server>(talk: &mut Talk<'_, V>, lawful: &[Lawful]) -> Result<bool, WireFault>
     ensures passed { IfOk result
         (λ passed. IsTrue passed → Any (IsLawful talk.new.seen) lawful.now) }

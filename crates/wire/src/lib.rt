@@ -1,14 +1,16 @@
-//! Wire cases for a server of gRPC over HTTP/2: a client that sends what a real one wouldn't, and judges what comes back
-//! (RFC 9113, RFC 7541, gRPC over HTTP/2).
+//! Wire cases for a server of gRPC over HTTP/2: a client that sends what a real one wouldn't, and
+//! judges what comes back (RFC 9113, RFC 7541, gRPC over HTTP/2).
 //!
-//! A case is text (`rows`): its title, its level and section, what it rests on, the steps that are taken, and the reactions that are
-//! lawful. Each runs over connections of its own. `run_case` runs one and answers what came of it; `every_case` has all, and
-//! `text_of` the lines that are printed of one; `list` prints what there is.
+//! A case is text (`rows`): its title, its level and section, what it rests on, the steps that are
+//! taken, and the reactions that are lawful. Each runs over connections of its own. `run_case` runs
+//! one and answers what came of it; `every_case` has all, and `text_of` the lines that are printed
+//! of one; `list` prints what there is.
 //!
-//! Read `group` and `case` for what a case is; `announced` for what it takes from the server's SETTINGS; `content`, `frame`
-//! and `step` for what is sent; `reaction` and `seen` for what comes back and how it is judged; `server` and `talk` for the
-//! connection, `engine` for one try and `run` for one case; `verdict`, `outcome`, `report` and `every` for all of them.
-//! `specs/Verdicts.antt` says what tries come to.
+//! Read `group` and `case` for what a case is; `announced` for what it takes from the server's
+//! SETTINGS; `content`, `frame` and `step` for what is sent; `reaction` and `seen` for what comes
+//! back and how it is judged; `server` and `talk` for the connection, `engine` for one try and
+//! `run` for one case; `verdict`, `outcome`, `report` and `every` for all of them.
+//! `specs/Verdicts.antt` says which verdict tries lead to.
 #![tactic(auto)]
 
 mod announced;

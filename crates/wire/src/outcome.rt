@@ -9,7 +9,7 @@ use std::alloc::{AllocError, Global};
 pub struct Ended {
     pub case: Case,
     pub outcome: Outcome,
-    /// Whether the server answers still. It is looked at where the case failed.
+    /// Whether the server still answers. This is tried if the case failed.
     pub is_alive: bool,
 }
 

@@ -1,33 +1,40 @@
 //! What a server under test may do, as the rows have it.
 //!
-//! A row's lawful reactions are lines of `want`, any of which suffices; in a line several that all hold stand with `and`
-//! between them. Each is a word, the stream where there is one, and numbers or a text:
+//! A row's lawful reactions are lines of `want`, any of which suffices; a line may have several,
+//! which all have to hold, with `and` between them. Each is a word, the stream where there is one,
+//! and numbers or a text:
 //!
-//! - `connection 1 6`: GOAWAY with one of these errors, or the end of the connection without one that says an error.
+//! - `connection 1 6`: GOAWAY with one of these errors, or the end of the connection without one
+//!   that says an error.
 //! - `goaway 1`: GOAWAY with one of these errors. `closed`: the end of the connection.
-//! - `reset 3 5`: RST_STREAM of stream 3 with one of the errors behind it; any error where none is named.
-//! - `stream 3 5`: that, or `connection` with one of these errors: an endpoint may end the connection in place of a stream
-//!   (RFC 9113, section 5.4.1).
-//! - `status 1 13`: stream 1 ended with one of these statuses of gRPC, its response being `:status` 200.
+//! - `reset 3 5`: RST_STREAM of stream 3 with one of the errors after it; any error if none is
+//!   named.
+//! - `stream 3 5`: that, or `connection` with one of these errors: an endpoint may end the
+//!   connection in place of a stream (RFC 9113, section 5.4.1).
+//! - `status 1 13`: stream 1 ended with one of these statuses of gRPC, its response being
+//!   `:status` 200.
 //! - `http 1 415`: the response on stream 1 has one of these `:status`; any where none is named.
-//! - `answered 1`: stream 1 ended with END_STREAM. `open 1`: it neither ended nor was reset. `live 1`: it wasn't reset.
-//!   `nothing 1`: nothing came on it.
-//! - `rejected 1`: its response has an `:status` of 400 or more, or ended with a status other than 0. `failed 1`: that, or it was
-//!   reset.
-//! - `data 1 10`: so many bytes of DATA came on it. `most 1 10`: no more than that; of stream 0: on all
-//!   streams. `begun 1`: some DATA. `total 65535`: so many on all streams.
+//! - `answered 1`: stream 1 ended with END_STREAM. `open 1`: it neither ended nor was reset.
+//!   `live 1`: it wasn't reset. `nothing 1`: nothing came on it.
+//! - `rejected 1`: its response has an `:status` of 400 or more, or ended with a status other
+//!   than 0. `failed 1`: that, or it was reset.
+//! - `data 1 10`: 10 bytes of DATA came on stream 1. `most 1 10`: no more than that; for stream 0:
+//!   on all streams. `begun 1`: some DATA. `total 65535`: this many bytes on all streams.
 //! - `largest 16384`: no DATA frame had more bytes than that.
-//! - `replies 1 4`: so many whole messages came on it. `reply 1 0801`: the last one is this. `has 1 0801`: these bytes stand
-//!   in it.
-//! - `head 1 NAME=VALUE`, `trailer 1 NAME=VALUE`: such a field came in the first, the last header block. `begins 1
-//!   NAME=VALUE`: a field of the first block begins so. `without 1 NAME`: no field of this name came. `single 1`: one header block came, and no DATA.
-//! - `same 1 3`: both ended with the same `:status` and the same status of gRPC.
+//! - `replies 1 4`: 4 whole messages came on stream 1. `reply 1 0801`: the last one is this.
+//!   `has 1 0801`: it has these bytes in it.
+//! - `head 1 NAME=VALUE`, `trailer 1 NAME=VALUE`: such a field came in the first, the last header
+//!   block. `begins 1 NAME=VALUE`: a field of the first block begins so. `without 1 NAME`: no field
+//!   of this name came. `single 1`: one header block came, and no DATA.
+//! - `same 1 3`: both ended with one `:status` and one status of gRPC.
 //! - `block 1 20`: the first header block on it begins with these bytes.
 //! - `ping 0102..`: PING with ACK and these bytes came. `silent 0102..`: none did.
-//! - `acks 2`: so many SETTINGS were acknowledged. `first`: the server's first frame is SETTINGS. `settings`: all its SETTINGS
-//!   are lawful.
-//! - `orderly`: no DATA or HEADERS came on a stream behind the server's own END_STREAM or RST_STREAM.
-//! - `ignored`: the last PING was answered, and nothing was an error. `text`: what came are no frames, but text of HTTP/1.
+//! - `acks 2`: 2 SETTINGS were acknowledged. `first`: the server's first frame is SETTINGS.
+//!   `settings`: all its SETTINGS are lawful.
+//! - `orderly`: no DATA or HEADERS came on a stream after the server's own END_STREAM or
+//!   RST_STREAM.
+//! - `ignored`: the last PING was answered, and nothing was an error. `text`: what came are no
+//!   frames, but text of HTTP/1.
 //! - `crowded 1 7`: some stream was reset with such an error.
 
 use crate::content::{Reading, read_content};
@@ -146,7 +153,7 @@ pub fn read_lawful(
     Ok(Lawful { all })
 }
 
-/// The first word of a text, and what stands behind the blank.
+/// The first word of a text, and what follows the blank.
 pub fn first_word(text: &'static str) -> (&'static str, &'static str) {
     match text.split_once(' ') {
         Some((word, rest)) => (word, rest.trim()),
@@ -183,7 +190,7 @@ pub fn read_reaction(
     }
 }
 
-/// Reads a reaction on a stream: its word, and what stands behind the stream.
+/// Reads a reaction on a stream: its word, and what follows the stream.
 fn read_on_stream(
     alloc: Global,
     word: &'static str,
@@ -285,7 +292,8 @@ fn read_codes(alloc: Global, text: &str) -> Result<Codes, WireFault> {
 }
 
 impl Reaction {
-    /// Whether it is of a call's answer, which may come some time after the server has read the call.
+    /// Whether it is of a call's answer, which may come some time after the server has read the
+    /// call.
     pub fn is_of_answer(&self) -> bool {
         match self {
             Reaction::Connection(_)

@@ -21,8 +21,8 @@ pub fn push_entry(text: &mut String, case: &Case) -> Result<(), AllocError> {
     writeln!(text, "{group}/{number} {title} ({level}; {section})")
 }
 
-/// The lines that are printed of a case that was run, and one more where the server answers no more. Where `is_verbose`, they
-/// tell its section, what was written and what was read too.
+/// The lines that are printed of a case that was run, and one more if the server answers no more.
+/// If `is_verbose`, they also have its section, what was written and what was read.
 pub fn text_of(alloc: Global, ended: &Ended, is_verbose: bool) -> Result<String, AllocError> {
     let mut text = String::new(alloc);
     push_line(&mut text, &ended.outcome)?;
@@ -106,7 +106,8 @@ fn push_rule(text: &mut String, outcome: &Outcome) -> Result<(), AllocError> {
     }
 }
 
-/// Adds what `--verbose` says of a case: its section, what came, what was written and which frames were read.
+/// Adds what `--verbose` says of a case: its section, what came, what was written and which frames
+/// were read.
 fn push_details(text: &mut String, ended: &Ended) -> Result<(), AllocError> {
     let Ended { case, outcome, .. } = ended;
     let rule = case.section;
@@ -143,7 +144,8 @@ fn push_sent(text: &mut String, sent: &[u8]) -> Result<(), AllocError> {
     text.push_str("\n")
 }
 
-/// Adds a frame that was read: its type, its stream, its flags, its length, and its error if it says one.
+/// Adds a frame that was read: its type, its stream, its flags, its length, and its error if it
+/// says one.
 pub fn push_frame_line(text: &mut String, frame: &SeenFrame) -> Result<(), AllocError> {
     let head = frame.head;
     match head.kind {

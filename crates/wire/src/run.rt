@@ -1,4 +1,5 @@
-//! A case: first without its fault, where its lines say so, and then as it stands. Where that fails it is tried twice again.
+//! A case: first without its fault, if its lines say so, and then as it is. If that fails it is
+//! tried twice more.
 
 use crate::case::Case;
 use crate::engine::{Judgment, Try, Unfit, try_case};
@@ -13,7 +14,8 @@ use crate::verdict::verdict_of;
 use results::{Level, Outcome, Verdict};
 use std::alloc::{AllocError, Global};
 
-/// How often a case is tried that fails: what is of this project's profile alone accuses nobody, and is tried once.
+/// How often a case is tried that fails: what is of this project's profile alone accuses nobody,
+/// and is tried once.
 fn tries_of(level: Level) -> usize {
     match level {
         Level::Must | Level::Should => 3,
@@ -25,7 +27,7 @@ fn tries_of(level: Level) -> usize {
 ///
 /// # Errors
 ///
-/// `NoConnection` where there is none for one of its tries: then there is no verdict.
+/// `NoConnection` if there is none for one of its tries: then there is no verdict.
 pub fn run_case<V: Server>(
     alloc: Global,
     case: Case,
@@ -52,7 +54,8 @@ fn spent<V: Server>(server: &V, begun: u64) -> Result<u64, WireFault> {
     Ok(now.saturating_sub(begun))
 }
 
-/// Tries a case without its fault, if its lines say so, and answers what came of it where that fails already.
+/// Tries a case without its fault, if its lines say so, and answers what came of it where that
+/// fails already.
 fn unfit_of_control<V: Server>(
     alloc: Global,
     case: Case,
@@ -74,8 +77,9 @@ fn unfit_of_control<V: Server>(
     }
 }
 
-/// Tries a case: once where it passes, and as often as its level asks for where it fails, in the time of the case, which began then. A
-/// further try that the end of that time cut short counts for nothing.
+/// Tries a case: once where it passes, and as often as its level asks for where it fails, in the
+/// time of the case, which began then. A further try that the end of that time cut short counts for
+/// nothing.
 fn find<V: Server>(
     alloc: Global,
     case: Case,
@@ -113,8 +117,8 @@ fn find<V: Server>(
     }
 }
 
-/// A try of a case whose time began then: over one connection, or over as many as its lines say, up to the first over which it doesn't
-/// pass.
+/// A try of a case whose time began at that moment: over one connection, or over as many as its
+/// lines say, up to the first over which it doesn't pass.
 fn try_rounds<V: Server>(
     alloc: Global,
     case: Case,
@@ -133,7 +137,7 @@ fn try_rounds<V: Server>(
     try_case(alloc, case, left, server, false)
 }
 
-/// Whether the try that is told of failed.
+/// Whether the try that is reported failed.
 fn has_failed(first: &Option<Try>) -> bool {
     match first {
         Some(tried) => tried.judgment == Judgment::Failed,
@@ -141,7 +145,7 @@ fn has_failed(first: &Option<Try>) -> bool {
     }
 }
 
-/// What came of tries, of which this one is told of.
+/// The outcome of tries, of which this one is reported.
 fn tried_outcome(
     alloc: Global,
     case: Case,
@@ -215,7 +219,8 @@ fn frames_of(alloc: Global, frames: &[SeenFrame]) -> Result<Vec<String>, AllocEr
     Ok(lines)
 }
 
-/// Whether the server greets a connection on which nothing else is said. A slow one has the whole time of a connection for it.
+/// Whether the server greets a connection on which nothing else is said. A slow one has the whole
+/// time of a connection for it.
 fn is_alive<V: Server>(alloc: Global, pace: Pace, server: &V) -> Result<bool, WireFault> {
     let socket = match server.connect() {
         Ok(socket) => socket,

@@ -15,13 +15,13 @@ use session::Parameter;
 use std::alloc::{AllocError, Global};
 use std::collections::BTreeMap;
 
-/// Frames of the server that are kept for whoever checks a case.
+/// How many frames of the server are kept for a reader of the report.
 const KEPT_FRAMES: usize = 64;
 
 /// PINGs whose acknowledgements are kept.
 const KEPT_PINGS: usize = 1_000;
 
-/// Streams whose reactions are told of a case that failed.
+/// Of how many streams the report of a case that failed has the reactions.
 const TOLD: usize = 4;
 
 /// A frame that came.
@@ -58,7 +58,8 @@ pub struct Seen {
     pub synced: bool,
     /// Whether the time of the connection was up while the server still sent.
     pub endless: bool,
-    /// Whether DATA or HEADERS came on a stream behind the server's own end of it, and the last that did.
+    /// Whether DATA or HEADERS came on a stream after the server's own end of it, and the last that
+    /// did.
     pub late: bool,
     pub late_frame: Option<FrameHead>,
     /// Whether text of HTTP/1 came in place of frames.
@@ -68,7 +69,14 @@ pub struct Seen {
 }
 
 impl Seen {
-    ghost use Rattle.wire.specs.Reactions.{IsLawful, IsUnlawful, Judges, has_ended, was_reset, was_shut};
+    ghost use Rattle.wire.specs.Reactions.{
+      IsLawful,
+      IsUnlawful,
+      Judges,
+      has_ended,
+      was_reset,
+      was_shut,
+    };
 
     pub fn new(alloc: Global) -> Seen {
         Seen {
@@ -113,7 +121,7 @@ impl Seen {
         self.announced.take(parameter);
     }
 
-    /// Keeps a frame that came, for whoever checks the case.
+    /// Keeps a frame that came, for a reader of the report.
     pub fn keep(&mut self, head: FrameHead, code: Option<u32>) -> Result<(), AllocError> {
         if self.frames.len() < KEPT_FRAMES {
             self.frames.push(SeenFrame { head, code })?;
@@ -294,7 +302,8 @@ impl Seen {
         Ok(false)
     }
 
-    /// Whether all of a way to pass may still come true. Where the server did what no server may, none does.
+    /// Whether all of a way to pass may still come true. Where the server did what no server may,
+    /// none does.
     fn may_hold(&self, lawful: &Lawful) -> Result<bool, WireFault> {
         if self.wrong.is_some() {
             return Ok(false);
@@ -372,7 +381,7 @@ impl Seen {
         }
     }
 
-    /// Whether two streams ended with the same statuses.
+    /// Whether two streams ended with equal statuses.
     fn are_same(&self, stream: u32, other: u32) -> Result<bool, WireFault> {
         let Some(one) = self.streams.get(&stream) else {
             return Ok(false);
@@ -474,7 +483,7 @@ impl Seen {
     }
 }
 
-/// Adds a part of what is told, behind a comma where it isn't the first.
+/// Adds a part of the report, after a comma if it isn't the first.
 fn push_part(text: &mut String, start: usize, part: &str) -> Result<(), AllocError> {
     if text.len() != start {
         text.push_str(", ")?;

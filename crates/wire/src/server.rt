@@ -19,24 +19,25 @@ pub trait Server {
     /// On this connection the server did not do what a case wants: what was wanted, and what came.
     fn fault(&self, line: &Self::Line, text: &str);
 
-    /// How many milliseconds have passed since a moment that stays the same, where the clock can be read.
+    /// How many milliseconds have passed since a fixed moment, if the clock can be read.
     fn now(&self) -> Option<u64>;
 }
 
 /// How long a server is waited for.
 #[derive(Clone, Copy, Debug, PartialEq, Eq)]
 pub struct Pace {
-    /// So many milliseconds in which nothing comes are silence.
+    /// After how many milliseconds in which nothing comes it is silent.
     pub silence: u64,
     /// No connection lasts longer, in milliseconds.
     pub limit: u64,
 }
 
-/// So long as this part of the silence a server is waited for once it has read all that was written.
+/// So long as this part of the silence a server is waited for once it has read all that was
+/// written.
 const MOMENT: u64 = 10;
 
 impl Pace {
-    /// The pace of a connection that is made when so many milliseconds of a case's time have passed.
+    /// The pace of a connection that is made after `spent` milliseconds of a case's time.
     pub fn after(self, spent: u64) -> Pace {
         Pace {
             silence: self.silence,
@@ -44,7 +45,8 @@ impl Pace {
         }
     }
 
-    /// How many milliseconds are enough for what a server does by itself once it has read all that was written.
+    /// How many milliseconds are enough for what a server does by itself once it has read all that
+    /// was written.
     pub fn moment(self) -> u64 {
         self.silence / MOMENT
     }

@@ -1,38 +1,44 @@
 //! The steps of a case, as the rows have them.
 //!
-//! A line is a step. Most write a frame: its type, its stream, its flags as two hexadecimal digits, and its content (`content`):
-//! `data 1 01 00 00000000`. The flags are those of RFC 9113, section 6: 01 END_STREAM or ACK, 04 END_HEADERS, 08 PADDED, 20
-//! PRIORITY. The others:
+//! A line is a step. Most write a frame: its type, its stream, its flags as two hexadecimal digits,
+//! and its content (`content`): `data 1 01 00 00000000`. The flags are those of RFC 9113, section
+//! 6: 01 END_STREAM or ACK, 04 END_HEADERS, 08 PADDED, 20 PRIORITY. The others:
 //!
 //! - `bare`, first: the preface and SETTINGS are the case's own; nothing is written for it.
-//! - `raw BYTES`: these bytes. `drip BYTES`: each by a write of its own. `preface`: the 24 bytes of the preface.
-//! - `request S`: a call of EmptyCall. `fetch S`: a call of UnaryCall for a reply with a body of 100,000 bytes.
-//! - `upload S N`: N zero bytes as DATA, as the server's windows let them through. `padded S N`: each in a frame with 255 bytes of
-//!   padding.
-//! - `await REACTION`: waits for it (`reaction`). `sync`: a PING, and waits for its acknowledgement.
+//! - `raw BYTES`: these bytes. `drip BYTES`: each by a write of its own. `preface`: the 24 bytes of
+//!   the preface.
+//! - `request S`: a call of EmptyCall. `fetch S`: a call of UnaryCall for a reply with a body of
+//!   100,000 bytes.
+//! - `upload S N`: N zero bytes as DATA, as the server's windows let them through. `padded S N`:
+//!   each in a frame with 255 bytes of padding.
+//! - `await REACTION`: waits for it (`reaction`). `sync`: a PING, and waits for its
+//!   acknowledgement.
 //! - `quiet`: a PING, and waits a moment after its acknowledgement, whatever comes.
 //! - `crowd METHOD`: opens one call of the method more than the server's SETTINGS allow.
-//! - `many N METHOD`: opens so many calls, none of them ended; fields may stand after METHOD. `several N METHOD`: the same, of calls
-//!   so few and short that other cases go on beside them. `cancel N`: RST_STREAM with CANCEL on each of the first N streams.
-//!   A case with `crowd` or `many` is run while no other is, since a server may have no thread left for their calls.
+//! - `many N METHOD`: opens N calls, none of them ended; fields may come after METHOD.
+//!   `several N METHOD`: opens N calls too, so few and short that other cases go on beside them.
+//!   `cancel N`: RST_STREAM with CANCEL on each of the first N streams. A case with `crowd` or
+//!   `many` is run while no other is, since a server may have no thread left for their calls.
 //!
 //! What a case rests on stands first:
 //!
-//! - `rounds N`: a try goes over so many connections, one after another, and fails at the first over which the case does. It is for
-//!   what a server does only at times.
-//! - `needs NAME at least N`, `needs NAME at most N`: where the server's setting of this name (`announced`) isn't so, the case is not
-//!   applicable. A setting that wasn't announced has its first value; where it has none, it is at least any number, and at most none.
-//! - `control REACTION and REACTION ..`: the case is first tried without its fault, over a connection of its own: lines and words that
-//!   begin with `!` are left out (`content`), and those that begin with `~` stand there alone. Where these reactions don't all come
-//!   then, the case is not applicable. So a case of a malformed head is
+//! - `rounds N`: a try goes over N connections, one after another, and fails at the first over
+//!   which the case does. It is for what a server does only sometimes.
+//! - `needs NAME at least N`, `needs NAME at most N`: if the server's setting of this name
+//!   (`announced`) isn't so, the case is not applicable. A setting that wasn't announced has its
+//!   initial value; without one it counts as at least any number, and as at most none.
+//! - `control REACTION and REACTION ..`: the case is first tried without its fault, over a
+//!   connection of its own: lines and words that begin with `!` are left out (`content`), and those
+//!   that begin with `~` stand there alone. Where these reactions don't all come then, the case is
+//!   not applicable. So a case of a malformed head is
 //!
 //!       control answered 1
 //!       headers 1 04 call:EmptyCall !X-a=b
 //!       data 1 01 0000000000
 //!       want stream 1 1
 //!
-//! DATA is written once the server's windows have room for it. Where they have none, the case is not applicable. All that is written
-//! between two waits leaves in one write.
+//! DATA is written once the server's windows have room for it. Where they have none, the case is
+//! not applicable. All that is written between two waits leaves in one write.
 
 use crate::announced::Need;
 use crate::content::{Reading, read_content};

@@ -9,7 +9,7 @@ use std::alloc::{AllocError, Global};
 /// More messages than any case asks for at once.
 const TOO_MANY: usize = 100_000;
 
-/// The least `:status` that tells of an error (RFC 9110, section 15.5).
+/// The least `:status` that means an error (RFC 9110, section 15.5).
 const LEAST_ERROR: u32 = 400;
 
 /// What came on a stream.
@@ -79,7 +79,8 @@ impl StreamSeen {
         Ok(())
     }
 
-    /// Takes a header block and its fields. Interim responses are passed over (RFC 9113, section 8.1).
+    /// Takes a header block and its fields. Interim responses are passed over (RFC 9113, section
+    /// 8.1).
     pub fn block(&mut self, block: &[u8], fields: Vec<Field>, last: bool) -> Result<(), WireFault> {
         if !last && is_interim(fields.as_slice()) {
             return Ok(());
@@ -119,7 +120,7 @@ impl StreamSeen {
         }
     }
 
-    /// Whether its response tells of an error: by a status or an `:status`.
+    /// Whether its response means an error: by a status or a `:status`.
     pub fn is_rejected(&self) -> Result<bool, AllocError> {
         match self.http_status() {
             Some(status) if status >= LEAST_ERROR => return Ok(true),

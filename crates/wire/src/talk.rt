@@ -1,7 +1,8 @@
-//! A connection to the server under test: what is written to it as it stands, and what comes back, frame by frame.
+//! A connection to the server under test: what is written to it as it stands, and what comes back,
+//! frame by frame.
 //!
-//! SETTINGS and PINGs of the server are acknowledged as they come. No credit is given but what the case writes. What is said waits
-//! until something is waited for, and leaves in one write then.
+//! SETTINGS and PINGs of the server are acknowledged as they come. No credit is given but what the
+//! case writes. What is said waits until something is waited for, and leaves in one write then.
 
 ghost use Rattle.std.specs.Prelude.{◌≡◌, ◌<◌};
 ghost use Rattle.h2frame.specs.declared.kind.FrameKind.TheVariants.{Headers};
@@ -27,7 +28,7 @@ use std::io::{ErrorKind, Read, Write};
 use std::net::OpenStream;
 use std::time::Duration;
 
-/// More frames than a server sends that comes to an end.
+/// More frames than a server sends that ever ends.
 pub const MANY_FRAMES: usize = 1_000_000;
 
 /// More reads than a frame comes in.
@@ -49,7 +50,7 @@ pub enum Heard {
     Closed,
 }
 
-/// What stands next in what was read.
+/// What comes next in what was read.
 #[derive(Drop)]
 enum Next {
     Frame(Frame),
@@ -60,9 +61,9 @@ enum Next {
 /// What is known of how far the server has read.
 #[derive(Clone, Copy, Debug, PartialEq, Eq)]
 enum Fence {
-    /// Something was said that no PING stands behind.
+    /// Something was said after which no PING was sent.
     Open,
-    /// A PING stands behind all that was said.
+    /// A PING was sent after all that was said.
     Asked,
     /// It was answered, at this time: the server has read all that was said.
     Passed(u64),
@@ -79,7 +80,7 @@ pub struct Talk<'a, V: Server> {
     reader: FrameReader,
     decoder: Decoder,
     pub seen: Seen,
-    /// All that was said, of which so many bytes were written.
+    /// All that was to be sent. `written` is how many of its bytes were written.
     pub sent: Vec<u8>,
     written: usize,
     /// Whether a write failed: nothing more is written, though something may still come.
@@ -93,7 +94,7 @@ pub struct Talk<'a, V: Server> {
     in_block: bool,
     /// Whether a wait for a reaction ended in silence, and nothing was said or came since.
     pub was_silent: bool,
-    /// Whether a header block told the size of the server's table.
+    /// Whether a header block set the size of the server's table.
     pub has_told_table: bool,
     /// How many bytes of DATA were said, on all streams and on each.
     spent: u64,
@@ -141,8 +142,8 @@ impl<'a, V: Server> Talk<'a, V> {
         Ok(self.now()?.saturating_add(self.pace.silence))
     }
 
-    /// When a server that has read all has done what it does by itself, or when the time of silence is over where it hasn't. The wait
-    /// began at this time.
+    /// When a server that has read all has done what it does by itself, or when the time of silence
+    /// is over where it hasn't. The wait began at this time.
     pub fn moment(&self, begun: u64) -> Result<u64, WireFault> {
         match self.fence {
             Fence::Passed(at) => Ok(at.max(begun).saturating_add(self.pace.moment())),
@@ -155,7 +156,7 @@ impl<'a, V: Server> Talk<'a, V> {
         matches!(self.fence, Fence::Passed(_))
     }
 
-    /// Tells whoever looks at the connection that none of the lawful reactions came.
+    /// Has the recording of the connection say that none of the lawful reactions came.
     pub fn tell_fault(&self, lawful: &[Lawful]) -> Result<(), AllocError> {
         let mut text = String::new(self.alloc);
         push_difference(&mut text, lawful, &self.seen)?;
@@ -200,7 +201,8 @@ impl<'a, V: Server> Talk<'a, V> {
         push_frame(&mut self.sent, kind, flags, stream, payload)
     }
 
-    /// Asks by a PING whether all was read, if it isn't known. Inside a header block nothing is asked: a PING there is an error.
+    /// Asks by a PING whether all was read, if it isn't known. Inside a header block nothing is
+    /// asked: a PING there is an error.
     pub fn ask(&mut self) -> Result<(), WireFault> {
         if self.fence != Fence::Open || self.in_block {
             return Ok(());
@@ -212,7 +214,8 @@ impl<'a, V: Server> Talk<'a, V> {
         Ok(())
     }
 
-    /// How many bytes of DATA the server's windows have room for on a stream (RFC 9113, section 6.9.1).
+    /// How many bytes of DATA the server's windows have room for on a stream (RFC 9113, section
+    /// 6.9.1).
     pub fn room(&self, stream: u32) -> u64 {
         let granted = match self.seen.streams.get(&stream) {
             Some(seen) => seen.credit,
@@ -276,7 +279,7 @@ impl<'a, V: Server> Talk<'a, V> {
         }
     }
 
-    /// The next frame. Bytes that are none end the connection.
+    /// The next frame. Bytes that aren't a frame end the connection.
     fn next(&mut self, until: u64) -> Result<Next, WireFault> {
         if self.seen.closed {
             return Ok(Next::Closed);
@@ -312,7 +315,7 @@ impl<'a, V: Server> Talk<'a, V> {
         if patience == 0 {
             return Ok(Heard::Silence);
         }
-        // A connection on which no time can be set is broken, and a read tells of that.
+        // A connection on which no time can be set is broken, and a read reports that.
         let _set = self
             .socket
             .set_read_timeout(Some(Duration::from_millis(patience)));

@@ -5,7 +5,7 @@ ghost use Rattle.wire.specs.Verdicts.{verdict_of};
 
 use results::Verdict;
 
-/// The verdict on a case of which so many tries passed.
+/// The verdict on a case, by how many of its tries passed.
 pub fn verdict_of(tries: usize, passed: usize) -> Verdict
     ensures { result ≡ verdict_of tries passed }
 {

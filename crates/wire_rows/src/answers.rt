@@ -1,6 +1,7 @@
-//! The fields that answer a call (gRPC over HTTP/2, "Responses"): `answers.rows`. A row gives `begin ECHOES`, the echoes for
-//! the head of the response; `end CODE ; TEXT ; ECHOES`, a status and the echoes for the trailers; `only CODE ; TEXT`, a status
-//! alone; `unknown method`; or `refuse FAULT`. Behind each echo stands `|`. The answer is the fields, or `none`.
+//! The fields that answer a call (gRPC over HTTP/2, "Responses"): `answers.rows`. A row gives
+//! `begin ECHOES`, the echoes for the head of the response; `end CODE ; TEXT ; ECHOES`, a status
+//! and the echoes for the trailers; `only CODE ; TEXT`, a status alone; `unknown method`; or
+//! `refuse FAULT`. After each echo stands `|`. The answer is the fields, or `none`.
 
 use crate::names::{HEAD_FAULTS, called};
 use crate::text::{bytes_of, push_fields};
@@ -53,7 +54,7 @@ fn only(alloc: Global, said: &str) -> Result<Vec<Field>> {
     Ok(trailers_only(alloc, number(code.trim())?, text.as_str())?)
 }
 
-/// The values behind each of which `|` stands.
+/// The values after each of which `|` stands.
 pub fn values_of(alloc: Global, text: &str) -> Result<Vec<Octets>> {
     let mut values = Vec::new(alloc);
     if let Some(text) = text.strip_suffix('|') {

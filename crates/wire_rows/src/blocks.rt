@@ -1,5 +1,6 @@
-//! Header blocks (RFC 7541): `blocks-standard.rows`, `blocks-clients.rows` and `blocks-limits.rows` for those that are read,
-//! `blocks-refused.rows` for those that aren't, `blocks-written.rows` for those that are written.
+//! Header blocks (RFC 7541): `blocks-standard.rows`, `blocks-clients.rows` and `blocks-limits.rows`
+//! for those that are read, `blocks-refused.rows` for those that aren't, `blocks-written.rows` for
+//! those that are written.
 
 use crate::text::{fields_of, push_bytes, push_fields};
 use anyhow::{Context, Result, bail, ensure};
@@ -10,7 +11,8 @@ use std::alloc::Global;
 /// `:method: GET` by its index, a block that each decoder reads.
 const LAWFUL_BLOCK: [u8; 1] = [0x82];
 
-/// The first byte of an indexed field, and the indexes of entries that stand in it alone (RFC 7541, section 6.1).
+/// The first byte of an indexed field, and the indexes of entries that stand in it alone (RFC 7541,
+/// section 6.1).
 const INDEXED: u8 = 0x80;
 
 const FIRST_ENTRY: u8 = 62;
@@ -49,7 +51,8 @@ fn push_read(
     Ok(())
 }
 
-/// The size of the table behind blocks: the sum over the entries that a decoder of the same blocks gives.
+/// The size of the table after blocks: the sum over the entries that a decoder of these blocks
+/// gives.
 fn table_size(alloc: Global, blocks: &[Vec<u8>]) -> Result<usize> {
     let mut decoder = Decoder::new(alloc);
     for block in blocks {
@@ -71,7 +74,8 @@ fn table_size(alloc: Global, blocks: &[Vec<u8>]) -> Result<usize> {
     bail!("the table has more entries than one byte can name")
 }
 
-/// A connection's next block, and its fields or its fault; or `table`, and the size of the dynamic table.
+/// A connection's next block, and its fields or its fault; or `table`, and the size of the dynamic
+/// table.
 pub fn read(
     alloc: Global,
     decoder: &mut Decoder,
@@ -89,7 +93,7 @@ pub fn read(
     Ok(())
 }
 
-/// A block on a decoder of its own, which has to be dead behind its fault.
+/// A block on a decoder of its own, which has to be dead after its fault.
 pub fn refused(alloc: Global, given: Given<'_>, answer: &mut String) -> Result<()> {
     let mut decoder = Decoder::new(alloc);
     let block = block_of(alloc, given.words)?;
@@ -99,7 +103,8 @@ pub fn refused(alloc: Global, given: Given<'_>, answer: &mut String) -> Result<(
     Ok(())
 }
 
-/// Fields, and their block, which the peer has to read as those fields; or `limit N`, the size of the peer's table.
+/// Fields, and their block, which the peer has to read as those fields; or `limit N`, the size of
+/// the peer's table.
 pub fn written(
     alloc: Global,
     encoder: &mut Encoder,

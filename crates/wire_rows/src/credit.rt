@@ -1,4 +1,5 @@
-//! Histories of the windows of what is sent, `windows.rows`, and of a credit book, `books.rows`: a call, and its answer.
+//! Histories of the windows of what is sent, `windows.rows`, and of a credit book, `books.rows`: a
+//! call, and its answer.
 
 use anyhow::{Result, bail, ensure};
 use flow::{Book, BookFault, Marks, SendWindows};

@@ -8,7 +8,8 @@ use std::alloc::Global;
 /// Of bytes that have no frame and no fault.
 const NOTHING: &str = "nothing";
 
-/// Adds what a reader answers: a frame's type, flags, stream, payload's length and content, or a fault.
+/// Adds what a reader answers: a frame's type, flags, stream, payload's length and content, or a
+/// fault.
 fn push_answer(alloc: Global, text: &mut String, answer: &Result<Frame, FrameFault>) -> Result<()> {
     if !text.is_empty() {
         text.push_str("; ")?;
@@ -33,7 +34,8 @@ fn push_answer(alloc: Global, text: &mut String, answer: &Result<Frame, FrameFau
     Ok(())
 }
 
-/// Feeds a piece, and adds what is answered to it, up to the last fault, behind which a reader reads no more.
+/// Feeds a piece, and adds what is answered to it, up to the last fault, after which a reader reads
+/// no more.
 fn take(
     alloc: Global,
     reader: &mut FrameReader,
@@ -56,7 +58,7 @@ fn take(
     Ok(None)
 }
 
-/// Takes the next piece. Behind the last fault none is taken, and that fault is answered again.
+/// Takes the next piece. After the last fault none is taken, and that fault is answered again.
 fn take_next(
     alloc: Global,
     reader: &mut FrameReader,
@@ -79,7 +81,8 @@ fn take_next(
     Ok(last)
 }
 
-/// What is answered to bytes that come in two parts, the first of them in pieces of a size, and then to no bytes.
+/// What is answered to bytes that come in two parts, the first of them in pieces of a size, and
+/// then to no bytes.
 fn answers(alloc: Global, bytes: &[u8], cut: usize, size: usize) -> Result<String> {
     let mut reader = FrameReader::new(alloc);
     let mut text = String::new(alloc);
@@ -101,7 +104,8 @@ fn is_answered(alloc: Global, bytes: &[u8], cut: usize, size: usize, wanted: &st
     Ok(answers(alloc, bytes, cut, size)?.as_str() == wanted)
 }
 
-/// Bytes, and their frames and faults, which have to be the same in every two parts and in pieces of every size.
+/// Bytes, and their frames and faults, which have to be equal for every two parts and for pieces of
+/// every size.
 pub fn whole(alloc: Global, given: &str, answer: &mut String) -> Result<()> {
     let bytes = bytes_of(alloc, given)?;
     let (bytes, len) = (bytes.as_slice(), bytes.len());
@@ -130,7 +134,8 @@ fn add_news(alloc: Global, bytes: &[u8], answer: &mut String) -> Result<()> {
     Ok(())
 }
 
-/// Bytes, and how many of them must be there until a fault is answered, and which. They come a byte at a time.
+/// Bytes, and how many of them must be there until a fault is answered, and which. They come a byte
+/// at a time.
 pub fn first_bytes(alloc: Global, given: &str, answer: &mut String) -> Result<()> {
     let bytes = bytes_of(alloc, given)?;
     for len in 0..=bytes.len() {

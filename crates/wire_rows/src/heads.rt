@@ -1,4 +1,5 @@
-//! Heads of calls (gRPC over HTTP/2, "Requests"): `heads-clients.rows`, `heads-malformed.rows`, `heads-read.rows`.
+//! Heads of calls (gRPC over HTTP/2, "Requests"): `heads-clients.rows`, `heads-malformed.rows`,
+//! `heads-read.rows`.
 
 use crate::text::{fields_of, push_bytes};
 use anyhow::Result;
@@ -7,7 +8,8 @@ use lists::Field;
 use rows::Given;
 use std::alloc::Global;
 
-/// Fields, and what the head of a call says that they are; or `plain = FIELDS`, which sets what a part `plain` stands for.
+/// Fields, and what the head of a call says that they are; or `plain = FIELDS`, which sets what a
+/// part `plain` stands for.
 pub fn read(
     alloc: Global,
     plain: &mut Vec<Field>,
@@ -32,8 +34,9 @@ pub fn read(
     Ok(())
 }
 
-/// The path, and where the head has them the timeout in nanoseconds, `compressed`, the echoes for the head of the response,
-/// and those for the trailers in hexadecimal digits, with `|` behind each echo.
+/// The path, and where the head has them the timeout in nanoseconds, `compressed`, the echoes for
+/// the head of the response, and those for the trailers in hexadecimal digits, with `|` after each
+/// echo.
 fn push_head(alloc: Global, said: &mut Vec<u8>, head: &CallHead) -> Result<()> {
     said.extend_from_slice(b"path ")?;
     said.extend_from_slice(head.path.as_slice())?;

@@ -1,5 +1,6 @@
-//! Each type of frame with payloads of the least and the greatest length: `kinds.rows` for those that are read, and
-//! written again, and `refused.rows` for those that aren't written. In `lengths.rows` each length is read.
+//! Each type of frame with payloads of the least and the greatest length: `kinds.rows` for those
+//! that are read, and written again, and `refused.rows` for those that aren't written. In
+//! `lengths.rows` each length is read.
 
 use anyhow::{Context, Result, bail, ensure};
 use bytes::Bytes;
@@ -13,7 +14,7 @@ const MOST_BEFORE: usize = 6;
 /// The sizes of the pieces that a frame is read in.
 const SIZES: [usize; 7] = [1, 2, 3, 9, 10, 1_000, 20_000];
 
-/// What stands where a frame is written behind it.
+/// The bytes after which a frame is written.
 const KEPT: &[u8] = b"kept";
 
 /// The head of which a row says the type's code, the flags, the stream and the length.
@@ -31,7 +32,8 @@ fn head_of(words: &[&str]) -> Result<FrameHead> {
     })
 }
 
-/// A payload's first byte, which a row's last word says, and then bytes that are their place, modulo 251.
+/// A payload's first byte, which a row's last word says, and then bytes that are their place,
+/// modulo 251.
 fn payload_of(alloc: Global, words: &[&str], len: u32) -> Result<Vec<u8>> {
     let first = words.last().context("no words")?.parse::<u8>()?;
     let mut payload = Vec::new(alloc);
@@ -54,7 +56,8 @@ fn spelled(alloc: Global, head: &FrameHead, payload: &[u8]) -> Result<Vec<u8>> {
     Ok(bytes)
 }
 
-/// The frame that is read of bytes in pieces of a size, which has to come with the last piece and not before.
+/// The frame that is read of bytes in pieces of a size, which has to come with the last piece and
+/// not before.
 fn next_frame(reader: &mut FrameReader, bytes: &[u8], size: usize) -> Result<Frame> {
     for piece in bytes.chunks(size.max(1)) {
         ensure!(reader.next().is_none(), "there is an answer too early");
@@ -106,7 +109,7 @@ fn write(
     Ok(write_frame(&frame, out).err())
 }
 
-/// Writes the frame behind what stands there, which stays: as these bytes, or nothing, for a fault.
+/// Writes the frame after what stands there, which stays: as these bytes, or nothing, for a fault.
 fn write_behind(
     alloc: Global,
     head: &FrameHead,
@@ -130,8 +133,8 @@ fn try_sizes(alloc: Global, bytes: &[u8], whole: &Frame) -> Result<()> {
     Ok(())
 }
 
-/// A frame, and its type with the place of its content, in whatever pieces it comes. One without padding and priority is
-/// written, too, as the same bytes.
+/// A frame, and its type with the place of its content, in whatever pieces it comes. A frame
+/// without padding and priority is also written, and has to give these bytes.
 pub fn kinds(alloc: Global, words: &[&str], answer: &mut String) -> Result<()> {
     let head = head_of(words)?;
     let payload = payload_of(alloc, words, head.length)?;

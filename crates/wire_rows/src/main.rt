@@ -1,15 +1,16 @@
-//! Worked rows for the wire: bytes and the frames that they are, frames and the verdicts on them, histories of windows
-//! and credit books, header blocks and heads of calls, each with the answer that RFC 9113, RFC 7541 and gRPC over HTTP/2
-//! demand of it.
+//! Worked rows for the wire: bytes and the frames that they are, frames and the verdicts on them,
+//! histories of windows and credit books, header blocks and heads of calls, each with the answer
+//! that RFC 9113, RFC 7541 and gRPC over HTTP/2 demand of it.
 //!
-//! The rows lie in `data/`, a line each: what is given, an arrow, and what is wanted. The head of each file says what
-//! its words mean and where its values come from; of the files of header blocks and heads, `data/README.md` does. The
-//! program tries all of them, prints each row whose answer is another, and counts the rows of each file; it fails where
-//! one differs.
+//! The rows are in `data/`, a line each: what is given, an arrow, and what is wanted. The head of
+//! each file says what its words mean and where its values come from; for the files of header
+//! blocks and heads `data/README.md` does. The program tries all of them, prints each row whose
+//! answer is another, and counts the rows of each file; it fails where one differs.
 //!
-//! It promises nothing of itself: a function reads a row and calls what it tries. `topics` says which one answers the
-//! rows of a file. `frames`, `kinds` and `names` try `h2frame`; `verdicts` and `credit` try `flow`; `blocks`
-//! tries `hpack_codec`, and `heads`, `answers` and `values` try `callhead`, with bytes and fields as `text` reads them.
+//! It promises nothing of itself: a function reads a row and calls what it tries. `topics` says
+//! which one answers the rows of a file. `frames`, `kinds` and `names` try `h2frame`; `verdicts`
+//! and `credit` try `flow`; `blocks` tries `hpack_codec`, and `heads`, `answers` and `values` try
+//! `callhead`, with bytes and fields as `text` reads them.
 #![tactic(auto)]
 
 use anyhow::{Result, ensure};

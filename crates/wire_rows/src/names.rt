@@ -1,5 +1,5 @@
-//! The numbers of the wire format and of faults, and what the crates call them: `names.rows`; `fault-texts.rows` for the
-//! faults of header blocks and heads.
+//! The numbers of the wire format and of faults, and what the crates call them: `names.rows`;
+//! `fault-texts.rows` for the faults of header blocks and heads.
 
 use anyhow::{Context, Result, bail, ensure};
 use callhead::HeadFault;
@@ -68,7 +68,8 @@ pub fn called<F: Copy + Debug>(alloc: Global, faults: &[F], name: &str) -> Resul
     bail!("no such fault is called {name}")
 }
 
-/// What an error code, a parameter of SETTINGS or a type of frame is called, whose number has to be this one.
+/// What an error code, a parameter of SETTINGS or a type of frame is called, whose number has to be
+/// this one.
 fn push_name(answer: &mut String, what: &str, code: u32) -> Result<()> {
     let number = match what {
         "error" => {
@@ -163,7 +164,7 @@ pub fn answer(alloc: Global, words: &[&str], answer: &mut String) -> Result<()> 
     Ok(())
 }
 
-/// A fault by its name: its number, of a frame's also the error that the peer is told, and its text.
+/// A fault by its name: its number, its text, and for a frame's fault the error code for the peer.
 pub fn faults(alloc: Global, words: &[&str], answer: &mut String) -> Result<()> {
     match words {
         ["FrameFault", name] => {

@@ -1,5 +1,6 @@
-//! How bytes and fields stand in a row: a byte for itself, `\xHH` for the byte of two hexadecimal digits, and `\xHH*N;` for N
-//! of them; a field as `NAME: VALUE`, with `|` between fields, and `no fields` for none.
+//! How bytes and fields stand in a row: a byte for itself, `\xHH` for the byte of two hexadecimal
+//! digits, and `\xHH*N;` for N of them; a field as `NAME: VALUE`, with `|` between fields, and
+//! `no fields` for none.
 
 use anyhow::{Context, Result};
 use lists::{Field, Octets};
@@ -19,7 +20,8 @@ pub fn bytes_of(alloc: Global, text: &str) -> Result<Vec<u8>> {
     Ok(bytes)
 }
 
-/// Adds the byte whose digits stand behind a backslash, as often as is said, and answers what stands behind that.
+/// Adds the byte whose digits follow a backslash, as often as the text says, and answers what
+/// follows.
 fn push_escaped<'a>(bytes: &mut Vec<u8>, piece: &'a str) -> Result<&'a str> {
     let escape = piece.strip_prefix('x').context("no escape")?;
     let (digits, rest) = escape.split_at_checked(2).context("no digits behind \\x")?;
@@ -53,7 +55,8 @@ pub fn fields_of(alloc: Global, text: &str, plain: &[Field]) -> Result<Vec<Field
     Ok(fields)
 }
 
-/// The field of a part. Behind its name are a colon and a blank, or the colon alone where the value is empty.
+/// The field of a part. After its name are a colon and a blank, or the colon alone where the value
+/// is empty.
 fn field_of(alloc: Global, part: &str) -> Result<Field> {
     let (name, value) = match part.split_once(": ") {
         Some((name, value)) => (name, value.trim()),

@@ -16,7 +16,8 @@ pub fn timeout(alloc: Global, given: &str, answer: &mut String) -> Result<()> {
     Ok(())
 }
 
-/// `write TEXT`, and the value of `grpc-message`, which has to be read again as that text; `read VALUE`, and its text.
+/// `write TEXT`, and the value of `grpc-message`, which has to be read again as that text;
+/// `read VALUE`, and its text.
 pub fn status_text(alloc: Global, given: Given<'_>, answer: &mut String) -> Result<()> {
     let (word, said) = given.text.split_once(' ').unwrap_or((given.text, ""));
     if word == "read" {
@@ -31,7 +32,8 @@ pub fn status_text(alloc: Global, given: Given<'_>, answer: &mut String) -> Resu
     push_bytes(alloc, answer, value.as_bytes(), given.wanted)
 }
 
-/// `write BYTES`, and the value of a `-bin` field; `read VALUE`, and the values that it carries, with `|` behind each, or `none`.
+/// `write BYTES`, and the value of a `-bin` field; `read VALUE`, and the values that it carries,
+/// with `|` after each, or `none`.
 pub fn binary(alloc: Global, given: Given<'_>, answer: &mut String) -> Result<()> {
     let (word, said) = given.text.split_once(' ').unwrap_or((given.text, ""));
     let bytes = bytes_of(alloc, said.trim())?;

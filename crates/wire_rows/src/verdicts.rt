@@ -1,5 +1,6 @@
-//! Verdicts on frames by what came before them: `verdicts.rows` has each kind of frame in each state of its stream, and
-//! `streams.rows` the course of a connection on which as many streams begin as may.
+//! Verdicts on frames by what came before them: `verdicts.rows` has each kind of frame in each
+//! state of its stream, and `streams.rows` the course of a connection on which as many streams
+//! begin as may.
 
 ghost use Rattle.std.specs.Prelude.{◌≡◌, ◌<◌, IfOk};
 ghost use Rattle.flow.specs.Halves.{IsJudged};
@@ -10,7 +11,8 @@ use h2frame::{ErrorCode, Flags, FrameHead, FrameKind, StreamId};
 use rows::number;
 use std::alloc::Global;
 
-/// The frames that are judged, with END_STREAM or without, in the order of the columns of `verdicts.rows`.
+/// The frames that are judged, with END_STREAM or without, in the order of the columns of
+/// `verdicts.rows`.
 const KINDS: [&str; 6] = [
     "DATA",
     "DATA+END_STREAM",
@@ -72,8 +74,8 @@ fn judge(halves: &mut Halves, frame: &str, stream: StreamId, resets: bool) -> Re
     Ok(verdict)
 }
 
-/// Takes a step of a connection: a frame on a stream, which the server may reset upon it, or on each stream from one to
-/// another in steps of two, which all have one verdict.
+/// Takes a step of a connection: a frame on a stream, which the server may reset upon it, or on
+/// each stream from one to another in steps of two, which all have one verdict.
 fn step(halves: &mut Halves, words: &[&str]) -> Result<HalfVerdict> {
     let [frame, first, rest @ ..] = words else {
         bail!("that is no step");
@@ -95,7 +97,7 @@ fn step(halves: &mut Halves, words: &[&str]) -> Result<HalfVerdict> {
     Ok(verdict)
 }
 
-/// The verdict on a frame behind steps, which are listed with commas.
+/// The verdict on a frame after steps, which are listed with commas.
 fn verdict_after(alloc: Global, steps: &str, frame: &str, stream: StreamId) -> Result<HalfVerdict> {
     let mut halves = Halves::new(alloc);
     for text in steps.split(',') {

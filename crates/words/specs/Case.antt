@@ -1,12 +1,46 @@
--- `case NAME.. --port P`, with `--host H`, `--times N`, `--streams K` and `--timeout S`; or by the flags of gRPC's own interop clients,
--- `case --test_case=NAME --server_port=P --server_host=H --use_tls=false`, and those of soaks; or `case --list`
-use Rattle.std.specs.Prelude.{◌≤◌, ⊤, ℕ, Bool, false, List, [], ◌∷◌, Option, Some, None, if◌then◌else◌, codes, is_none, map, option_map, option_and_then}
+-- `case NAME.. --port P`, with `--host H`, `--times N`, `--streams K` and `--timeout S`; or by the
+-- flags of gRPC's own interop clients,
+-- `case --test_case=NAME --server_port=P --server_host=H --use_tls=false`, and those of soaks; or
+-- `case --list`
+use Rattle.std.specs.Prelude.{
+  ◌≤◌,
+  ⊤,
+  ℕ,
+  Bool,
+  false,
+  List,
+  [],
+  ◌∷◌,
+  Option,
+  Some,
+  None,
+  if◌then◌else◌,
+  codes,
+  is_none,
+  map,
+  option_map,
+  option_and_then,
+}
 use Rattle.std.specs.Bool.{then_some}
 use Rattle.std.specs.Option.{option_map_or, option_or, option_xor}
 use Rattle.std.specs.Str.{bytes_eq}
 use Rattle.clap.specs.Walk.{Row, Rule, Text}
 use Rattle.clap.specs.Simple.{App, new_app, with_rule}
-use Rattle.words.specs.Options.{also_named, amount_of, amount_option, by_default, flag, has_flag, number_of, number_option, several, some_texts, text_of, text_option, texts_of}
+use Rattle.words.specs.Options.{
+  also_named,
+  amount_of,
+  amount_option,
+  by_default,
+  flag,
+  has_flag,
+  number_of,
+  number_option,
+  several,
+  some_texts,
+  text_of,
+  text_option,
+  texts_of,
+}
 use Rattle.words.specs.Reporting as reporting
 use Rattle.words.specs.Reporting.{with_reporting}
 use Rattle.words.specs.Tracing as tracing
@@ -21,7 +55,8 @@ abbrev pub port_option : Rule
 port_option = also_named (codes "server_port") (number_option (codes "port") 65535)
 
 abbrev pub host_option : Rule
-host_option = also_named (codes "server_host") (by_default (codes "127.0.0.1") (text_option (codes "host")))
+host_option =
+    also_named (codes "server_host") (by_default (codes "127.0.0.1") (text_option (codes "host")))
 
 abbrev pub times_option : Rule
 times_option = by_default (codes "1") (number_option (codes "times") 65535)
@@ -43,7 +78,8 @@ abbrev pub max_failures_option : Rule
 max_failures_option = by_default (codes "0") (amount_option (codes "soak_max_failures"))
 
 abbrev pub acceptable_option : Rule
-acceptable_option = by_default (codes "1000") (amount_option (codes "soak_per_iteration_max_acceptable_latency_ms"))
+acceptable_option =
+    by_default (codes "1000") (amount_option (codes "soak_per_iteration_max_acceptable_latency_ms"))
 
 abbrev pub overall_option : Rule
 overall_option = amount_option (codes "soak_overall_timeout_seconds")
@@ -78,7 +114,8 @@ with_credentials app =
 
 abbrev pub case_command : App
 case_command = with_reporting (with_tracing (with_soak (with_credentials (
-    with_rule (with_rule (with_rule (with_rule (with_rule (with_rule (with_rule (with_rule (with_rule (new_app (codes "case"))
+    with_rule (with_rule (with_rule
+    (with_rule (with_rule (with_rule (with_rule (with_rule (with_rule (new_app (codes "case"))
     (several (codes "NAME")))
     (text_option (codes "test_case")))
     (flag (codes "list")))
@@ -89,7 +126,7 @@ case_command = with_reporting (with_tracing (with_soak (with_credentials (
     timeout_option)
     tls_option))))
 
--- what a soak is told
+-- the words of a soak
 pub record Soak : Type 0 where
   pub iterations : ℕ
   pub max_failures : ℕ
@@ -110,7 +147,7 @@ soak words = record {
   response_size = words.response_size;
 }
 
--- what a client is told that runs cases
+-- the words of a client that runs cases
 pub record Run : Type 0 where
   pub names : List Text
   pub host : Text
@@ -152,13 +189,15 @@ names_by (Some name) (first ∷ names) = None
 abbrev pub names_of : List Row → Option (List Text)
 names_of rows = names_by (text_of (codes "test_case") rows) (texts_of (codes "NAME") rows)
 
--- the program speaks cleartext alone
+-- the program speaks only cleartext
 abbrev pub is_cleartext : List Row → Bool
-is_cleartext rows = option_map_or (λ text. bytes_eq text (codes "false")) (text_of (codes "use_tls") rows) false
+is_cleartext rows =
+    option_map_or (λ text. bytes_eq text (codes "false")) (text_of (codes "use_tls") rows) false
 
 abbrev pub soak_of : List Row → Option Soak
 soak_of rows =
-    option_and_then (λ iterations. option_and_then (λ max_failures. option_and_then (λ acceptable. option_and_then (λ gap.
+    option_and_then (λ iterations.
+    option_and_then (λ max_failures. option_and_then (λ acceptable. option_and_then (λ gap.
     option_and_then (λ request_size. option_map (λ response_size. record {
       iterations = iterations;
       max_failures = max_failures;
@@ -174,11 +213,12 @@ soak_of rows =
     (amount_of (codes "soak_max_failures") rows))
     (amount_of (codes "soak_iterations") rows)
 
--- how the cases are run that these words choose, and what is told of them
+-- how the cases that these words choose are run and reported
 abbrev pub run_of : List Text → reporting.Told → List Row → Option Run
 run_of names told rows =
     option_and_then (λ host. option_and_then (λ port. option_and_then (λ times.
-    option_and_then (λ patience. option_and_then (λ soak. option_and_then (λ traced. then_some (is_cleartext rows) (record {
+    option_and_then (λ patience.
+    option_and_then (λ soak. option_and_then (λ traced. then_some (is_cleartext rows) (record {
       names = names;
       host = host;
       port = port;
@@ -199,8 +239,10 @@ run_of names told rows =
 abbrev pub trial_of : List Row → Option Trial
 trial_of rows =
     if has_flag (codes "list") rows
-    then then_some (is_none (option_or (text_of (codes "NAME") rows) (text_of (codes "test_case") rows))) list
-    else option_and_then (λ names. option_and_then (λ told. option_map run (run_of names told rows)) (reporting.reporting_of rows))
+    then then_some
+    (is_none (option_or (text_of (codes "NAME") rows) (text_of (codes "test_case") rows))) list
+    else option_and_then (λ names.
+    option_and_then (λ told. option_map run (run_of names told rows)) (reporting.reporting_of rows))
     (names_of rows)
 
 -- the numbers are not 0

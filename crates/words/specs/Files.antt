@@ -7,7 +7,8 @@ use Rattle.words.specs.declared.files.Files.{Files}
 
 -- a command with them too
 abbrev pub with_files : App → App
-with_files app = with_rule (with_rule app (text_option (codes "port-file"))) (text_option (codes "ready-file"))
+with_files app =
+    with_rule (with_rule app (text_option (codes "port-file"))) (text_option (codes "ready-file"))
 
 -- the files that a server writes once it listens
 pub record Told : Type 0 where

@@ -1,5 +1,18 @@
 -- `frames`, also `frames FILE` and `frames FILE FILE`, with `--full` and `--side SIDE`
-use Rattle.std.specs.Prelude.{Bool, List, [], ◌∷◌, Option, None, Some, if◌then◌else◌, codes, map, option_map, option_and_then}
+use Rattle.std.specs.Prelude.{
+  Bool,
+  List,
+  [],
+  ◌∷◌,
+  Option,
+  None,
+  Some,
+  if◌then◌else◌,
+  codes,
+  map,
+  option_map,
+  option_and_then,
+}
 use Rattle.std.specs.Option.{option_map_or}
 use Rattle.std.specs.Str.{bytes_eq}
 use Rattle.clap.specs.Walk.{Row, Text}
@@ -16,7 +29,7 @@ frames_command =
     (text_option (codes "side")))
     (flag (codes "full"))
 
--- of which bytes the frames are told, and how
+-- which bytes' frames are printed, and how
 pub record Told : Type 0 where
   pub files : List Text
   pub side : Option Side
@@ -36,7 +49,9 @@ side_named name = if bytes_eq name (codes "client") then Some Client
 
 -- the side, if one is named; nothing where its name is no side's
 abbrev pub side_of : List Row → Option (Option Side)
-side_of rows = option_map_or (λ name. option_map Some (side_named name)) (text_of (codes "side") rows) (Some None)
+side_of rows =
+    option_map_or (λ name. option_map Some (side_named name))
+    (text_of (codes "side") rows) (Some None)
 
 -- these files, where they are two at most
 abbrev pub few : List Text → Option (List Text)

@@ -1,11 +1,37 @@
--- `misbehave NAME.. --port P`, with `--host H` and `--timeout S`; or `misbehave --list`, with `--verbose`
-use Rattle.std.specs.Prelude.{◌≤◌, ◌&&◌, ⊤, ℕ, Bool, List, Option, None, if◌then◌else◌, codes, is_none, map, option_map, option_and_then}
+-- `misbehave NAME.. --port P`, with `--host H` and `--timeout S`; or `misbehave --list`, with
+-- `--verbose`
+use Rattle.std.specs.Prelude.{
+  ◌≤◌,
+  ◌&&◌,
+  ⊤,
+  ℕ,
+  Bool,
+  List,
+  Option,
+  None,
+  if◌then◌else◌,
+  codes,
+  is_none,
+  map,
+  option_map,
+  option_and_then,
+}
 use Rattle.std.specs.Bool.{then_some}
 use Rattle.clap.specs.Walk.{Row, Rule, Text}
 use Rattle.clap.specs.Simple.{App, new_app, with_rule}
 use Rattle.words.specs.Files as files
 use Rattle.words.specs.Files.{with_files}
-use Rattle.words.specs.Options.{by_default, flag, has_flag, number_of, number_option, several, some_texts_of, text_of, text_option}
+use Rattle.words.specs.Options.{
+  by_default,
+  flag,
+  has_flag,
+  number_of,
+  number_option,
+  several,
+  some_texts_of,
+  text_of,
+  text_option,
+}
 use Rattle.words.specs.Reporting as reporting
 use Rattle.words.specs.Reporting.{with_reporting}
 use Rattle.words.specs.Tracing as tracing
@@ -31,7 +57,7 @@ misbehave_command = with_reporting (with_tracing (with_files (
     (flag (codes "list")))
     (flag (codes "verbose")))))
 
--- what a server is told that misbehaves
+-- the words of a server that misbehaves
 pub record Run : Type 0 where
   pub names : List Text
   pub host : Text
@@ -41,7 +67,7 @@ pub record Run : Type 0 where
   pub tracing : tracing.Told
   pub reporting : reporting.Told
 
--- or whether more than names is listed
+-- such a server, or whether more than names is listed
 pub data Misbehaving : Type 0 where
   list : Bool → Misbehaving
   play : Run → Misbehaving
@@ -61,10 +87,11 @@ abbrev pub misbehaving : MisbehaveWords → Misbehaving
 misbehaving (words.List is_verbose) = list is_verbose
 misbehaving (words.Play told) = play (run_told told)
 
--- how a server misbehaves in the ways that these words choose, and what is told of them
+-- how a server misbehaves in the ways that these words choose, and how that is reported
 abbrev pub run_of : List Text → reporting.Told → List Row → Option Run
 run_of names told rows =
-    option_and_then (λ host. option_and_then (λ port. option_and_then (λ seconds. option_map (λ traced. record {
+    option_and_then
+    (λ host. option_and_then (λ port. option_and_then (λ seconds. option_map (λ traced. record {
       names = names;
       host = host;
       port = port;
@@ -77,14 +104,17 @@ run_of names told rows =
     (number_of (codes "port") 65535 rows))
     (text_of (codes "host") rows)
 
--- names with a port, or neither of them with `--list`; `--verbose` stands with `--list` alone
+-- names with a port, or neither of them with `--list`; only `--list` may have `--verbose`
 abbrev pub misbehaving_of : List Row → Option Misbehaving
 misbehaving_of rows =
     if has_flag (codes "list") rows
-    then then_some (is_none (text_of (codes "NAME") rows) && is_none (number_of (codes "port") 65535 rows))
+    then then_some
+    (is_none (text_of (codes "NAME") rows) && is_none (number_of (codes "port") 65535 rows))
     (list (has_flag (codes "verbose") rows))
     else if has_flag (codes "verbose") rows then None
-    else option_and_then (λ names. option_and_then (λ told. option_map play (run_of names told rows)) (reporting.reporting_of rows))
+    else option_and_then (λ names.
+    option_and_then (λ told. option_map play (run_of names told rows))
+    (reporting.reporting_of rows))
     (some_texts_of (codes "NAME") rows)
 
 -- no number is 0

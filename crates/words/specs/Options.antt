@@ -1,5 +1,22 @@
 -- The options of commands, and what is read of their values.
-use Rattle.std.specs.Prelude.{◌≡◌, ℕ, Bool, true, false, List, [], ◌∷◌, Option, Some, None, if◌then◌else◌, codes, option_map, option_and_then, unwrap_or}
+use Rattle.std.specs.Prelude.{
+  ◌≡◌,
+  ℕ,
+  Bool,
+  true,
+  false,
+  List,
+  [],
+  ◌∷◌,
+  Option,
+  Some,
+  None,
+  if◌then◌else◌,
+  codes,
+  option_map,
+  option_and_then,
+  unwrap_or,
+}
 use Rattle.std.specs.Option.{option_map_or}
 use Rattle.std.specs.Str.{bytes_eq}
 use Rattle.std.specs.Str.Parse.{digits_value, without_leading_plus}
@@ -53,7 +70,8 @@ amount_option name = record (new_rule name) {
 -- the number that a text writes in decimal digits, with or without a plus, if it is in this range
 abbrev pub number_within : ℕ → ℕ → Text → Option ℕ
 number_within low high text =
-    if is_unsigned_in low high text then Some (digits_value 10 (without_leading_plus text)) else None
+    if is_unsigned_in low high text then Some (digits_value 10 (without_leading_plus text))
+    else None
 
 abbrev pub number_up_to : ℕ → Text → Option ℕ
 number_up_to high = number_within 1 high
@@ -72,7 +90,9 @@ text_of name rows = first_of name rows
 
 -- words at a place: one at least
 abbrev pub several : Text → Rule
-several name = record (new_rule name) { range = Some (record { start_inclusive = 1; end_inclusive = usize_max }) }
+several name =
+    record (new_rule name)
+    { range = Some (record { start_inclusive = 1; end_inclusive = usize_max }) }
 
 -- the texts of an option that may be given several times, or of the words at a place
 abbrev pub texts_of : Text → List Row → List Text
@@ -94,6 +114,6 @@ has_flag name rows = option_map_or (λ text. bytes_eq text (codes "true")) (firs
 abbrev pub IsCommand : App → Command → Type 0
 IsCommand app command = (app_of command ≡ app) × ((out-Command command).has_globals ≡ false)
 
--- the option is this to `clap`, and is none of the subcommands
+-- the option is this to `clap`, and isn't one of the subcommands
 abbrev pub IsOption : Rule → Arg → Type 0
 IsOption rule arg = (rule_of arg ≡ rule) × (arg.global ≡ false)

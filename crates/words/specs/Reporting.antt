@@ -1,6 +1,22 @@
--- The options that `case`, `wire` and `misbehave` share: `--json FILE`, `--junit FILE`, `--tap`, `--save DIR`, `--known FILE`,
--- `--write-known FILE`, `--skip WORDS`, `--level LEVEL`, `--repeat N`, `--fail-fast`
-use Rattle.std.specs.Prelude.{ℕ, ◌&&◌, ◌==◌, Bool, false, List, Option, None, Some, if◌then◌else◌, codes, map, option_map, option_and_then}
+-- The options that `case`, `wire` and `misbehave` share: `--json FILE`, `--junit FILE`, `--tap`,
+-- `--save DIR`, `--known FILE`, `--write-known FILE`, `--skip WORDS`, `--level LEVEL`,
+-- `--repeat N`, `--fail-fast`
+use Rattle.std.specs.Prelude.{
+  ℕ,
+  ◌&&◌,
+  ◌==◌,
+  Bool,
+  false,
+  List,
+  Option,
+  None,
+  Some,
+  if◌then◌else◌,
+  codes,
+  map,
+  option_map,
+  option_and_then,
+}
 use Rattle.std.specs.List.{flat_map, slice_split}
 use Rattle.std.specs.Option.{option_map_or}
 use Rattle.std.specs.Str.{bytes_eq}
@@ -9,7 +25,16 @@ use Rattle.clap.specs.Simple.{App, with_rule}
 use Rattle.clap.specs.declared.builder.action.ArgAction.TheVariants.{Append}
 use Rattle.results.specs.Words.{level_named}
 use Rattle.results.specs.declared.words.Level.{Level}
-use Rattle.words.specs.Options.{by_default, flag, has_flag, number_of, number_option, text_of, text_option, texts_of}
+use Rattle.words.specs.Options.{
+  by_default,
+  flag,
+  has_flag,
+  number_of,
+  number_option,
+  text_of,
+  text_option,
+  texts_of,
+}
 use Rattle.words.specs.declared.reporting.Reporting.{Reporting}
 
 -- it may be given several times
@@ -40,7 +65,7 @@ with_reporting app =
     repeat_option)
     (flag (codes "fail-fast"))
 
--- what is told of outcomes, and which cases are left out
+-- how outcomes are reported, and which cases are left out
 pub record Told : Type 0 where
   pub json : Option Text
   pub junit : Option Text
@@ -67,22 +92,27 @@ reporting words = record {
   fails_fast = words.fails_fast;
 }
 
--- the words for cases that are left out: those between commas, of each time that the option is given
+-- the words for cases that are left out: those between commas, of each time that the option is
+-- given
 abbrev pub skipped_of : List Row → List Text
 skipped_of rows = flat_map (slice_split (λ byte. byte == 44)) (texts_of (codes "skip") rows)
 
 -- the level, if one is named; nothing where its word is no level's
 abbrev pub level_of : List Row → Option (Option Level)
-level_of rows = option_map_or (λ word. option_map Some (level_named word)) (text_of (codes "level") rows) (Some None)
+level_of rows =
+    option_map_or (λ word. option_map Some (level_named word))
+    (text_of (codes "level") rows) (Some None)
 
 -- `--tap` and `--json -` both want standard output
 abbrev pub wants_output_twice : List Row → Bool
 wants_output_twice rows =
-    option_map_or (λ file. has_flag (codes "tap") rows && bytes_eq file (codes "-")) (text_of (codes "json") rows) false
+    option_map_or (λ file. has_flag (codes "tap") rows && bytes_eq file (codes "-"))
+    (text_of (codes "json") rows) false
 
 abbrev pub reporting_of : List Row → Option Told
 reporting_of rows =
-    option_and_then (λ level. option_and_then (λ repeat. if wants_output_twice rows then None else Some (record {
+    option_and_then
+    (λ level. option_and_then (λ repeat. if wants_output_twice rows then None else Some (record {
       json = text_of (codes "json") rows;
       junit = text_of (codes "junit") rows;
       has_tap = has_flag (codes "tap") rows;

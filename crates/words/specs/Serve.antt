@@ -1,6 +1,21 @@
 -- `serve --port P`, or `serve --any-port`, with `--host H`, `--conns N`, `--report`, `--log`, or
 -- `--log json`, `--time T`, `--drain-on-eof`, `--drain-timeout S` and `--record DIR`
-use Rattle.std.specs.Prelude.{◌≤◌, ⊤, ℕ, Bool, List, Option, None, Some, [], ◌∷◌, if◌then◌else◌, codes, option_map, option_and_then}
+use Rattle.std.specs.Prelude.{
+  ◌≤◌,
+  ⊤,
+  ℕ,
+  Bool,
+  List,
+  Option,
+  None,
+  Some,
+  [],
+  ◌∷◌,
+  if◌then◌else◌,
+  codes,
+  option_map,
+  option_and_then,
+}
 use Rattle.std.specs.Bool.{then_some}
 use Rattle.std.specs.Option.{option_map_or, option_xor}
 use Rattle.std.specs.Str.{bytes_eq}
@@ -8,7 +23,15 @@ use Rattle.clap.specs.Walk.{Row, Rule, Text}
 use Rattle.clap.specs.Simple.{App, new_app, with_rule}
 use Rattle.words.specs.Files as files
 use Rattle.words.specs.Files.{with_files}
-use Rattle.words.specs.Options.{by_default, flag, has_flag, number_of, number_option, text_of, text_option}
+use Rattle.words.specs.Options.{
+  by_default,
+  flag,
+  has_flag,
+  number_of,
+  number_option,
+  text_of,
+  text_option,
+}
 use Rattle.words.specs.Tracing as tracing
 use Rattle.words.specs.Tracing.{with_tracing}
 use Rattle.words.specs.declared.serve.LogForm.{LogForm}
@@ -40,7 +63,8 @@ patience_option = by_default (codes "10") (number_option (codes "drain-timeout")
 -- P, N and S are 1 to 65,535
 abbrev pub serve_command : App
 serve_command = with_tracing (with_files (
-    with_rule (with_rule (with_rule (with_rule (with_rule (with_rule (with_rule (with_rule (with_rule (with_rule (new_app (codes "serve"))
+    with_rule (with_rule (with_rule (with_rule
+    (with_rule (with_rule (with_rule (with_rule (with_rule (with_rule (new_app (codes "serve"))
     (number_option (codes "port") 65535))
     (flag (codes "any-port")))
     host_option)
@@ -52,7 +76,7 @@ serve_command = with_tracing (with_files (
     patience_option)
     (text_option (codes "record"))))
 
--- what a server is told
+-- the words of a server
 pub record Serving : Type 0 where
   pub host : Text
   pub port : Port
@@ -93,7 +117,8 @@ form_of name = if bytes_eq name (codes "text") then Some Plain
 
 -- the form of the log, if there is to be one; nothing where its name is no form's
 abbrev pub log_of : List Row → Option (Option LogForm)
-log_of rows = option_map_or (λ name. option_map Some (form_of name)) (text_of (codes "log") rows) (Some None)
+log_of rows =
+    option_map_or (λ name. option_map Some (form_of name)) (text_of (codes "log") rows) (Some None)
 
 -- the form of times of a name
 abbrev pub time_form_of : Text → Option TimeForm
@@ -102,22 +127,29 @@ time_form_of name = if bytes_eq name (codes "seconds") then Some Seconds
 
 -- the form of the log's times, if one is given; nothing where its name is no form's
 abbrev pub time_of : List Row → Option (Option TimeForm)
-time_of rows = option_map_or (λ name. option_map Some (time_form_of name)) (text_of (codes "time") rows) (Some None)
+time_of rows =
+    option_map_or (λ name. option_map Some (time_form_of name))
+    (text_of (codes "time") rows) (Some None)
 
 abbrev pub serving_of : List Row → Option Serving
-serving_of rows = option_and_then (λ port. option_and_then (λ host. option_and_then (λ log. option_and_then (λ time. option_and_then (λ patience. option_map (λ told. record {
-  host = host;
-  port = port;
-  connections = number_of (codes "conns") 65535 rows;
-  has_report = has_flag (codes "report") rows;
-  log = log;
-  time = time;
-  drains_on_eof = has_flag (codes "drain-on-eof") rows;
-  patience = patience;
-  files = files.files_of rows;
-  tracing = told;
-  record_in = text_of (codes "record") rows;
-}) (tracing.tracing_of rows)) (number_of (codes "drain-timeout") 65535 rows)) (time_of rows)) (log_of rows)) (text_of (codes "host") rows)) (port_of rows)
+serving_of rows =
+    option_and_then (λ port.
+    option_and_then (λ host.
+    option_and_then (λ log.
+    option_and_then (λ time. option_and_then (λ patience. option_map (λ told. record {
+      host = host;
+      port = port;
+      connections = number_of (codes "conns") 65535 rows;
+      has_report = has_flag (codes "report") rows;
+      log = log;
+      time = time;
+      drains_on_eof = has_flag (codes "drain-on-eof") rows;
+      patience = patience;
+      files = files.files_of rows;
+      tracing = told;
+      record_in = text_of (codes "record") rows;
+    }) (tracing.tracing_of rows)) (number_of (codes "drain-timeout") 65535 rows)) (time_of rows))
+    (log_of rows)) (text_of (codes "host") rows)) (port_of rows)
 
 -- a port's number is not 0
 abbrev pub IsPort : Port → Type 0

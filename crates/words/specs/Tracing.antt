@@ -1,6 +1,21 @@
--- The options that `serve`, `case`, `wire` and `misbehave` share: `--trace`, also `--trace short` and `--trace full`, `--trace-file FILE`
--- and `--pcap FILE`
-use Rattle.std.specs.Prelude.{◌&&◌, Bool, is_none, is_some, List, [], ◌∷◌, Option, Some, None, if◌then◌else◌, codes, option_map, option_and_then}
+-- The options that `serve`, `case`, `wire` and `misbehave` share: `--trace`, also `--trace short`
+-- and `--trace full`, `--trace-file FILE` and `--pcap FILE`
+use Rattle.std.specs.Prelude.{
+  ◌&&◌,
+  Bool,
+  is_none,
+  is_some,
+  List,
+  [],
+  ◌∷◌,
+  Option,
+  Some,
+  None,
+  if◌then◌else◌,
+  codes,
+  option_map,
+  option_and_then,
+}
 use Rattle.std.specs.Str.{bytes_eq}
 use Rattle.clap.specs.Walk.{Row, Rule, Text}
 use Rattle.clap.specs.Simple.{App, with_rule}
@@ -24,7 +39,7 @@ with_tracing app =
     (text_option (codes "trace-file")))
     (text_option (codes "pcap"))
 
--- where it is written what passes on connections
+-- the places to which what passes on connections is written
 pub record Told : Type 0 where
   pub form : Option TraceForm
   pub lines : Option Text
@@ -46,7 +61,8 @@ abbrev pub form_of : Text → Option TraceForm
 form_of name = if bytes_eq name (codes "short") then Some Short
     else (if bytes_eq name (codes "full") then Some Full else None)
 
--- the form of lines, by its name and by the file for them: a file asks for lines too; nothing where the name is no form's
+-- the form of lines, by its name and by the file for them: a file asks for lines too; nothing where
+-- the name is no form's
 abbrev pub trace_by : Option Text → Option Text → Option (Option TraceForm)
 trace_by (Some name) file = option_map Some (form_of name)
 trace_by None (Some file) = Some (Some Short)

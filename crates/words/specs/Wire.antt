@@ -1,9 +1,33 @@
--- `wire CASES.. --port P`, with `--host H`, `--silence S`, `--timeout T`, `--jobs N` and `--verbose`; or `wire --list`
-use Rattle.std.specs.Prelude.{◌≤◌, ⊤, ℕ, Bool, List, Option, if◌then◌else◌, codes, is_none, map, option_map, option_and_then}
+-- `wire CASES.. --port P`, with `--host H`, `--silence S`, `--timeout T`, `--jobs N` and
+-- `--verbose`; or `wire --list`
+use Rattle.std.specs.Prelude.{
+  ◌≤◌,
+  ⊤,
+  ℕ,
+  Bool,
+  List,
+  Option,
+  if◌then◌else◌,
+  codes,
+  is_none,
+  map,
+  option_map,
+  option_and_then,
+}
 use Rattle.std.specs.Bool.{then_some}
 use Rattle.clap.specs.Walk.{Row, Rule, Text}
 use Rattle.clap.specs.Simple.{App, new_app, with_rule}
-use Rattle.words.specs.Options.{by_default, flag, has_flag, number_of, number_option, several, some_texts_of, text_of, text_option}
+use Rattle.words.specs.Options.{
+  by_default,
+  flag,
+  has_flag,
+  number_of,
+  number_option,
+  several,
+  some_texts_of,
+  text_of,
+  text_option,
+}
 use Rattle.words.specs.Reporting as reporting
 use Rattle.words.specs.Reporting.{with_reporting}
 use Rattle.words.specs.Tracing as tracing
@@ -12,7 +36,8 @@ use Rattle.words.specs.declared.wire.WireRun.{WireRun}
 use Rattle.words.specs.declared.wire.WireWords.{WireWords}
 use Rattle.words.specs.declared.wire.WireWords.TheVariants as wire_words
 
--- P, S, T and N are 1 to 65,535; H is 127.0.0.1, S is 1,000, T is 10 and N is 8 if they are not given
+-- P, S, T and N are 1 to 65,535; H is 127.0.0.1, S is 1,000, T is 10 and N is 8 if they are not
+-- given
 abbrev pub host_option : Rule
 host_option = by_default (codes "127.0.0.1") (text_option (codes "host"))
 
@@ -27,7 +52,8 @@ jobs_option = by_default (codes "8") (number_option (codes "jobs") 65535)
 
 abbrev pub wire_command : App
 wire_command = with_reporting (with_tracing (
-    with_rule (with_rule (with_rule (with_rule (with_rule (with_rule (with_rule (with_rule (new_app (codes "wire"))
+    with_rule (with_rule
+    (with_rule (with_rule (with_rule (with_rule (with_rule (with_rule (new_app (codes "wire"))
     (several (codes "CASES")))
     (flag (codes "list")))
     (number_option (codes "port") 65535))
@@ -37,7 +63,7 @@ wire_command = with_reporting (with_tracing (
     jobs_option)
     (flag (codes "verbose"))))
 
--- what a run of wire cases is told
+-- the words of a run of wire cases
 pub record Run : Type 0 where
   pub names : List Text
   pub host : Text
@@ -70,7 +96,7 @@ abbrev pub told : WireWords → Told
 told wire_words.List = list
 told (wire_words.Run words) = run (run_told words)
 
--- how the cases are run that these words choose, and what is told of them
+-- how the cases that these words choose are run and reported
 abbrev pub run_of : List Text → reporting.Told → List Row → Option Run
 run_of names told rows =
     option_and_then (λ port. option_and_then (λ host. option_and_then (λ silence.
@@ -95,12 +121,15 @@ run_of names told rows =
 abbrev pub told_of : List Row → Option Told
 told_of rows =
     if has_flag (codes "list") rows then then_some (is_none (text_of (codes "CASES") rows)) list
-    else option_and_then (λ names. option_and_then (λ told. option_map run (run_of names told rows)) (reporting.reporting_of rows))
+    else option_and_then (λ names.
+    option_and_then (λ told. option_map run (run_of names told rows)) (reporting.reporting_of rows))
     (some_texts_of (codes "CASES") rows)
 
 -- the numbers are not 0
 abbrev pub IsRun : WireRun → Type 0
-IsRun words = (1 ≤ words.port) × (1 ≤ words.silence) × (1 ≤ words.limit) × (1 ≤ words.jobs) × (1 ≤ words.reporting.repeat)
+IsRun words =
+    (1 ≤ words.port) × (1 ≤ words.silence) × (1 ≤ words.limit) × (1 ≤ words.jobs)
+    × (1 ≤ words.reporting.repeat)
 
 abbrev pub IsInRange : WireWords → Type 0
 IsInRange wire_words.List = ⊤

@@ -1,5 +1,21 @@
--- What the words of a command line mean: `clap`'s meaning of a simple command, at the command line of this program.
-use Rattle.std.specs.Prelude.{◌≤◌, ⊤, ℕ, true, List, [], ◌∷◌, Option, Some, None, if◌then◌else◌, codes, option_map, option_and_then}
+-- What the words of a command line mean: `clap`'s meaning of a simple command, at the command line
+-- of this program.
+use Rattle.std.specs.Prelude.{
+  ◌≤◌,
+  ⊤,
+  ℕ,
+  true,
+  List,
+  [],
+  ◌∷◌,
+  Option,
+  Some,
+  None,
+  if◌then◌else◌,
+  codes,
+  option_map,
+  option_and_then,
+}
 use Rattle.std.specs.Str.{bytes_eq}
 use Rattle.clap.specs.Walk.{Row, Text}
 use Rattle.clap.specs.Simple.{App, new_app, on_top, subcommand_of, with_subcommand}
@@ -9,7 +25,13 @@ use Rattle.words.specs.Body.{body_command, cut_of}
 use Rattle.words.specs.Case.{IsTrial, Trial, case_command, trial, trial_of}
 use Rattle.words.specs.Frames as frames
 use Rattle.words.specs.Frames.{frames_command, frames_of}
-use Rattle.words.specs.Misbehave.{IsPlayable, Misbehaving, misbehave_command, misbehaving, misbehaving_of}
+use Rattle.words.specs.Misbehave.{
+  IsPlayable,
+  Misbehaving,
+  misbehave_command,
+  misbehaving,
+  misbehaving_of,
+}
 use Rattle.words.specs.OwnServer.{own_command, own_port_of}
 use Rattle.words.specs.Serve.{Serving, IsServing, serve_command, serving, serving_of}
 use Rattle.words.specs.Wire.{Told, told, told_of, wire_command}
@@ -31,7 +53,8 @@ bare_line = on_top (λ top. record top {
 
 abbrev pub command_line : App
 command_line =
-    with_subcommand (with_subcommand (with_subcommand (with_subcommand (with_subcommand (with_subcommand (with_subcommand (with_subcommand (with_subcommand bare_line
+    with_subcommand (with_subcommand (with_subcommand (with_subcommand
+    (with_subcommand (with_subcommand (with_subcommand (with_subcommand (with_subcommand bare_line
     body_command.top)
     (new_app (codes "parts")).top)
     serve_command.top)
@@ -42,7 +65,7 @@ command_line =
     wire_command.top)
     frames_command.top
 
--- what the program is told to do
+-- what the words ask the program to do
 pub data Meaning : Type 0 where
   print_body : ℕ → Meaning
   print_parts : Meaning
@@ -75,7 +98,7 @@ plain_command_of p =
     else if bytes_eq p.0 (codes "drain") then option_map drain (own_port_of p.1)
     else None
 
--- and of all
+-- the command of a name and of the values of its options
 abbrev pub command_of : Text × List Row → Option Meaning
 command_of p =
     if bytes_eq p.0 (codes "case") then option_map try_case (trial_of p.1)
@@ -116,7 +139,7 @@ abbrev pub IsBad : WordsFault → Type 0
 IsBad (BadWords reason) = ⊤
 IsBad OutOfMemory = ⊥
 
--- the numbers by which the faults are known outside
+-- the numbers by which programs print the faults
 abbrev pub code_of : WordsFault → ℕ
 code_of (BadWords reason) = 1
 code_of OutOfMemory = 2

@@ -9,7 +9,17 @@ use Rattle.words.specs.Reporting as reporting
 use Rattle.words.specs.Wire.{list, run}
 use Rattle.results.specs.declared.words.Level.TheVariants.{Must}
 use Rattle.words.specs.Tracing as tracing
-use Rattle.words.specs.Words.{command_meant, drain, meaning_of, misbehave, print_body, serve, tell_frames, try_case, try_wire}
+use Rattle.words.specs.Words.{
+  command_meant,
+  drain,
+  meaning_of,
+  misbehave,
+  print_body,
+  serve,
+  tell_frames,
+  try_case,
+  try_wire,
+}
 use Rattle.words.specs.declared.frames.Side.TheVariants.{Server}
 use Rattle.words.specs.declared.tracing.TraceForm.TheVariants.{Full, Short}
 use Rattle.words.specs.declared.serve.LogForm.TheVariants.{Json, Text as Plain}
@@ -53,75 +63,83 @@ pub no_cut : meaning_of (codes "body" ∷ []) ≡ None
 unfolding clap_on_literals command_meant
 no_cut = refl
 
-pub any_port : meaning_of (codes "serve" ∷ codes "--any-port" ∷ codes "--host=::1" ∷ []) ≡ Some (serve (record {
-  host = codes "::1";
-  port = Any;
-  connections = None;
-  has_report = false;
-  log = None;
-  time = None;
-  drains_on_eof = false;
-  patience = 10;
-  files = no_files;
-  tracing = no_tracing;
-  record_in = None;
-}))
+pub any_port : meaning_of (codes "serve" ∷ codes "--any-port" ∷ codes "--host=::1" ∷ [])
+    ≡ Some (serve (record {
+      host = codes "::1";
+      port = Any;
+      connections = None;
+      has_report = false;
+      log = None;
+      time = None;
+      drains_on_eof = false;
+      patience = 10;
+      files = no_files;
+      tracing = no_tracing;
+      record_in = None;
+    }))
 unfolding clap_on_literals command_meant
 any_port = refl
 
-pub bare_log : meaning_of (codes "serve" ∷ codes "--log" ∷ codes "--port" ∷ codes "5" ∷ []) ≡ Some (serve (record {
-  host = codes "127.0.0.1";
-  port = Number 5;
-  connections = None;
-  has_report = false;
-  log = Some Plain;
-  time = None;
-  drains_on_eof = false;
-  patience = 10;
-  files = no_files;
-  tracing = no_tracing;
-  record_in = None;
-}))
+pub bare_log : meaning_of (codes "serve" ∷ codes "--log" ∷ codes "--port" ∷ codes "5" ∷ [])
+    ≡ Some (serve (record {
+      host = codes "127.0.0.1";
+      port = Number 5;
+      connections = None;
+      has_report = false;
+      log = Some Plain;
+      time = None;
+      drains_on_eof = false;
+      patience = 10;
+      files = no_files;
+      tracing = no_tracing;
+      record_in = None;
+    }))
 unfolding clap_on_literals command_meant
 bare_log = refl
 
-pub log_of_objects : meaning_of (codes "serve" ∷ codes "--any-port" ∷ codes "--log=json" ∷ []) ≡ Some (serve (record {
-  host = codes "127.0.0.1";
-  port = Any;
-  connections = None;
-  has_report = false;
-  log = Some Json;
-  time = None;
-  drains_on_eof = false;
-  patience = 10;
-  files = no_files;
-  tracing = no_tracing;
-  record_in = None;
-}))
+pub log_of_objects : meaning_of (codes "serve" ∷ codes "--any-port" ∷ codes "--log=json" ∷ [])
+    ≡ Some (serve (record {
+      host = codes "127.0.0.1";
+      port = Any;
+      connections = None;
+      has_report = false;
+      log = Some Json;
+      time = None;
+      drains_on_eof = false;
+      patience = 10;
+      files = no_files;
+      tracing = no_tracing;
+      record_in = None;
+    }))
 unfolding clap_on_literals command_meant
 log_of_objects = refl
 
-pub log_of_no_form : meaning_of (codes "serve" ∷ codes "--any-port" ∷ codes "--log" ∷ codes "xml" ∷ []) ≡ None
+pub log_of_no_form :
+    meaning_of (codes "serve" ∷ codes "--any-port" ∷ codes "--log" ∷ codes "xml" ∷ [])
+    ≡ None
 unfolding clap_on_literals command_meant
 log_of_no_form = refl
 
-pub drained_at_the_end : meaning_of (codes "serve" ∷ codes "--drain-on-eof" ∷ codes "--any-port" ∷ []) ≡ Some (serve (record {
-  host = codes "127.0.0.1";
-  port = Any;
-  connections = None;
-  has_report = false;
-  log = None;
-  time = None;
-  drains_on_eof = true;
-  patience = 10;
-  files = no_files;
-  tracing = no_tracing;
-  record_in = None;
-}))
+pub drained_at_the_end :
+    meaning_of (codes "serve" ∷ codes "--drain-on-eof" ∷ codes "--any-port" ∷ [])
+    ≡ Some (serve (record {
+      host = codes "127.0.0.1";
+      port = Any;
+      connections = None;
+      has_report = false;
+      log = None;
+      time = None;
+      drains_on_eof = true;
+      patience = 10;
+      files = no_files;
+      tracing = no_tracing;
+      record_in = None;
+    }))
 unfolding clap_on_literals command_meant
 drained_at_the_end = refl
 
-pub two_ports : meaning_of (codes "serve" ∷ codes "--port" ∷ codes "5" ∷ codes "--any-port" ∷ []) ≡ None
+pub two_ports : meaning_of (codes "serve" ∷ codes "--port" ∷ codes "5" ∷ codes "--any-port" ∷ [])
+    ≡ None
 unfolding clap_on_literals command_meant
 two_ports = refl
 
@@ -137,7 +155,8 @@ soak_of_grpc = record {
   response_size = 314159;
 }
 
-pub flags_of_grpc : meaning_of (codes "case" ∷ codes "--server_host=localhost" ∷ codes "--server_port=5"
+pub flags_of_grpc :
+    meaning_of (codes "case" ∷ codes "--server_host=localhost" ∷ codes "--server_port=5"
     ∷ codes "--test_case=large_unary" ∷ []) ≡ Some (try_case (case.run (record {
       names = codes "large_unary" ∷ [];
       host = codes "localhost";
@@ -152,8 +171,10 @@ pub flags_of_grpc : meaning_of (codes "case" ∷ codes "--server_host=localhost"
 unfolding clap_on_literals command_meant
 flags_of_grpc = refl
 
-pub flags_of_soaks : meaning_of (codes "case" ∷ codes "rpc_soak" ∷ codes "--port=5" ∷ codes "--soak_iterations=1000"
-    ∷ codes "--soak_max_failures=0" ∷ codes "--soak_overall_timeout_seconds=60" ∷ []) ≡ Some (try_case (case.run (record {
+pub flags_of_soaks :
+    meaning_of (codes "case" ∷ codes "rpc_soak" ∷ codes "--port=5" ∷ codes "--soak_iterations=1000"
+    ∷ codes "--soak_max_failures=0" ∷ codes "--soak_overall_timeout_seconds=60" ∷ [])
+    ≡ Some (try_case (case.run (record {
       names = codes "rpc_soak" ∷ [];
       host = codes "127.0.0.1";
       port = 5;
@@ -187,7 +208,9 @@ pub wire_list : meaning_of (codes "wire" ∷ codes "--list" ∷ []) ≡ Some (tr
 unfolding clap_on_literals command_meant
 wire_list = refl
 
-pub wire_cases : meaning_of (codes "wire" ∷ codes "grpc/4" ∷ codes "hpack" ∷ codes "--port=5" ∷ codes "--json" ∷ codes "-"
+pub wire_cases :
+    meaning_of (codes "wire" ∷ codes "grpc/4" ∷ codes "hpack" ∷ codes "--port=5"
+    ∷ codes "--json" ∷ codes "-"
     ∷ codes "--skip=grpc/5,hpack/1" ∷ codes "--skip=flow" ∷ codes "--level=must" ∷ [])
     ≡ Some (try_wire (run (record {
       names = codes "grpc/4" ∷ codes "hpack" ∷ [];
@@ -207,19 +230,28 @@ pub wire_cases : meaning_of (codes "wire" ∷ codes "grpc/4" ∷ codes "hpack" �
 unfolding clap_on_literals command_meant
 wire_cases = refl
 
-pub wire_list_of_cases : meaning_of (codes "wire" ∷ codes "all" ∷ codes "--list" ∷ codes "--port=5" ∷ []) ≡ None
+pub wire_list_of_cases :
+    meaning_of (codes "wire" ∷ codes "all" ∷ codes "--list" ∷ codes "--port=5" ∷ [])
+    ≡ None
 unfolding clap_on_literals command_meant
 wire_list_of_cases = refl
 
-pub output_for_two : meaning_of (codes "wire" ∷ codes "all" ∷ codes "--port=5" ∷ codes "--tap" ∷ codes "--json=-" ∷ []) ≡ None
+pub output_for_two :
+    meaning_of (codes "wire" ∷ codes "all" ∷ codes "--port=5" ∷ codes "--tap"
+    ∷ codes "--json=-" ∷ [])
+    ≡ None
 unfolding clap_on_literals command_meant
 output_for_two = refl
 
-pub level_of_no_name : meaning_of (codes "case" ∷ codes "all" ∷ codes "--port=5" ∷ codes "--level=may" ∷ []) ≡ None
+pub level_of_no_name :
+    meaning_of (codes "case" ∷ codes "all" ∷ codes "--port=5" ∷ codes "--level=may" ∷ [])
+    ≡ None
 unfolding clap_on_literals command_meant
 level_of_no_name = refl
 
-pub misbehaviours : meaning_of (codes "misbehave" ∷ codes "goaway" ∷ codes "ping" ∷ codes "--port=5" ∷ codes "--port-file=p" ∷ codes "--repeat=2" ∷ [])
+pub misbehaviours :
+    meaning_of (codes "misbehave" ∷ codes "goaway" ∷ codes "ping" ∷ codes "--port=5"
+    ∷ codes "--port-file=p" ∷ codes "--repeat=2" ∷ [])
     ≡ Some (misbehave (play (record {
       names = codes "goaway" ∷ codes "ping" ∷ [];
       host = codes "127.0.0.1";
@@ -232,31 +264,39 @@ pub misbehaviours : meaning_of (codes "misbehave" ∷ codes "goaway" ∷ codes "
 unfolding clap_on_literals command_meant
 misbehaviours = refl
 
-pub traced : meaning_of (codes "serve" ∷ codes "--any-port" ∷ codes "--trace" ∷ codes "--pcap=p" ∷ codes "--record" ∷ codes "d" ∷ []) ≡ Some (serve (record {
-  host = codes "127.0.0.1";
-  port = Any;
-  connections = None;
-  has_report = false;
-  log = None;
-  time = None;
-  drains_on_eof = false;
-  patience = 10;
-  files = no_files;
-  tracing = record { form = Some Short; lines = None; capture = Some (codes "p") };
-  record_in = Some (codes "d");
-}))
+pub traced :
+    meaning_of (codes "serve" ∷ codes "--any-port" ∷ codes "--trace" ∷ codes "--pcap=p"
+    ∷ codes "--record" ∷ codes "d" ∷ [])
+    ≡ Some (serve (record {
+      host = codes "127.0.0.1";
+      port = Any;
+      connections = None;
+      has_report = false;
+      log = None;
+      time = None;
+      drains_on_eof = false;
+      patience = 10;
+      files = no_files;
+      tracing = record { form = Some Short; lines = None; capture = Some (codes "p") };
+      record_in = Some (codes "d");
+    }))
 unfolding clap_on_literals command_meant
 traced = refl
 
-pub trace_of_no_form : meaning_of (codes "case" ∷ codes "--trace" ∷ codes "all" ∷ codes "--port=5" ∷ []) ≡ None
+pub trace_of_no_form :
+    meaning_of (codes "case" ∷ codes "--trace" ∷ codes "all" ∷ codes "--port=5" ∷ [])
+    ≡ None
 unfolding clap_on_literals command_meant
 trace_of_no_form = refl
 
-pub frames_of_two : meaning_of (codes "frames" ∷ codes "a" ∷ codes "b" ∷ codes "--full" ∷ codes "--side=server" ∷ []) ≡ Some (tell_frames (record {
-  files = codes "a" ∷ codes "b" ∷ [];
-  side = Some Server;
-  is_full = true;
-}))
+pub frames_of_two :
+    meaning_of (codes "frames" ∷ codes "a" ∷ codes "b" ∷ codes "--full"
+    ∷ codes "--side=server" ∷ [])
+    ≡ Some (tell_frames (record {
+      files = codes "a" ∷ codes "b" ∷ [];
+      side = Some Server;
+      is_full = true;
+    }))
 unfolding clap_on_literals command_meant
 frames_of_two = refl
 

@@ -8,7 +8,34 @@ ghost use Rattle.clap.specs.Simple.{App};
 ghost use Rattle.clap.specs.Words.{app_of, found_of, rows_of};
 ghost use Rattle.words.specs.Options.{IsCommand, IsOption};
 ghost use Rattle.words.specs.Reporting.{reporting as reporting_told};
-ghost use Rattle.words.specs.Case.{IsRun, IsTrial, acceptable_option, case_command, gap_option, host_option, is_cleartext, iterations_option, max_failures_option, names_of, overall_option, port_option, request_size_option, response_size_option, run_of, soak, soak_of, streams_option, timeout_option, times_option, tls_option, trial, trial_of, trial_run, with_credentials, with_soak};
+ghost use Rattle.words.specs.Case.{
+  IsRun,
+  IsTrial,
+  acceptable_option,
+  case_command,
+  gap_option,
+  host_option,
+  is_cleartext,
+  iterations_option,
+  max_failures_option,
+  names_of,
+  overall_option,
+  port_option,
+  request_size_option,
+  response_size_option,
+  run_of,
+  soak,
+  soak_of,
+  streams_option,
+  timeout_option,
+  times_option,
+  tls_option,
+  trial,
+  trial_of,
+  trial_run,
+  with_credentials,
+  with_soak,
+};
 
 use crate::options::{
     LOOPBACK, amount_of, amount_option, flag, has_flag, number_option, several, small_number_of,
@@ -19,7 +46,7 @@ use crate::tracing::{Tracing, tracing_of, with_tracing};
 use clap::{Arg, ArgMatches, Command};
 use std::alloc::{AllocError, Global};
 
-/// What a soak is told, as gRPC's own clients are.
+/// The words of a soak, as gRPC's own clients have them.
 #[derive(Clone, Copy, Debug, PartialEq, Eq)]
 pub struct SoakWords {
     /// How many calls it makes.
@@ -28,7 +55,7 @@ pub struct SoakWords {
     pub max_failures: u32,
     /// How many milliseconds a call may take.
     pub acceptable: u32,
-    /// How many seconds all may take; where it isn't said, as long as all calls may.
+    /// How many seconds all may take; if it isn't given, as long as all calls may.
     pub overall: Option<u32>,
     /// How many milliseconds there are at least from the beginning of a call to that of the next.
     pub gap: u32,
@@ -47,7 +74,7 @@ pub struct CaseRun<'a> {
     pub port: u16,
     /// How often it is run.
     pub times: u16,
-    /// How many runs go at a time, where their times are asked for.
+    /// How many runs go at a time, if their times are asked for.
     pub streams: Option<u16>,
     /// How many seconds a case may take.
     pub patience: u16,
@@ -56,7 +83,7 @@ pub struct CaseRun<'a> {
     pub reporting: Reporting<'a>,
 }
 
-/// What `case` is told.
+/// The words of `case`.
 #[derive(Drop)]
 pub enum CaseWords<'a> {
     /// Print the names that there are.
@@ -189,7 +216,7 @@ pub(crate) fn case_command<'a>(alloc: Global) -> Result<Command<'a>, AllocError>
     with_reporting(alloc, with_tracing(alloc, whole)?)
 }
 
-// A command that takes what gRPC's runners say of TLS, which means nothing without it.
+// A command that takes the options of gRPC's runners for TLS, which mean nothing without it.
 fn with_credentials<'a>(alloc: Global, command: Command<'a>) -> Result<Command<'a>, AllocError>
     ensures { (app : App) → IsCommand app command.entry
         → IfOk result (IsCommand (with_credentials app)) }
@@ -213,7 +240,7 @@ fn with_soak<'a>(alloc: Global, command: Command<'a>) -> Result<Command<'a>, All
         .arg(response_size_option(alloc))
 }
 
-// The words that choose the cases: they stand by themselves, or one after its option.
+// The words that choose the cases: by themselves, or one after its option.
 fn names_of<'a>(alloc: Global, options: &ArgMatches<'a>) -> Result<Option<Vec<&'a str>>, AllocError>
     ensures { IfOk result (λ names. option_map (λ found. map (λ name. name.now) found.items) names
         ≡ names_of (rows_of (found_of options.now))) }
@@ -260,7 +287,7 @@ fn soak_of(options: &ArgMatches<'_>) -> Option<SoakWords>
     })
 }
 
-// How the cases are run that these words choose, and what is told of them.
+// How the cases that these words choose are run and reported.
 fn run_of<'a>(
     options: &ArgMatches<'a>,
     names: Vec<&'a str>,

@@ -16,14 +16,14 @@ pub enum Side {
     Server,
 }
 
-/// Of which bytes the frames are told, and how.
+/// Which bytes' frames are printed, and how.
 #[derive(Drop)]
 pub struct FramesWords<'a> {
-    /// The files that have them: two at most. Where there is none, standard input does.
+    /// The files that have the bytes: at most two. Without one, standard input has them.
     pub files: Vec<&'a str>,
-    /// Which side sent those of the first, where that is said.
+    /// Which side sent the bytes of the first file, if that is given.
     pub side: Option<Side>,
-    /// Whether all bytes of values are told.
+    /// Whether all bytes of values are printed.
     pub is_full: bool,
 }
 
@@ -52,7 +52,7 @@ pub(crate) fn side_named(name: &str) -> Option<Side>
     }
 }
 
-// The side, if one is named; nothing where its name is no side's.
+// The side, if one is named; nothing if the name isn't a side's.
 fn side_of(options: &ArgMatches<'_>) -> Option<Option<Side>>
     ensures { result ≡ side_of (rows_of (found_of options.now)) }
 {

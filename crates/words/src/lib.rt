@@ -1,14 +1,15 @@
-//! The words of the program `interop`: which command they mean, or which of them is wrong and what would be right.
+//! The words of the command line, read by `clap`.
 //!
-//! `read_words` reads them by `clap`; its contract is `clap`'s meaning of the command line that `specs/Words.antt` defines.
+//! `read_words` reads them by `clap`; its contract is `clap`'s meaning of the command line that
+//! `specs/Words.antt` defines.
 //!
-//! - `body`, `serve`, `case`, `frames`, `own_server`, `misbehave`, `wire`: a file for the commands of a kind that have options: the
-//!   options, and what is read of them.
-//! - `read`: all commands, and `read_words`. A further command has a file of its own, a variant of `Words`, and a line each
-//!   in `COMMANDS`, `command_line` and `command_of`.
+//! - `body`, `serve`, `case`, `frames`, `own_server`, `misbehave`, `wire`: a file for the commands
+//!   of a kind that have options: the options, and what is read of them.
+//! - `read`: all commands, and `read_words`. A further command has a file of its own, a variant of
+//!   `Words`, and a line each in `COMMANDS`, `command_line` and `command_of`.
 //! - `options`: the kinds of option.
-//! - `reporting`: the options that the commands with cases share; `files`: those that servers share; `tracing`: those that all with
-//!   connections share.
+//! - `reporting`: the options that the commands with cases share; `files`: those that servers
+//!   share; `tracing`: those that all with connections share.
 //! - `reason`: why words mean no command.
 #![tactic(auto)]
 

@@ -1,8 +1,19 @@
-//! `misbehave NAME.. --port P`, with `--host H` and `--timeout S`; or `misbehave --list`, with `--verbose`.
+//! `misbehave NAME.. --port P`, with `--host H` and `--timeout S`; or `misbehave --list`, with
+//! `--verbose`.
 
 ghost use Rattle.std.specs.Prelude.{◌≡◌, ◌≤◌, false, IfOk, IfSome, map, option_map};
 ghost use Rattle.clap.specs.Words.{app_of, found_of, rows_of};
-ghost use Rattle.words.specs.Misbehave.{IsPlayable, IsRun, host_option, misbehave_command, misbehaving, misbehaving_of, run_of, run_told, seconds_option};
+ghost use Rattle.words.specs.Misbehave.{
+  IsPlayable,
+  IsRun,
+  host_option,
+  misbehave_command,
+  misbehaving,
+  misbehaving_of,
+  run_of,
+  run_told,
+  seconds_option,
+};
 ghost use Rattle.words.specs.Options.{IsCommand, IsOption};
 ghost use Rattle.words.specs.Reporting.{reporting as reporting_told};
 
@@ -21,7 +32,7 @@ use std::alloc::{AllocError, Global};
 pub struct MisbehaveRun<'a> {
     /// The words that choose the ways: one at least.
     pub names: Vec<&'a str>,
-    /// The address that is listened on, or a name for it.
+    /// The address on which the server listens, or a name for it.
     pub host: &'a str,
     /// The port of the first.
     pub port: u16,
@@ -32,12 +43,12 @@ pub struct MisbehaveRun<'a> {
     pub reporting: Reporting<'a>,
 }
 
-/// What `misbehave` is told.
+/// The words of `misbehave`.
 #[derive(Drop)]
 pub enum MisbehaveWords<'a> {
     /// Print the names that there are.
     List {
-        /// Whether what the server and the client do is told too.
+        /// Whether what the server and the client do is printed too.
         is_verbose: bool,
     },
     /// Misbehave.
@@ -78,7 +89,7 @@ pub(crate) fn misbehave_command<'a>(alloc: Global) -> Result<Command<'a>, AllocE
     with_reporting(alloc, with_tracing(alloc, with_files(alloc, command)?)?)
 }
 
-// How a server misbehaves in the ways that these words choose, and what is told of them.
+// How a server misbehaves in the ways that these words choose, and how that is reported.
 fn run_of<'a>(
     options: &ArgMatches<'a>,
     names: Vec<&'a str>,
@@ -104,7 +115,7 @@ fn run_of<'a>(
     })
 }
 
-// Names with a port, or neither of them with `--list`. `--verbose` stands with `--list` alone.
+// Names with a port, or neither of them with `--list`. Only `--list` may have `--verbose`.
 pub(crate) fn misbehaving_of<'a>(
     alloc: Global,
     options: &ArgMatches<'a>,

@@ -1,17 +1,30 @@
 //! The kinds of option that commands have, and what is read of their values.
 //!
-//! A number is read by `get_one::<usize>`; where it gave none, or one out of the range, there is none. `clap`'s parser has
-//! the same range, so this never decides.
+//! A number is read by `get_one::<usize>`. If that gives none, or one out of the range, there is
+//! none. `clap`'s parser has this range too, so this never decides.
 
 ghost use Rattle.std.specs.Prelude.{◌≡◌, ◌≢◌, ◌≤◌, false, IfOk, IfSome, map, option_map};
 ghost use Rattle.clap.specs.Words.{found_of, rows_of, rule_of};
-ghost use Rattle.words.specs.Options.{IsOption, amount_of, amount_option, flag, has_flag, number_of, number_option, several, some_texts_of, text_of, text_option, texts_of};
+ghost use Rattle.words.specs.Options.{
+  IsOption,
+  amount_of,
+  amount_option,
+  flag,
+  has_flag,
+  number_of,
+  number_option,
+  several,
+  some_texts_of,
+  text_of,
+  text_option,
+  texts_of,
+};
 
 use clap::builder::ValueParser;
 use clap::{Arg, ArgAction, ArgMatches, value_parser};
 use std::alloc::{AllocError, Global};
 
-/// The host of servers of which none is named.
+/// The host of a server if none is named.
 pub const LOOPBACK: &str = "127.0.0.1";
 
 /// The greatest number that an option takes, but for `--cut` and amounts.
@@ -99,7 +112,8 @@ pub(crate) fn amount_of(options: &ArgMatches<'_>, name: &str) -> Option<u32>
 
 // The text of an option, or of the word at a place.
 pub(crate) fn text_of<'a>(options: &ArgMatches<'a>, name: &str) -> Option<&'a str>
-    ensures { option_map (λ text. text.now) result ≡ text_of name.now (rows_of (found_of options.now)) }
+    ensures { option_map (λ text. text.now) result
+        ≡ text_of name.now (rows_of (found_of options.now)) }
 {
     options.get_str(name)
 }
@@ -126,7 +140,8 @@ pub(crate) fn texts_of<'a>(
     }
 }
 
-// The texts of an option that may be given several times, or of the words at a place, if there is one.
+// The texts of an option that may be given several times, or of the words at a place, if there is
+// one.
 pub(crate) fn some_texts_of<'a>(
     alloc: Global,
     options: &ArgMatches<'a>,

@@ -1,6 +1,19 @@
 //! All commands, and what the words of a command line mean.
 
-ghost use Rattle.std.specs.Prelude.{◌≡◌, ◌≢◌, ⊤, None, Some, IfErr, IfOk, IfSome, map, option_and_then, option_map, string_bytes};
+ghost use Rattle.std.specs.Prelude.{
+  ◌≡◌,
+  ◌≢◌,
+  ⊤,
+  None,
+  Some,
+  IfErr,
+  IfOk,
+  IfSome,
+  map,
+  option_and_then,
+  option_map,
+  string_bytes,
+};
 ghost use Rattle.clap.specs.Words.{app_of, found_of, rows_of, subcommand_rows_of};
 ghost use Rattle.words.specs.declared.read.WordsFault.TheVariants.{OutOfMemory};
 
@@ -29,12 +42,13 @@ pub const COMMANDS: [&str; 9] = [
     "wire",
 ];
 
-/// What the program is told to do.
+/// What the words ask the program to do.
 #[derive(Drop)]
 pub enum Words<'a> {
-    /// Print the messages of one call, whose bytes are taken in pieces of so many, 1 to `MAX_CUT`.
+    /// Print the messages of one call, whose bytes are taken in pieces of this size, 1 to
+    /// `MAX_CUT`.
     Body(usize),
-    /// Serve the connection in standard input, and print what it was answered with.
+    /// Serve the connection in standard input, and print what the server wrote.
     Parts,
     /// Serve connections.
     Serve(ServeWords<'a>),
@@ -48,7 +62,7 @@ pub enum Words<'a> {
     Misbehave(MisbehaveWords<'a>),
     /// Run wire cases against a server, or list them.
     Wire(WireWords<'a>),
-    /// Tell the frames in the bytes of connections.
+    /// Print the frames in the bytes of connections.
     Frames(FramesWords<'a>),
 }
 
@@ -57,11 +71,22 @@ pub enum Words<'a> {
 pub enum WordsFault<'a> {
     /// They mean no command.
     BadWords(Reason<'a>),
-    /// No memory was to be had.
+    /// There is no memory.
     OutOfMemory,
 }
 
-ghost use Rattle.words.specs.Words.{IsBad, IsInRange, bare_line, code_of, command_line, command_meant, command_of, meaning, meaning_of, plain_command_of};
+ghost use Rattle.words.specs.Words.{
+  IsBad,
+  IsInRange,
+  bare_line,
+  code_of,
+  command_line,
+  command_meant,
+  command_of,
+  meaning,
+  meaning_of,
+  plain_command_of,
+};
 
 impl<'a> WordsFault<'a> {
     /// The fault's number.
@@ -172,7 +197,8 @@ fn command_in<'a>(alloc: Global, matches: &ArgMatches<'a>) -> Result<Option<Word
 
 // The command that the words mean to `clap`, if they mean any.
 fn read_command<'a>(alloc: Global, words: &'a [String]) -> Result<Option<Words<'a>>, AllocError>
-    ensures value { IfOk result (λ told. option_map meaning told ≡ command_meant (map string_bytes words.now)) }
+    ensures value { IfOk result
+        (λ told. option_map meaning told ≡ command_meant (map string_bytes words.now)) }
     ensures in_range { IfOk result (λ told. IfSome told IsInRange) }
 {
     match command_line(alloc)?.try_get_matches_from(words) {
@@ -184,12 +210,15 @@ fn read_command<'a>(alloc: Global, words: &'a [String]) -> Result<Option<Words<'
     }
 }
 
-/// Reads the words after the program's name. No words at all are `body --cut 3`. They are read by `clap`'s rules: options come
-/// in any order, `--cut=3`, `--cut 3`, `--cut +3` and `--cut 003` are the same, and none is given twice.
+/// Reads the words after the program's name, by `clap`'s rules. No words at all are `body --cut 3`.
+/// Options come in any order, none comes twice, and `--cut=3`, `--cut 3`, `--cut +3` and
+/// `--cut 003` mean one thing.
 pub fn read_words<'a>(alloc: Global, words: &'a [String]) -> Result<Words<'a>, WordsFault<'a>>
-    ensures ok { IfOk result (λ told. meaning_of (map string_bytes words.now) ≡ Some (meaning told)) }
+    ensures ok { IfOk result
+        (λ told. meaning_of (map string_bytes words.now) ≡ Some (meaning told)) }
     ensures in_range { IfOk result IsInRange }
-    ensures bad { IfErr result (λ fault. IsBad fault → meaning_of (map string_bytes words.now) ≡ None) }
+    ensures bad { IfErr result
+        (λ fault. IsBad fault → meaning_of (map string_bytes words.now) ≡ None) }
 {
     if words.is_empty() {
         return Ok(Words::Body(3));

@@ -1,7 +1,8 @@
 //! Why words mean no command: which of them is wrong, and what would be right.
 //!
-//! That the words mean none was found by `clap`. Here the words are walked over once more, in `clap`'s order, for the first
-//! of them that the command does not take; where each is taken, something is missing, or two things exclude each other.
+//! `clap` has found that the words mean none. This module goes over the words once more, in
+//! `clap`'s order, for the first that the command doesn't take. If it takes each, something is
+//! missing, or two things exclude each other.
 
 use crate::frames::side_named;
 use crate::read::{COMMANDS, command_line};
@@ -85,7 +86,7 @@ fn has_connections(command: &str) -> bool {
     has_cases(command) || command == "serve"
 }
 
-/// Adds the options that commands share, where a command takes them.
+/// Adds the options that commands share, if a command takes them.
 fn push_shared<W: fmt::Write>(f: &mut fmt::Formatter<W>, command: &str) -> fmt::Result {
     if has_connections(command) {
         let shared = tracing::TAKES;
@@ -142,7 +143,7 @@ impl<'a> fmt::Display for Reason<'a> {
     }
 }
 
-/// Why these words mean no command, where that is so.
+/// Why these words mean no command, if that is so.
 pub(crate) fn reason_of<'a>(alloc: Global, words: &'a [String]) -> Result<Reason<'a>, AllocError> {
     let Some((first, behind)) = words.split_first() else {
         return Ok(Reason::NoCommand { word: "" });
@@ -155,7 +156,7 @@ pub(crate) fn reason_of<'a>(alloc: Global, words: &'a [String]) -> Result<Reason
     })
 }
 
-/// Why the words behind a command are not those that it takes.
+/// Why the words after a command are not those that it takes.
 fn reason_behind<'a>(name: &'a str, command: &Command<'a>, words: &'a [String]) -> Reason<'a> {
     let mut waiting: Option<Given<'_, 'a>> = None;
     let has_place = command
@@ -254,7 +255,7 @@ fn is_option(word: &str) -> bool {
     word.len() > 1 && word.starts_with('-')
 }
 
-/// The option without its value, and its value where that is attached.
+/// The option without its value, and its value if that is attached.
 fn parts_of(word: &str) -> (&str, Option<&str>) {
     match word.split_once('=') {
         Some((option, value)) => (option, Some(value)),
@@ -275,7 +276,8 @@ fn arg_of<'c, 'a>(name: &str, command: &'c Command<'a>, option: &str) -> Option<
         .find(|arg| arg.get_long().is_some_and(|known| known == long))
 }
 
-/// The option of a word, where its value is the next word, or why it is wrong behind the words before it.
+/// The option of a word, if its value is the next word; or why it is wrong after the words before
+/// it.
 fn given_by<'c, 'a>(
     name: &'a str,
     command: &'c Command<'a>,
@@ -309,8 +311,8 @@ fn given_by<'c, 'a>(
     }
 }
 
-/// Why the words behind a command are not enough, or too many, where it takes each of them. `is_placed` tells whether one
-/// of them stands for itself.
+/// Why the words after a command are not enough, or too many, if it takes each of them. `is_placed`
+/// says whether one of them stands for itself.
 fn reason_of_whole<'a>(command: &'a str, words: &[String], is_placed: bool) -> Reason<'a> {
     match excluding(command, words, is_placed) {
         Some(both) => Reason::Excluding { both },

@@ -1,13 +1,35 @@
-//! The options that `case`, `wire` and `misbehave` share: which cases are left out, how often they are run, and in which forms
-//! their outcomes are told. `--json FILE`, `--junit FILE`, `--tap`, `--save DIR`, `--known FILE`, `--write-known FILE`, `--skip
-//! WORDS`, `--level LEVEL`, `--repeat N`, `--fail-fast`.
+//! The options that `case`, `wire` and `misbehave` share: which cases are left out, how often cases
+//! are run, and in which forms outcomes are reported. `--json FILE`, `--junit FILE`, `--tap`,
+//! `--save DIR`, `--known FILE`, `--write-known FILE`, `--skip WORDS`, `--level LEVEL`,
+//! `--repeat N`, `--fail-fast`.
 
-ghost use Rattle.std.specs.Prelude.{◌≡◌, ◌==◌, ◌≤◌, ◌++◌, false, IfOk, IfSome, OnOk, map, option_map};
+ghost use Rattle.std.specs.Prelude.{
+  ◌≡◌,
+  ◌==◌,
+  ◌≤◌,
+  ◌++◌,
+  false,
+  IfOk,
+  IfSome,
+  OnOk,
+  map,
+  option_map,
+};
 ghost use Rattle.std.specs.List.{flat_map, slice_split};
 ghost use Rattle.clap.specs.Simple.{App};
 ghost use Rattle.clap.specs.Words.{found_of, rows_of};
 ghost use Rattle.words.specs.Options.{IsCommand, IsOption};
-ghost use Rattle.words.specs.Reporting.{level_of, repeat_option, reporting, reporting_of, skip_option, skipped_of, wants_output_twice, with_forms, with_reporting};
+ghost use Rattle.words.specs.Reporting.{
+  level_of,
+  repeat_option,
+  reporting,
+  reporting_of,
+  skip_option,
+  skipped_of,
+  wants_output_twice,
+  with_forms,
+  with_reporting,
+};
 
 use crate::options::{
     flag, has_flag, number_option, small_number_of, text_of, text_option, texts_of,
@@ -16,7 +38,7 @@ use clap::{Arg, ArgAction, ArgMatches, Command};
 use results::Level;
 use std::alloc::{AllocError, Global};
 
-/// What is told of outcomes, and which cases are left out.
+/// How outcomes are reported, and which cases are left out.
 #[derive(Drop)]
 pub struct Reporting<'a> {
     /// The file for JSON, or `-` for standard output.
@@ -27,7 +49,7 @@ pub struct Reporting<'a> {
     pub has_tap: bool,
     /// The folder for the bytes of cases that failed.
     pub save: Option<&'a str>,
-    /// The file with the known failures, and the file that they are written to.
+    /// The file with the known failures, and the file to which they are written.
     pub known: Option<&'a str>,
     pub write_known: Option<&'a str>,
     /// What chooses the cases that are left out.
@@ -82,7 +104,8 @@ pub(crate) fn with_reporting<'a>(
     alloc: Global,
     command: Command<'a>,
 ) -> Result<Command<'a>, AllocError>
-    ensures { (app : App) → IsCommand app command.entry → IfOk result (IsCommand (with_reporting app)) }
+    ensures { (app : App) → IsCommand app command.entry
+        → IfOk result (IsCommand (with_reporting app)) }
 {
     with_forms(alloc, command)?
         .arg(skip_option(alloc))?
@@ -129,7 +152,7 @@ fn skipped_of<'a>(alloc: Global, options: &ArgMatches<'a>) -> Result<Vec<&'a str
     all_parts_of(alloc, texts.as_slice())
 }
 
-// The level, if one is named; nothing where its name is no level's.
+// The level, if one is named; nothing if the name isn't a level's.
 fn level_of(options: &ArgMatches<'_>) -> Option<Option<Level>>
     ensures { result ≡ level_of (rows_of (found_of options.now)) }
 {
@@ -149,7 +172,7 @@ pub(crate) fn wants_output_twice(options: &ArgMatches<'_>) -> bool
     }
 }
 
-// What is told of outcomes.
+// How outcomes are reported.
 pub(crate) fn reporting_of<'a>(
     alloc: Global,
     options: &ArgMatches<'a>,

@@ -1,10 +1,26 @@
-//! `serve --port P`, or `serve --any-port`, with `--host H`, `--conns N`, `--report`, `--log`, or `--log json`, `--time T`,
-//! `--drain-on-eof`, `--drain-timeout S`, `--record DIR`, the files of `files`, and what `tracing` has.
+//! `serve --port P`, or `serve --any-port`, with `--host H`, `--conns N`, `--report`, `--log`, or
+//! `--log json`, `--time T`, `--drain-on-eof`, `--drain-timeout S`, `--record DIR`, the files of
+//! `files`, and what `tracing` has.
 
 ghost use Rattle.std.specs.Prelude.{◌≡◌, ◌≤◌, false, IfOk, IfSome, option_map};
 ghost use Rattle.clap.specs.Words.{app_of, found_of, rows_of};
 ghost use Rattle.words.specs.Options.{IsCommand, IsOption};
-ghost use Rattle.words.specs.Serve.{IsPort, IsServing, form_of, host_option, log_of, log_option, patience_option, port_of, serve_command, serving, serving_of, time_form_of, time_of, time_option};
+ghost use Rattle.words.specs.Serve.{
+  IsPort,
+  IsServing,
+  form_of,
+  host_option,
+  log_of,
+  log_option,
+  patience_option,
+  port_of,
+  serve_command,
+  serving,
+  serving_of,
+  time_form_of,
+  time_of,
+  time_option,
+};
 
 use crate::files::{Files, files_of, with_files};
 use crate::options::{
@@ -41,21 +57,21 @@ pub enum TimeForm {
     Utc,
 }
 
-/// What `serve` is told.
+/// The words of `serve`.
 #[derive(Clone, Copy, Debug, PartialEq, Eq)]
 pub struct ServeWords<'a> {
     /// The address that it listens on, or a name for it.
     pub host: &'a str,
     pub port: Port,
-    /// How many connections it serves before it ends, where it ends.
+    /// How many connections it serves before it ends, if it ends.
     pub connections: Option<u16>,
     /// Whether it prints the report on each.
     pub has_report: bool,
-    /// How it tells what happens, as it does, if it does.
+    /// In which form it logs what happens, if it does.
     pub log: Option<LogForm>,
-    /// How the log says when, where that is told.
+    /// In which form the log says when, if it does.
     pub time: Option<TimeForm>,
-    /// Whether it drains its connections, and ends, where standard input closes.
+    /// Whether it drains its connections, and ends, when standard input closes.
     pub drains_on_eof: bool,
     /// How many seconds it waits at most for connections that it drains.
     pub patience: u16,
@@ -145,7 +161,7 @@ pub(crate) fn form_of(name: &str) -> Option<LogForm>
     }
 }
 
-// The form of the log, if there is to be one; nothing where its name is no form's.
+// The form of the log, if there is to be one; nothing if the name isn't a form's.
 fn log_of(options: &ArgMatches<'_>) -> Option<Option<LogForm>>
     ensures { result ≡ log_of (rows_of (found_of options.now)) }
 {
@@ -166,7 +182,7 @@ pub(crate) fn time_form_of(name: &str) -> Option<TimeForm>
     }
 }
 
-// The form of the log's times, if one is given; nothing where its name is no form's.
+// The form of the log's times, if one is given; nothing if the name isn't a form's.
 fn time_of(options: &ArgMatches<'_>) -> Option<Option<TimeForm>>
     ensures { result ≡ time_of (rows_of (found_of options.now)) }
 {

@@ -1,11 +1,19 @@
-//! The options that `serve`, `case`, `wire` and `misbehave` share: `--trace`, also `--trace short` and `--trace full`,
-//! `--trace-file FILE` and `--pcap FILE`.
+//! The options that `serve`, `case`, `wire` and `misbehave` share: `--trace`, also `--trace short`
+//! and `--trace full`, `--trace-file FILE` and `--pcap FILE`.
 
 ghost use Rattle.std.specs.Prelude.{◌≡◌, IfOk, option_map};
 ghost use Rattle.clap.specs.Simple.{App};
 ghost use Rattle.clap.specs.Words.{found_of, rows_of};
 ghost use Rattle.words.specs.Options.{IsCommand, IsOption};
-ghost use Rattle.words.specs.Tracing.{form_of, is_shown, trace_of, trace_option, tracing, tracing_of, with_tracing};
+ghost use Rattle.words.specs.Tracing.{
+  form_of,
+  is_shown,
+  trace_of,
+  trace_option,
+  tracing,
+  tracing_of,
+  with_tracing,
+};
 
 use crate::options::{text_of, text_option};
 use clap::{Arg, ArgMatches, Command};
@@ -20,7 +28,7 @@ pub enum TraceForm {
     Full,
 }
 
-/// Where it is written what passes on connections.
+/// The places to which what passes on connections is written.
 #[derive(Clone, Copy, Debug, PartialEq, Eq)]
 pub struct Tracing<'a> {
     /// How much the line of each frame says, if there are lines.
@@ -60,7 +68,8 @@ pub(crate) fn with_tracing<'a>(
     alloc: Global,
     command: Command<'a>,
 ) -> Result<Command<'a>, AllocError>
-    ensures { (app : App) → IsCommand app command.entry → IfOk result (IsCommand (with_tracing app)) }
+    ensures { (app : App) → IsCommand app command.entry
+        → IfOk result (IsCommand (with_tracing app)) }
 {
     command
         .arg(trace_option(alloc))?
@@ -79,7 +88,8 @@ pub(crate) fn form_of(name: &str) -> Option<TraceForm>
     }
 }
 
-// The form of lines, if there are to be any: a file for them asks for them too. Nothing where a name is no form's.
+// The form of lines, if there are to be any: a file for them asks for them too. Nothing where a
+// name is no form's.
 fn trace_of(options: &ArgMatches<'_>) -> Option<Option<TraceForm>>
     ensures { result ≡ trace_of (rows_of (found_of options.now)) }
 {
@@ -90,7 +100,7 @@ fn trace_of(options: &ArgMatches<'_>) -> Option<Option<TraceForm>>
     }
 }
 
-// Where it is written what passes.
+// The places to which what passes is written.
 pub(crate) fn tracing_of<'a>(options: &ArgMatches<'a>) -> Option<Tracing<'a>>
     ensures { option_map tracing result ≡ tracing_of (rows_of (found_of options.now)) }
 {

@@ -1,11 +1,20 @@
-//! `wire CASES.. --port P`, with `--host H`, `--silence S`, `--timeout T`, `--jobs N` and `--verbose`; or
-//! `wire --list`.
+//! `wire CASES.. --port P`, with `--host H`, `--silence S`, `--timeout T`, `--jobs N` and
+//! `--verbose`; or `wire --list`.
 
 ghost use Rattle.std.specs.Prelude.{◌≡◌, ◌≤◌, false, IfOk, IfSome, map, option_map};
 ghost use Rattle.clap.specs.Words.{app_of, found_of, rows_of};
 ghost use Rattle.words.specs.Options.{IsCommand, IsOption};
 ghost use Rattle.words.specs.Reporting.{reporting as reporting_told};
-ghost use Rattle.words.specs.Wire.{IsInRange, IsRun, host_option, jobs_option, limit_option, run_of, run_told, silence_option};
+ghost use Rattle.words.specs.Wire.{
+  IsInRange,
+  IsRun,
+  host_option,
+  jobs_option,
+  limit_option,
+  run_of,
+  run_told,
+  silence_option,
+};
 ghost use Rattle.words.specs.Wire.{told, told_of, wire_command};
 
 use crate::options::{
@@ -25,19 +34,19 @@ pub struct WireRun<'a> {
     /// The address of the server, or a name for it.
     pub host: &'a str,
     pub port: u16,
-    /// A case waits no longer than so many milliseconds in which nothing comes.
+    /// How many milliseconds a case waits at most while nothing comes.
     pub silence: u16,
-    /// A connection of a case takes no longer than so many seconds.
+    /// How many seconds a connection of a case takes at most.
     pub limit: u16,
-    /// So many cases are run side by side.
+    /// How many cases are run side by side.
     pub jobs: u16,
-    /// Whether each case's section, and what was written, is told too.
+    /// Whether each case's section, and what was written, is printed too.
     pub is_verbose: bool,
     pub tracing: Tracing<'a>,
     pub reporting: Reporting<'a>,
 }
 
-/// What `wire` is told.
+/// The words of `wire`.
 #[derive(Drop)]
 pub enum WireWords<'a> {
     /// Print a line of each case that there is.
@@ -93,7 +102,7 @@ pub(crate) fn wire_command<'a>(alloc: Global) -> Result<Command<'a>, AllocError>
     with_reporting(alloc, with_tracing(alloc, command)?)
 }
 
-// How the cases are run that these words choose, and what is told of them.
+// How the cases that these words choose are run and reported.
 fn run_of<'a>(
     options: &ArgMatches<'a>,
     names: Vec<&'a str>,

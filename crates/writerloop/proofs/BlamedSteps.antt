@@ -8,23 +8,41 @@ use Rattle.outwriter.specs.Steps.{Step, Taken, order_of}
 use Rattle.writerloop.specs.Blamed.{WouldOverflow}
 
 -- as the run goes on
-pub overflow-later : (id : ℕ) (steps run : List Step) → WouldOverflow id run → WouldOverflow id (steps ++ run)
+pub overflow-later : (id : ℕ) (steps run : List Step) → WouldOverflow id run
+    → WouldOverflow id (steps ++ run)
 overflow-later id steps run over = record {
   order = over.order;
   before = over.before;
   later = steps ++ over.later;
-  taken = ap (λ (all : List Step). steps ++ all) over.taken ∙ sym (append_assoc steps over.later (Taken over.order ∷ over.before));
+  taken =
+      ap (λ (all : List Step). steps ++ all) over.taken
+      ∙ sym (append_assoc steps over.later (Taken over.order ∷ over.before));
   concerns = over.concerns;
   blames = over.blames;
 }
 
 module _ {S : Type 0} where
   -- by an order that was taken
-  pub overflow-now : (one : Control S) (id : ℕ) (run : List Step) → Concerns (PeerWindow id) one → Blames (PeerWindow id) one run → WouldOverflow id (Taken (order_of one) ∷ run)
+  pub overflow-now : (one : Control S) (id : ℕ) (run : List Step) → Concerns (PeerWindow id) one
+      → Blames (PeerWindow id) one run → WouldOverflow id (Taken (order_of one) ∷ run)
   overflow-now (control.Settings settings) id run concerns blames =
-      record { order = control.Settings settings; before = run; later = []; taken = refl; concerns = concerns; blames = blames }
+      record {
+        order = control.Settings settings;
+        before = run;
+        later = [];
+        taken = refl;
+        concerns = concerns;
+        blames = blames;
+      }
   overflow-now (control.Window stream n) id run concerns blames =
-      record { order = control.Window stream n; before = run; later = []; taken = refl; concerns = concerns; blames = blames }
+      record {
+        order = control.Window stream n;
+        before = run;
+        later = [];
+        taken = refl;
+        concerns = concerns;
+        blames = blames;
+      }
   overflow-now (control.Ping bytes) id run concerns blames = absurd concerns
   overflow-now (control.Probe bytes) id run concerns blames = absurd concerns
   overflow-now (control.Open stream sender) id run concerns blames = absurd concerns

@@ -1,5 +1,32 @@
 -- What is left of a connection's writer at its end.
-use Rattle.std.proofs.Common.{◌≡◌, ◌≢◌, ◌⊎◌, ◌∙◌, inl, inr, ℕ, Bool, true, false, true≢false, List, [], ◌∷◌, ◌++◌, Option, None, Some, ap, append-nil, sym, refl, map, subst, ◌||◌, if◌then◌else◌}
+use Rattle.std.proofs.Common.{
+  ◌≡◌,
+  ◌≢◌,
+  ◌⊎◌,
+  ◌∙◌,
+  inl,
+  inr,
+  ℕ,
+  Bool,
+  true,
+  false,
+  true≢false,
+  List,
+  [],
+  ◌∷◌,
+  ◌++◌,
+  Option,
+  None,
+  Some,
+  ap,
+  append-nil,
+  sym,
+  refl,
+  map,
+  subst,
+  ◌||◌,
+  if◌then◌else◌,
+}
 use Rattle.std.specs.Prelude.{All}
 use Rattle.std.proofs.lemmas.List.Elements.{All-append, All-map, All-nil, All-push, All-weaker}
 use Rattle.account.specs.declared.call.OutItem.{OutItem}
@@ -25,46 +52,55 @@ use Rattle.writerloop.specs.declared.sends.Sends.{Sends}
 use Rattle.writerloop.specs.declared.standing.Standing.TheVariants as stands
 use Rattle.writerloop.specs.declared.writing.Senders.{Senders}
 use Rattle.writerloop.specs.declared.writing.Writing.{Writing}
-use Rattle.writerloop.specs.Blamed.{WouldOverflow}
+use Rattle.writerloop.specs.Blamed.{WouldOverflow, blames_in}
 use Rattle.writerloop.specs.Orders.{Obeys, order_in, orders_of}
 use Rattle.writerloop.specs.Rest.{rest_calls}
 use Rattle.writerloop.specs.Sent.{AreApart, HasAll, IsBack, IsTold, got_of, handed_calls, opens}
 use Rattle.writerloop.specs.Spelled.{IsFront, IsAll}
 use Rattle.writerloop.specs.Written.{HasSent, HasWritten, IsFlushed, LedOut, core_of}
-use Rattle.writerloop.proofs.OrderSteps.{given-all, obeys-lost, obeys-more, unopened}
+use Rattle.writerloop.proofs.OrderSteps.{obeys-lost, obeys-more, unopened}
 use Rattle.writerloop.proofs.SentSteps.{apart-last, plain-front}
 use Rattle.writerloop.proofs.WrittenSteps.{among-opens}
 
 -- ---- streams that were never opened
 
-fresh-by : (opens_it fresh : Bool) (id : ℕ) (before : List Step) → (opens_it || is_opened id before) ≡ false → (is_opened id before ≡ false → is_served id before ≡ false)
+fresh-by : (opens_it fresh : Bool) (id : ℕ) (before : List Step)
+    → (opens_it || is_opened id before) ≡ false
+    → (is_opened id before ≡ false → is_served id before ≡ false)
     → (if opens_it then fresh else is_served id before) ≡ false
 fresh-by true fresh id before never served = absurd (true≢false never)
 fresh-by false fresh id before never served = served never
 
 unserved : (id : ℕ) (run : List Step) → is_opened id run ≡ false → is_served id run ≡ false
 unserved id [] never = refl
-unserved id (Taken order ∷ before) never = fresh-by (opens_stream id order) (is_fresh id before) id before never (unserved id before)
+unserved id (Taken order ∷ before) never =
+    fresh-by (opens_stream id order) (is_fresh id before) id before never (unserved id before)
 unserved id (Granted stream n ∷ before) never = unserved id before never
 unserved id (Returned stream items ∷ before) never = unserved id before never
 unserved id (Written frame ∷ before) never = unserved id before never
 
-told-none : (run : List Step) (id : ℕ) (items : List OutItem) → is_opened id run ≡ false → IsTold run (id, items)
+told-none : (run : List Step) (id : ℕ) (items : List OutItem) → is_opened id run ≡ false
+    → IsTold run (id, items)
 told-none run id items never served = absurd (true≢false (sym served ∙ unserved id run never))
 
-told-back : (run : List Step) (id : ℕ) (sender : Option OutSender) → TellReturned run → IsBack run id sender → IsTold run (id, got_of sender)
+told-back : (run : List Step) (id : ℕ) (sender : Option OutSender) → TellReturned run
+    → IsBack run id sender → IsTold run (id, got_of sender)
 told-back run id None tells back = absurd back
 told-back run id (Some sender) tells (inl returned) = tells id (got sender.rx) returned
 told-back run id (Some sender) tells (inr never) = told-none run id (got sender.rx) never.0
 
 module _ {J : Type 0} {naming : Ghosts J} where
   -- of an order that was set aside
-  told-aside : (given : List (Control (Opening J naming))) (aside : Option (Control (Opening J naming))) (run : List Step) → AreApart (given ++ order_in aside) → Obeys true (orders_of given) run
+  told-aside : (given : List (Control (Opening J naming)))
+      (aside : Option (Control (Opening J naming))) (run : List Step)
+      → AreApart (given ++ order_in aside) → Obeys true (orders_of given) run
       → All (IsTold run) (map (λ call. (call.1, [])) (opens (order_in aside)))
   told-aside given None run apart obeys = All-nil (IsTold run)
   told-aside given (Some (control.Open id opening)) run apart obeys =
       All-push (IsTold run) [] (id, []) (All-nil (IsTold run))
-      (told-none run id [] (unopened true (orders_of given) run id (λ among. let found = among-opens given id among in apart-last given id opening apart found.0 found.1) obeys))
+      (told-none run id [] (unopened true (orders_of given) run id (λ among.
+      let found = among-opens given id among in
+      apart-last given id opening apart found.0 found.1) obeys))
   told-aside given (Some (control.Settings settings)) run apart obeys = All-nil (IsTold run)
   told-aside given (Some (control.Ping bytes)) run apart obeys = All-nil (IsTold run)
   told-aside given (Some (control.Probe bytes)) run apart obeys = All-nil (IsTold run)
@@ -75,106 +111,141 @@ module _ {J : Type 0} {naming : Ghosts J} where
   told-aside given (Some control.InputEnded) run apart obeys = All-nil (IsTold run)
   told-aside given (Some control.Close) run apart obeys = All-nil (IsTold run)
 
-module _ {J W : Type 0} {naming : Ghosts J} {conn : ConnGhosts W} (contents : W → Option (List ℕ)) (failed : W → Bool) where
+module _ {J W : Type 0} {naming : Ghosts J} {conn : ConnGhosts W} (contents : W → Option (List ℕ))
+    (failed : W → Bool) where
   -- what is left of a writer whose buffer is flushed
-  pub has-written : (before : Option (List ℕ)) (credit : ℕ) (writer : Writing J W naming conn) (device : W) (told : Option Ending) (faultless : Bool) → device ≡ writer.frames.device → IsFlushed writer
+  pub has-written : (before : Option (List ℕ)) (credit : ℕ) (writer : Writing J W naming conn)
+      (device : W) (told : Option Ending)
+      → device ≡ writer.frames.device → IsFlushed writer
       → (led : LedOut contents failed before credit writer)
       → TellOthers led.2.0
       → IsFront (frames_of led.2.0) before (contents device)
-      → (writer.frames.standing ≢ stands.Broken → writer.frames.buffer.items ≡ [] → IsAll (frames_of led.2.0) before (contents device))
+      → (writer.frames.standing ≢ stands.Broken → writer.frames.buffer.items ≡ []
+      → IsAll (frames_of led.2.0) before (contents device))
       → (told ≡ Some ending.WriteFailed → writer.frames.standing ≡ stands.Broken)
-      → (told ≢ Some ending.OutOfMemory → told ≢ Some ending.WriteFailed → (writer.inbox.has_lost ≡ false) × (writer.inbox.set_aside ≡ None))
-      → (told ≢ Some ending.OutOfMemory → told ≢ Some ending.WriteFailed → writer.frames.standing ≡ stands.Going)
-      → (faultless ≡ true → has_failed led.2.0 ≡ false)
-      → (written : HasWritten contents failed before credit (orders_of (taken writer.inbox.ring)) told faultless device) × (written.run ≡ led.2.0)
-  has-written before credit writer device told faultless same flushed led others front all broken each going clean =
+      → (told ≢ Some ending.OutOfMemory → told ≢ Some ending.WriteFailed
+      → writer.inbox.has_lost ≡ false)
+      → (told ≢ Some ending.OutOfMemory → told ≢ Some ending.WriteFailed
+      → writer.frames.standing ≡ stands.Going)
+      → (written : HasWritten contents failed before credit (orders_of led.0) told false device)
+      × (written.run ≡ led.2.0)
+  has-written before credit writer device told same flushed led others front all broken each going =
       let ends = led.2 in
       let standing = writer.frames.standing in
-      let sound : failed device ≡ false → standing ≢ stands.Broken = λ unmarked stood. true≢false (sym (ap failed same ∙ ends.1.marked stood) ∙ unmarked) in (
+      let sound : failed device ≡ false → standing ≢ stands.Broken = λ unmarked stood.
+      true≢false (sym (ap failed same ∙ ends.1.marked stood) ∙ unmarked) in (
         record {
           run = ends.0;
           lawful = ends.1.leads.lawful;
           credited = ends.4;
-          some =
-              subst (λ (orders : List Order). Obeys true orders ends.0) (sym (given-all led.0 writer.inbox led.1))
-              (obeys-more (orders_of led.0) (orders_of (order_in writer.inbox.set_aside)) ends.0 (obeys-lost writer.inbox.has_lost (orders_of led.0) ends.0 ends.2));
+          some = obeys-lost writer.inbox.has_lost (orders_of led.0) ends.0 ends.2;
           each = λ spared sent.
-              let found = each spared sent in
-              let none : orders_of led.0 ≡ orders_of (taken writer.inbox.ring) =
-              sym (given-all led.0 writer.inbox led.1 ∙ (ap (λ (aside : Option (Control (Opening J naming))). orders_of led.0 ++ orders_of (order_in aside)) found.1 ∙ append-nil (orders_of led.0))) in
-              subst (λ (orders : List Order). Obeys false orders ends.0) none (subst (λ (lost : Bool). Obeys lost (orders_of led.0) ends.0) found.0 ends.2);
+              subst (λ (lost : Bool). Obeys lost (orders_of led.0) ends.0)
+              (each spared sent) ends.2;
           others = others;
           marked = λ sent. ap failed same ∙ ends.1.marked (broken sent);
           front = front;
           all = λ unmarked. all (sound unmarked) (flushed (sound unmarked));
           over = λ spared sent. ends.5 (going spared sent);
-          sound = clean;
+          sound = λ is. absurd (true≢false (sym is));
         },
         refl,
       )
 
   -- what is left of its senders too
-  pub has-sent : (before : Option (List ℕ)) (credit : ℕ) (writer : Writing J W naming conn) (rest : Senders J naming) (device : W) (told : Option Ending) (faultless : Bool) (led : LedOut contents failed before credit writer)
-      → (written : HasWritten contents failed before credit (orders_of (taken writer.inbox.ring)) told faultless device) → written.run ≡ led.2.0
-      → rest.aside ≡ writer.inbox.set_aside → rest.sends ≡ writer.sends → rest.core.items ≡ core_of writer
+  pub has-sent : (before : Option (List ℕ)) (credit : ℕ) (writer : Writing J W naming conn)
+      (rest : Senders J naming) (device : W) (told : Option Ending)
+      (led : LedOut contents failed before credit writer)
+      → (written : HasWritten contents failed before credit (orders_of led.0) told false device)
+      → written.run ≡ led.2.0
+      → rest.aside ≡ writer.inbox.set_aside → rest.sends ≡ writer.sends
+      → rest.core.items ≡ core_of writer
       → TellFronts led.2.0 (calls got (core_of writer)) → TellReturned led.2.0
-      → (told ≢ Some ending.OutOfMemory → told ≢ Some ending.WriteFailed → (writer.inbox.has_lost ≡ false) × (writer.inbox.set_aside ≡ None))
-      → ((code : ErrorCode) → told ≡ Some (ending.ProtocolError code) → (code ≡ FlowControlError) × (writer.blames ≡ true))
-      → HasSent contents failed before credit (taken writer.inbox.ring) rest told faultless device
-  has-sent before credit writer rest device told faultless led written same aside sends core fronts returned each blames =
+      → ((code : ErrorCode) → told ≡ Some (ending.ProtocolError code)
+      → (code ≡ FlowControlError) × (writer.blames ≡ true))
+      → (told ≡ None → writer.blames ≡ false)
+      → HasSent contents failed before credit (taken writer.inbox.ring) rest told device
+  has-sent before credit writer rest device told led written same aside sends core fronts
+      returned blames unblamed =
       let run : List Step = written.run in
-      let are : taken writer.inbox.ring ≡ led.0 ++ order_in rest.aside = sym led.1 ∙ ap (λ (one : Option (Control (Opening J naming))). led.0 ++ order_in one) (sym aside) in
+      let are : taken writer.inbox.ring ≡ led.0 ++ order_in rest.aside =
+      sym led.1
+      ∙ ap (λ (one : Option (Control (Opening J naming))). led.0 ++ order_in one) (sym aside) in
       let has : HasAll led.0 run rest.sends.calls.items rest.core.items (put_in rest.sends.home) =
-      subst (λ (steps : List Step). HasAll led.0 steps rest.sends.calls.items rest.core.items (put_in rest.sends.home)) (sym same)
-      (subst (λ (senders : List (ℕ × OutSender)). HasAll led.0 led.2.0 rest.sends.calls.items senders (put_in rest.sends.home)) (sym core)
-      (subst (λ (all : Sends J naming). HasAll led.0 led.2.0 all.calls.items (core_of writer) (put_in all.home)) (sym sends) led.2.3.senders)) in
+      subst (λ (steps : List Step).
+      HasAll led.0 steps rest.sends.calls.items rest.core.items (put_in rest.sends.home)) (sym same)
+      (subst (λ (senders : List (ℕ × OutSender)).
+      HasAll led.0 led.2.0 rest.sends.calls.items senders (put_in rest.sends.home)) (sym core)
+      (subst (λ (all : Sends J naming).
+      HasAll led.0 led.2.0 all.calls.items (core_of writer) (put_in all.home)) (sym sends)
+      led.2.3.senders)) in
       let obeys : Obeys true (orders_of led.0) run =
-      subst (λ (steps : List Step). Obeys true (orders_of led.0) steps) (sym same) (obeys-lost writer.inbox.has_lost (orders_of led.0) led.2.0 led.2.2) in
+      subst (λ (steps : List Step). Obeys true (orders_of led.0) steps) (sym same)
+      (obeys-lost writer.inbox.has_lost (orders_of led.0) led.2.0 led.2.2) in
       let tells : TellFronts run (calls got rest.core.items) =
       subst (λ (steps : List Step). TellFronts steps (calls got rest.core.items)) (sym same)
-      (subst (λ (senders : List (ℕ × OutSender)). TellFronts led.2.0 (calls got senders)) (sym core) fronts) in
-      let gives : TellReturned run = subst (λ (steps : List Step). TellReturned steps) (sym same) returned in
+      (subst (λ (senders : List (ℕ × OutSender)). TellFronts led.2.0 (calls got senders))
+      (sym core) fronts) in
+      let gives : TellReturned run =
+      subst (λ (steps : List Step). TellReturned steps) (sym same) returned in
       record {
-        written = written;
         given = led.0;
         orders_are = are;
-        each = λ spared sent.
-            let found = each spared sent in
-            sym (append-nil led.0) ∙ (ap (λ (one : Option (Control (Opening J naming))). led.0 ++ order_in one) (sym (aside ∙ found.1)) ∙ sym are);
+        written = written;
         senders = has;
         told = λ apart.
-            let parts : AreApart (led.0 ++ order_in rest.aside) = subst (λ (orders : List (Control (Opening J naming))). AreApart orders) are apart in
+            let parts : AreApart (led.0 ++ order_in rest.aside) =
+            subst (λ (orders : List (Control (Opening J naming))). AreApart orders) are apart in
             All-append (IsTold run) (rest_calls rest) (handed_calls has.handed)
-            (All-append (IsTold run) (map (λ call. (call.1, [])) (opens (order_in rest.aside))) (calls got rest.core.items) (told-aside led.0 rest.aside run parts obeys) tells)
-            (All-map (IsTold run) (λ (one : ℕ × Returning J naming). (one.0, got_of one.1.sending.value.sender)) has.handed
-            (All-weaker (λ (one : ℕ × Returning J naming). IsBack run one.0 one.1.sending.value.sender) (λ one. IsTold run (one.0, got_of one.1.sending.value.sender))
-            (λ one back. told-back run one.0 one.1.sending.value.sender gives back) has.handed (has.back (plain-front led.0 rest.aside parts))));
+            (All-append (IsTold run) (map (λ call. (call.1, [])) (opens (order_in rest.aside)))
+            (calls got rest.core.items) (told-aside led.0 rest.aside run parts obeys) tells)
+            (All-map (IsTold run) (λ (one : ℕ × Returning J naming).
+            (one.0, got_of one.1.sending.value.sender)) has.handed
+            (All-weaker
+            (λ (one : ℕ × Returning J naming). IsBack run one.0 one.1.sending.value.sender)
+            (λ one. IsTold run (one.0, got_of one.1.sending.value.sender))
+            (λ one back. told-back run one.0 one.1.sending.value.sender gives back) has.handed
+            (has.back (plain-front led.0 rest.aside parts))));
         blames = λ code says.
-            let found = blames code says in
-            (found.0, subst (λ (steps : List Step). WouldOverflow 0 steps) (sym same) (led.2.3.blamed found.1));
+            let found = blames code says in (
+              found.0,
+              subst (λ (steps : List Step). WouldOverflow 0 steps) (sym same)
+                  (led.2.3.blamed found.1),
+            );
+        unblamed = λ none found. led.2.3.unblamed (unblamed none) (sym (ap blames_in same) ∙ found);
       }
 
--- the ending that is told names want of memory, a failed write or that orders are left where there is one
-abbrev pub told-on : {W : Type 0} (contents : W → Option (List ℕ)) (failed : W → Bool) (before : Option (List ℕ)) (credit : ℕ) (took put : List Order) (one other : Option Ending) (sure surely : Bool) (device : W)
+-- the ending that is told names want of memory, a failed write or that orders are left where there
+-- is one
+abbrev pub told-on : {W : Type 0} (contents : W → Option (List ℕ)) (failed : W → Bool)
+    (before : Option (List ℕ)) (credit : ℕ) (took put : List Order) (one other : Option Ending)
+    (sure surely : Bool) (device : W)
     → (one ≡ Some ending.OutOfMemory → other ≡ Some ending.OutOfMemory)
-    → (one ≡ Some ending.WriteFailed → other ≢ Some ending.OutOfMemory → other ≡ Some ending.WriteFailed)
+    → (one ≡ Some ending.WriteFailed → other ≢ Some ending.OutOfMemory
+    → other ≡ Some ending.WriteFailed)
     → (other ≡ Some ending.WriteFailed → one ≡ Some ending.WriteFailed)
     → (left : List Order) → took ++ left ≡ put
     → (other ≢ Some ending.OutOfMemory → other ≢ Some ending.WriteFailed → left ≡ [])
-    → (surely ≡ true → sure ≡ true)
-    → HasWritten contents failed before credit took one sure device → HasWritten contents failed before credit put other surely device
-told-on contents failed before credit took put one other sure surely device memory failing broken left parts none clean h = record {
-  run = h.run;
-  lawful = h.lawful;
-  credited = h.credited;
-  some = subst (λ (orders : List Order). Obeys true orders h.run) parts (obeys-more took left h.run h.some);
-  each = λ spared sent.
-      subst (λ (orders : List Order). Obeys false orders h.run) (sym (append-nil took) ∙ (ap (λ (os : List Order). took ++ os) (sym (none spared sent)) ∙ parts))
-      (h.each (λ lacked. spared (memory lacked)) (λ broke. sent (failing broke spared)));
-  others = h.others;
-  marked = λ sent. h.marked (broken sent);
-  front = h.front;
-  all = h.all;
-  over = λ spared sent. h.over (λ lacked. spared (memory lacked)) (λ broke. sent (failing broke spared));
-  sound = λ is. h.sound (clean is);
-}
+    → (h : HasWritten contents failed before credit took one sure device)
+    → (surely ≡ true → has_failed h.run ≡ false)
+    → HasWritten contents failed before credit put other surely device
+told-on contents failed before credit took put one other sure surely device memory failing broken
+    left parts none h clean = record {
+      run = h.run;
+      lawful = h.lawful;
+      credited = h.credited;
+      some =
+          subst (λ (orders : List Order). Obeys true orders h.run) parts
+          (obeys-more took left h.run h.some);
+      each = λ spared sent.
+          subst (λ (orders : List Order). Obeys false orders h.run) (sym (append-nil took)
+          ∙ (ap (λ (os : List Order). took ++ os) (sym (none spared sent)) ∙ parts))
+          (h.each (λ lacked. spared (memory lacked)) (λ broke. sent (failing broke spared)));
+      others = h.others;
+      marked = λ sent. h.marked (broken sent);
+      front = h.front;
+      all = h.all;
+      over = λ spared sent.
+          h.over (λ lacked. spared (memory lacked)) (λ broke. sent (failing broke spared));
+      sound = clean;
+    }

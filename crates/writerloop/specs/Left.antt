@@ -1,16 +1,16 @@
--- Streams that are reset since their calls were left without trailers: with INTERNAL_ERROR (RFC 9113, section 7).
--- A run has the latest first.
+-- Streams that are reset with INTERNAL_ERROR because their calls were left without trailers (RFC
+-- 9113, section 7). A run has the latest first.
 use Rattle.std.specs.Prelude.{ℕ, true, List, [], ◌∷◌, ◌++◌}
 use Rattle.h2frame.specs.declared.error_code.ErrorCode.TheVariants.{InternalError}
 use Rattle.outwriter.specs.declared.control.Control.TheVariants.{Reset}
 use Rattle.outwriter.specs.Steps.{Order, Step, Taken, Granted, Written, Returned}
 
--- the stream that the order resets so, if it does
+-- the stream that the order resets for that, if it does
 abbrev pub left_by : Order → List ℕ
 left_by (Reset id InternalError true) = id ∷ []
 left_by _ = []
 
--- those that the orders of a run reset so
+-- those that the orders of a run reset for that
 abbrev pub left_in : List Step → List ℕ
 left_in [] = []
 left_in (Taken order ∷ before) = left_by order ++ left_in before

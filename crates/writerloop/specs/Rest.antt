@@ -12,16 +12,21 @@ use Rattle.writerloop.specs.Orders.{order_in}
 use Rattle.writerloop.specs.Sent.{got_of, numbered, numbers, opens}
 
 module _ {J : Type 0} {naming : Ghosts J} where
-  -- their calls: that of an order that was set aside, and those whose senders the core had
+  -- the numbers of their calls: of an order that was set aside, and of those whose senders the core
+  -- had
   abbrev pub rest_numbers : Senders J naming → List (CallNumber J naming × ℕ)
   rest_numbers senders = opens (order_in senders.aside) ++ numbers senders.sends.calls.items
 
   -- the streams of these, with what their senders got
   abbrev pub rest_calls : Senders J naming → List (ℕ × List OutItem)
-  rest_calls senders = map (λ call. (call.1, [])) (opens (order_in senders.aside)) ++ calls got senders.core.items
+  rest_calls senders =
+      map (λ call. (call.1, [])) (opens (order_in senders.aside)) ++ calls got senders.core.items
 
-  -- one of them is handed over
+  -- one of the senders is handed over
   pub record HandsOver (old new : Senders J naming) (returning : Returning J naming) : Type 0 where
     pub id : ℕ
-    pub number : IsPermutation (rest_numbers old) (numbered id returning.sending.value ∷ rest_numbers new)
-    pub call : IsPermutation (rest_calls old) ((id, got_of returning.sending.value.sender) ∷ rest_calls new)
+    pub number :
+        IsPermutation (rest_numbers old) (numbered id returning.sending.value ∷ rest_numbers new)
+    pub call :
+        IsPermutation (rest_calls old)
+        ((id, got_of returning.sending.value.sender) ∷ rest_calls new)

@@ -1,5 +1,21 @@
 -- What a connection's writer did: a run of its core, and the bytes of the run's frames.
-use Rattle.std.specs.Prelude.{◌≡◌, ◌≢◌, ℕ, Bool, true, false, List, [], ◌∷◌, ◌++◌, map, Option, None, Some, Ok}
+use Rattle.std.specs.Prelude.{
+  ◌≡◌,
+  ◌≢◌,
+  ℕ,
+  Bool,
+  true,
+  false,
+  List,
+  [],
+  ◌∷◌,
+  ◌++◌,
+  map,
+  Option,
+  None,
+  Some,
+  Ok,
+}
 use Rattle.account.specs.declared.call.OutItem.{OutItem}
 use Rattle.callbox.specs.declared.sender.Sender.{Sender}
 use Rattle.h2frame.specs.declared.frame.Frame.{Frame}
@@ -16,8 +32,9 @@ use Rattle.writerloop.specs.declared.frames.Frames.{Frames}
 use Rattle.writerloop.specs.Spelled.{Holds, ended_by}
 
 module _ {L In Out Shut : Type 0} where
-  -- an Open that is taken brings its sender behind the others; nothing else changes them
-  abbrev pub BringsBy : Taking (Sender L In Out Shut) → Control (Sender L In Out Shut) → List (ℕ × Sender L In Out Shut) → List (ℕ × Sender L In Out Shut) → Type 0
+  -- an Open that is taken adds its sender after the others; nothing else changes them
+  abbrev pub BringsBy : Taking (Sender L In Out Shut) → Control (Sender L In Out Shut)
+      → List (ℕ × Sender L In Out Shut) → List (ℕ × Sender L In Out Shut) → Type 0
   BringsBy Done control old new = Brings (Ok tt) control old new
   BringsBy (Ended id) control old new = new ≡ old
   BringsBy (Unanswered id) control old new = new ≡ old
@@ -25,33 +42,43 @@ module _ {L In Out Shut : Type 0} where
 
 module _ {L In Out Shut W : Type 0} where
   -- This run led to the writer, whose device had something before it.
-  pub record Wrote (got : Out → List OutItem) (contents : W → Option (List ℕ)) (failed : W → Bool) (before : Option (List ℕ)) (run : List Step)
+  pub record Wrote (got : Out → List OutItem) (contents : W → Option (List ℕ)) (failed : W → Bool)
+      (before : Option (List ℕ)) (run : List Step)
       (writer : Frames L W In Out Shut) : Type 0 where
     pub leads : Leads got run writer.core
-    pub bytes : Holds writer.standing (frames_of run) before (contents writer.device) writer.buffer.items writer.ended.items
+    pub bytes :
+        Holds writer.standing (frames_of run) before (contents writer.device) writer.buffer.items
+        writer.ended.items
     pub marked : writer.standing ≡ Broken → failed writer.device ≡ true
 
-  -- whatever run led to the writer before, with these steps it leads to the writer after
-  abbrev pub WritesOn : (Out → List OutItem) → (W → Option (List ℕ)) → (W → Bool) → List Step → Frames L W In Out Shut → Frames L W In Out Shut → Type 0
+  -- whatever run led to the writer before, these steps lead on from it to the writer after
+  abbrev pub WritesOn : (Out → List OutItem) → (W → Option (List ℕ)) → (W → Bool) → List Step
+      → Frames L W In Out Shut → Frames L W In Out Shut → Type 0
   WritesOn got contents failed steps old new =
-      (before : Option (List ℕ)) (run : List Step) → Wrote got contents failed before run old → Wrote got contents failed before (steps ++ run) new
+      (before : Option (List ℕ)) (run : List Step) → Wrote got contents failed before run old
+      → Wrote got contents failed before (steps ++ run) new
 
-  -- Why the buffer isn't filled further. Nothing more comes where a Close was taken, and nothing now where none was.
+  -- Why the buffer isn't filled further: nothing more comes only where a Close was taken, and
+  -- nothing comes now where none was.
   abbrev pub Rests : (Out → List OutItem) → Filled → List Step → Frames L W In Out Shut → Type 0
   Rests ahead Full run writer = Unit {0}
   Rests ahead Idle run writer = IsAtRest ahead run writer.core × (writer.core.closed ≡ false)
   Rests ahead Over run writer = IsAtRest ahead run writer.core × (writer.core.closed ≡ true)
   Rests ahead Stopped run writer = writer.standing ≢ Going
 
-  abbrev pub RestsIf : (Out → List OutItem) → Option Filled → List Step → Frames L W In Out Shut → Type 0
+  abbrev pub RestsIf : (Out → List OutItem) → Option Filled → List Step
+      → Frames L W In Out Shut → Type 0
   RestsIf ahead None run writer = Unit {0}
   RestsIf ahead (Some filled) run writer = Rests ahead filled run writer
 
   -- whatever run led to the writer before, frames lead from it to the writer after
-  abbrev pub Fills : (Out → List OutItem) → (Out → List OutItem) → (W → Option (List ℕ)) → (W → Bool) → Option Filled
+  abbrev pub Fills : (Out → List OutItem) → (Out → List OutItem) → (W → Option (List ℕ))
+      → (W → Bool) → Option Filled
       → Frames L W In Out Shut → Frames L W In Out Shut → Type 0
-  Fills got ahead contents failed filled old new = (before : Option (List ℕ)) (run : List Step) → Wrote got contents failed before run old
-      → (frames : List Frame) × Wrote got contents failed before (map Written frames ++ run) new × RestsIf ahead filled (map Written frames ++ run) new
+  Fills got ahead contents failed filled old new =
+      (before : Option (List ℕ)) (run : List Step) → Wrote got contents failed before run old
+      → (frames : List Frame) × Wrote got contents failed before (map Written frames ++ run) new
+      × RestsIf ahead filled (map Written frames ++ run) new
 
   -- ---- one frame
 

@@ -1,15 +1,40 @@
 //! The writer of a connection.
 //!
-//! `fill` stops where a frame of the greatest length might not fit, so the buffer never has more than seven of those, and it
-//! is used again for the next frames.
+//! `fill` stops where a frame of the greatest length might not fit, so the buffer never has more
+//! bytes than seven of those. It is used again for the next frames.
 
-ghost use Rattle.std.specs.Prelude.{◌≡◌, ◌≢◌, ◌≤◌, ◌<◌, ◌+◌, ℕ, true, false, not, ◌&&◌, List, [], ◌∷◌, Option, Some, IsErr, OnOk, OnErr, OnSome, IfSome, IfNone, length, vec_len, vec_capacity};
+ghost use Rattle.std.specs.Prelude.{
+  ◌≡◌,
+  ◌≢◌,
+  ◌≤◌,
+  ◌<◌,
+  ◌+◌,
+  ℕ,
+  true,
+  false,
+  not,
+  ◌&&◌,
+  List,
+  [],
+  ◌∷◌,
+  Option,
+  Some,
+  IsErr,
+  OnOk,
+  OnErr,
+  OnSome,
+  IfSome,
+  IfNone,
+  length,
+  vec_len,
+  vec_capacity,
+};
 ghost use Rattle.std.specs.Io.KnownBytes.{Appends};
 ghost use Rattle.device.specs.Bytes.{AppendsPrefix};
 ghost use Rattle.flow.specs.Windows.{room};
 ghost use Rattle.outwriter.specs.Calls.{TellFronts, TellReturned, TellOthers};
 ghost use Rattle.outwriter.specs.Cores.{calls, lanes, open_stream, takes_credit, IsUnused};
-ghost use Rattle.outwriter.specs.Drains.{has_failed, is_going_away, was_probed};
+ghost use Rattle.outwriter.specs.Drains.{is_going_away, was_probed};
 ghost use Rattle.outwriter.specs.Frames.{IsSound, ends_stream};
 ghost use Rattle.outwriter.specs.LeftCalls.{GaveLeft, WasLeft, WasNotLeftAt};
 ghost use Rattle.outwriter.specs.Polls.{coming};
@@ -18,7 +43,15 @@ ghost use Rattle.outwriter.specs.RunState.{is_held};
 ghost use Rattle.outwriter.specs.Steps.{Step, Taken, Granted, Returned, order_of, frames_of};
 ghost use Rattle.writerloop.specs.declared.standing.Standing.TheVariants as stands;
 ghost use Rattle.writerloop.specs.declared.filled.Filled.TheVariants as filled;
-ghost use Rattle.writerloop.specs.OwnOrders.{own_control, own_order, parting, steps_of, Blamed, IsOfOrder, Stops};
+ghost use Rattle.writerloop.specs.OwnOrders.{
+  own_control,
+  own_order,
+  parting,
+  steps_of,
+  Blamed,
+  IsOfOrder,
+  Stops,
+};
 ghost use Rattle.writerloop.specs.Spelled.{IsFront, IsAll};
 ghost use Rattle.writerloop.specs.Wrote.{Wrote, WritesOn, BringsBy, Fills, Puts};
 
@@ -50,9 +83,9 @@ pub struct Frames<L: Lane<Item = OutItem>, W: ConnWrite> {
     pub(crate) buffer: ZeroBuffer,
     /// The streams whose END_STREAM is in the buffer.
     pub(crate) ended: Vec<StreamId>,
-    /// Those whose END_STREAM was written by the last flush.
+    /// The streams whose END_STREAM the last flush wrote.
     pub(crate) left: Vec<StreamId>,
-    /// Those of which DATA or HEADERS are in the buffer, each once.
+    /// The streams of which DATA or HEADERS are in the buffer, each once.
     pub(crate) streams: Vec<StreamId>,
     pub(crate) standing: Standing,
     pub(crate) device: W,
@@ -99,7 +132,7 @@ impl<L: Lane<Item = OutItem>, W: ConnWrite> Frames<L, W> {
         self.left.as_slice()
     }
 
-    /// The streams of which DATA or HEADERS are in the buffer: of their calls items were taken.
+    /// The streams of which DATA or HEADERS are in the buffer: the core took items of their calls.
     pub fn streams(&self) -> &[StreamId]
         ensures { result.now ≡ self.now.streams.items }
     {
@@ -114,7 +147,7 @@ impl<L: Lane<Item = OutItem>, W: ConnWrite> Frames<L, W> {
         self.buffer.is_empty()
     }
 
-    /// Whether an item of the stream is in hand that a window keeps back.
+    /// Whether the core holds an item of the stream that a window keeps back.
     pub fn held(&self, id: StreamId) -> bool
         ensures { result ≡ is_held (open_stream self.now.core id)
             (room self.now.core.sending.outbound.states.windows id) }
@@ -129,15 +162,15 @@ impl<L: Lane<Item = OutItem>, W: ConnWrite> Frames<L, W> {
         self.core.calls()
     }
 
-    /// The stream of the call whose sender stands at this place, where it gave last that the call was left: so all else that was
-    /// given of it was taken. It takes no memory.
+    /// The stream of the call whose sender is at this place, if the sender gave last that the call
+    /// was left: so all else that the call gave was taken. It takes no memory.
     pub fn left_at(&mut self, place: usize) -> Option<StreamId>
         ensures left { IfSome result (λ id. WasLeft id
             (calls L.got self.new.core.sending.senders.items)) }
         ensures not_left { IfNone result (WasNotLeftAt place
             (calls L.got self.new.core.sending.senders.items)) }
 
-        // Nothing more is got of a sender, and nothing else changes.
+        // No sender gives anything more, and nothing else changes.
         ensures calls { calls L.got self.new.core.sending.senders.items
             ≡ calls L.got self.old.core.sending.senders.items }
         ensures senders { lanes L.out_name self.new.core.sending.senders.items
@@ -148,7 +181,7 @@ impl<L: Lane<Item = OutItem>, W: ConnWrite> Frames<L, W> {
         self.core.left_at(place)
     }
 
-    /// Whether the peer may be told that this side ends the connection, as it wasn't told so before (RFC 9113, section 6.8).
+    /// Whether a GOAWAY that warns the peer may be sent: none was before (RFC 9113, section 6.8).
     pub fn may_leave(&self) -> bool
         ensures unsaid { result ≡ true → (before : Option (List ℕ)) (run : List Step)
             → Wrote L.got W.contents W.failed before run self.now
@@ -167,30 +200,25 @@ impl<L: Lane<Item = OutItem>, W: ConnWrite> Frames<L, W> {
         self.core.may_probe()
     }
 
-    /// Whether no error was told by GOAWAY, nor is to be.
-    pub fn is_faultless(&self) -> bool
-        ensures none { result ≡ true → (before : Option (List ℕ)) (run : List Step)
-            → Wrote L.got W.contents W.failed before run self.now → has_failed run ≡ false }
-        ensures value { result ≡ (not self.now.core.is_dead && not self.now.core.has_failed) }
-    {
-        self.core.is_faultless()
-    }
-
-    /// Takes an order. Where the peer's window overflows by it, the writer ends the stream or the connection by an order
-    /// of its own; `last` is the greatest stream that was looked at, which a GOAWAY then tells.
+    /// Takes an order. Where the peer's window overflows by it, the writer ends the stream or the
+    /// connection by an order of its own; `last` is the greatest stream that was looked at, which a
+    /// GOAWAY then tells.
     pub fn take(&mut self, control: Control<Sender<L>>, last: StreamId) -> Taking<Sender<L>>
-        // The order is the next step of the run, unless it is handed back, and behind it the writer's own is.
+        // The order is the next step of the run, unless it is handed back, and the writer's own
+        // order follows it.
         ensures wrote { IsUnused L.got control
             → WritesOn L.got W.contents W.failed
             (steps_of (order_of control) last result) self.old self.new }
 
-        // The writer ends a stream or the connection exactly where a window would be over 2^31 - 1 bytes.
+        // The writer ends a stream or the connection exactly where a window would be over 2^31 - 1
+        // bytes.
         ensures blamed { (before : Option (List ℕ)) (run : List Step)
             → Wrote L.got W.contents W.failed before run self.old → Blamed result control run }
         ensures whose { IsOfOrder result control }
         ensures stands { Stops result self.old.standing self.new.standing }
 
-        // The sender of an Open that is taken stands behind the others, and nothing else changes them.
+        // The sender of an Open that is taken comes after the others, and nothing else changes
+        // them.
         ensures brings { BringsBy result control self.old.core.sending.senders.items
             self.new.core.sending.senders.items }
         ensures rest { self.new ≡ record
@@ -207,8 +235,8 @@ impl<L: Lane<Item = OutItem>, W: ConnWrite> Frames<L, W> {
         }
     }
 
-    /// Whether credit that is granted on a stream counts: its Open was taken, and it wasn't reset. On the connection, which is
-    /// stream 0, it always does.
+    /// Whether credit that is granted on a stream counts: its Open was taken, and it wasn't reset.
+    /// On the connection, which is stream 0, credit always counts.
     pub fn takes_credit(&self, id: StreamId) -> bool
         ensures { result ≡ takes_credit self.now.core id }
     {
@@ -224,10 +252,10 @@ impl<L: Lane<Item = OutItem>, W: ConnWrite> Frames<L, W> {
         self.core.grant(id, n);
     }
 
-    /// Gives back the sender of a call that is through: its stream isn't open any more, and no header block of it is
-    /// unfinished. What it was told may still be in the buffer.
+    /// Gives back the sender of a call that is through: its stream isn't open any more, and no
+    /// header block of it is unfinished. The call's last frames may still be in the buffer.
     pub fn release(&mut self, id: StreamId) -> Option<Sender<L>>
-        // That it is given back, with what it has given, is the next step of the run.
+        // The next step of the run is that the sender is given back, with what it has given.
         ensures wrote { IfSome result
             (λ sender. WritesOn L.got W.contents W.failed
             (Returned id (L.got sender.rx) ∷ []) self.old self.new) }
@@ -243,14 +271,15 @@ impl<L: Lane<Item = OutItem>, W: ConnWrite> Frames<L, W> {
         self.core.release(id)
     }
 
-    /// Puts frames into the buffer, until none comes or the longest might not fit. The buffer never has more than
-    /// 114,751 bytes by it.
+    /// Puts frames into the buffer, until none comes or the longest might not fit. The buffer never
+    /// has more than 114,751 bytes.
     pub fn fill(&mut self) -> Filled
         // Frames are the next steps of the run. Where none comes, all is written that can be.
         ensures wrote { Fills L.got (coming L.got L.ahead) W.contents W.failed
             (Some result) self.old self.new }
 
-        // Each sender stays at its place, an end of the same lane, and none forgets that its call was left.
+        // Each sender stays at its place, an end of the same lane, and none forgets that its call
+        // was left.
         ensures senders { lanes L.out_name self.new.core.sending.senders.items
             ≡ lanes L.out_name self.old.core.sending.senders.items }
         ensures gave { (id : ℕ) → GaveLeft id (calls L.got self.old.core.sending.senders.items)
@@ -269,8 +298,8 @@ impl<L: Lane<Item = OutItem>, W: ConnWrite> Frames<L, W> {
         }
     }
 
-    /// Writes the buffer to the device, all of it. After a fault a prefix of it was written, and the writer is broken: it
-    /// answers a fault again, and writes nothing.
+    /// Writes the whole buffer to the device. At a fault it has written a prefix, and the writer is
+    /// broken: each later flush writes nothing and answers a fault.
     pub fn flush(&mut self) -> Result<(), DeviceFault>
         ensures wrote { WritesOn L.got W.contents W.failed [] self.old self.new }
         ensures ok { OnOk result
@@ -311,7 +340,7 @@ impl<L: Lane<Item = OutItem>, W: ConnWrite> Frames<L, W> {
         }
     }
 
-    /// Makes no more frames, as without memory: for an owner who has none for what it was to be told.
+    /// Makes no more frames, as without memory. An owner calls it who has no memory for an order.
     pub fn stop(&mut self)
         ensures wrote { WritesOn L.got W.contents W.failed [] self.old self.new }
         ensures stops { self.new.standing ≢ stands.Going }
@@ -323,16 +352,18 @@ impl<L: Lane<Item = OutItem>, W: ConnWrite> Frames<L, W> {
         }
     }
 
-    /// The last word of a writer whose core ran out of memory, once: GOAWAY with INTERNAL_ERROR into the buffer (RFC 9113,
-    /// section 6.8), where the core may still say one and there is room and memory for it. Whether it is there.
+    /// Puts the last word of a writer whose core ran out of memory into the buffer, once: GOAWAY
+    /// with INTERNAL_ERROR (RFC 9113, section 6.8), if the core may still say one and there is room
+    /// and memory for it. Answers whether it is there.
     pub fn part(&mut self, last: StreamId) -> bool
-        // It is the next step of the run, behind the order for it; unsaid it is none.
+        // The order for it and then the GOAWAY are the next steps of the run; if it isn't there,
+        // nothing is.
         ensures wrote { WritesOn L.got W.contents W.failed (parting last result) self.old self.new }
         ensures senders { self.new.core.sending.senders ≡ self.old.core.sending.senders }
         ensures dead { result ≡ true → (self.old.standing ≡ stands.OutOfMemory)
             × (self.old.core.is_dead ≡ true) }
 
-        // Behind it nothing more is said.
+        // After it nothing more is said.
         ensures once { result ≡ true → self.new.core.may_part ≡ false }
         ensures spent { self.old.core.may_part ≡ false → result ≡ false }
         ensures room { length self.old.buffer.items ≤ 114751
@@ -359,8 +390,9 @@ impl<L: Lane<Item = OutItem>, W: ConnWrite> Frames<L, W> {
         ensures senders { result.0 ≡ self.core.sending.senders }
         ensures device { result.1 ≡ self.device }
 
-        // What was told of each call begins what the items that were got of its sender spell, also where the sender was given back; of a stream that was never opened nothing was
-        // told, a reset, or what a Refuse asked for.
+        // The frames of each call begin what the items spell that its sender gave, also where the
+        // sender was given back. A stream that was never opened has no frame, a reset, or what a
+        // Refuse asked for.
         ensures fronts { (before : Option (List ℕ)) (run : List Step)
             → Wrote L.got W.contents W.failed before run self
             → TellFronts run (calls L.got result.0.items) }
@@ -369,8 +401,8 @@ impl<L: Lane<Item = OutItem>, W: ConnWrite> Frames<L, W> {
         ensures others { (before : Option (List ℕ)) (run : List Step)
             → Wrote L.got W.contents W.failed before run self → TellOthers run }
 
-        // The device got a prefix of the spelled frames of the run, and all of them where no write failed and nothing is left,
-        // also where memory ran out.
+        // The device got a prefix of the spelled frames of the run. Where no write failed and the
+        // buffer is empty it got all of them, even if memory ran out.
         ensures prefix { (before : Option (List ℕ)) (run : List Step)
             → Wrote L.got W.contents W.failed before run self
             → IsFront (frames_of run) before (W.contents result.1) }
@@ -383,7 +415,8 @@ impl<L: Lane<Item = OutItem>, W: ConnWrite> Frames<L, W> {
         (core.into_senders(), device)
     }
 
-    /// Ends the stream whose window overflowed, or at 0 the connection. Out of memory, the writer stops.
+    /// Ends the stream whose window overflowed, or at 0 the connection. Out of memory, the writer
+    /// stops.
     fn end(&mut self, id: StreamId, last: StreamId) -> Result<(), AllocError>
         ensures wrote { OnOk result
             (WritesOn L.got W.contents W.failed
@@ -429,7 +462,7 @@ impl<L: Lane<Item = OutItem>, W: ConnWrite> Frames<L, W> {
         Filled::Full
     }
 
-    /// Puts the next frame into the buffer. Where there is none it says why.
+    /// Puts the next frame into the buffer, or answers why there is none.
     fn add_frame(&mut self) -> Option<Filled>
         requires { self.old.standing ≡ stands.Going }
         ensures wrote { Fills L.got (coming L.got L.ahead) W.contents W.failed result self.old
@@ -445,7 +478,7 @@ impl<L: Lane<Item = OutItem>, W: ConnWrite> Frames<L, W> {
         ensures device { self.new.device ≡ self.old.device }
         ensures left { self.new.left ≡ self.old.left }
     {
-        // Before the core answers a frame there is room for it, so that none is lost.
+        // There is room for a frame before the core answers it, so that none is lost.
         let Ok(()) = make_room(&mut self.buffer, &mut self.ended, &mut self.streams) else {
             self.stop();
             return Some(Filled::Stopped);
@@ -485,7 +518,8 @@ impl<L: Lane<Item = OutItem>, W: ConnWrite> Frames<L, W> {
     }
 }
 
-/// Room for one frame more, and for one stream more in both lists. A buffer without memory gets all that it needs, so that it never moves.
+/// Makes room for one more frame, and for one more stream in each list. A buffer without memory
+/// gets all that it needs at once, so that it never moves.
 fn make_room(
     buffer: &mut ZeroBuffer,
     ended: &mut Vec<StreamId>,

@@ -7,7 +7,7 @@ use outwriter::Control;
 #[derive(Drop)]
 pub struct Inbox<S: Drop> {
     pub ring: RingOut<Control<S>>,
-    /// An order that waits, or can't be taken yet. The others wait behind it.
+    /// An order that waits, or can't be taken yet. The others wait after it.
     pub set_aside: Option<Control<S>>,
     /// Whether an order was lost, for want of memory.
     pub has_lost: bool,

@@ -19,19 +19,22 @@ use device::ConnWrite;
 use h2frame::StreamId;
 use outwriter::Control;
 
-/// A call begins: its sender goes to the core. Without memory the order comes back, and nothing changed.
+/// A call begins: its sender goes to the core. Without memory the order comes back, and nothing
+/// changes.
 pub(crate) fn begin<J: Naming, W: ConnWrite>(
     frames: &mut Frames<OutLane, W>,
     sends: &mut Sends<J>,
     id: StreamId,
     opening: Opening<J>,
 ) -> Result<(), Order<J>>
-    requires aligned { keys sends.old.calls.items ≡ core_keys frames.old.core.sending.senders.items }
+    requires aligned { keys sends.old.calls.items
+        ≡ core_keys frames.old.core.sending.senders.items }
     ensures aligned { keys sends.new.calls.items ≡ core_keys frames.new.core.sending.senders.items }
     ensures wrote { OnOk result
         (WritesOn got W.contents W.failed (Taken (orders.Open id tt) ∷ []) frames.old frames.new) }
     ensures still { OnErr result (WritesOn got W.contents W.failed [] frames.old frames.new) }
-    ensures adds { OnOk result (Adds id opening.sending.value sends.old.calls.items sends.new.calls.items) }
+    ensures adds { OnOk result
+        (Adds id opening.sending.value sends.old.calls.items sends.new.calls.items) }
     ensures brings { OnOk result ((sender : OutSender) × (frames.new.core.sending.senders.items
         ≡ frames.old.core.sending.senders.items ++ (id, sender) ∷ [])) }
     ensures same { OnErr result ((sends.new.calls.items ≡ sends.old.calls.items)
@@ -64,7 +67,7 @@ pub(crate) fn begin<J: Naming, W: ConnWrite>(
     }
 }
 
-/// The control that an order is where no call begins by it; else which call begins.
+/// The control that an order is, if it opens no call; else the call that it opens.
 pub(crate) fn split<J: Naming>(
     order: Order<J>,
 ) -> Result<Control<Sender<OutLane>>, (StreamId, Opening<J>)>

@@ -1,4 +1,4 @@
-//! The calls that the writing side sends, and the way on which their senders go back.
+//! The calls that the writing side sends, and the ring on which their senders go back.
 
 use callbox::Sender;
 use callparts::{Line, Naming, Opening, OutLane, Returning, Sending};
@@ -11,9 +11,9 @@ use std::sync::Arc;
 #[derive(Drop)]
 pub(crate) struct Sent<J: Naming> {
     pub(crate) id: StreamId,
-    /// In which its sender goes back.
+    /// The box in which its sender goes back.
     pub(crate) sending: Box<Sending<J>>,
-    /// By which its worker is woken.
+    /// The line that wakes its worker.
     line: Arc<Line>,
     /// Whether its sender is to go back: its stream was reset, or has ended.
     is_through: bool,
@@ -23,17 +23,34 @@ pub(crate) struct Sent<J: Naming> {
 #[derive(Drop)]
 pub(crate) struct Sends<J: Naming> {
     pub(crate) calls: Vec<Sent<J>>,
-    /// The way back.
+    /// The ring on which senders go back.
     pub(crate) home: RingIn<Returning<J>>,
     /// Whether there may be senders that are to go back.
     are_some_through: bool,
 }
 
 impl<J: Naming> Sends<J> {
-    ghost use Rattle.std.specs.Prelude.{◌≡◌, ◌<◌, ◌++◌, ◌∷◌, [], true, length, vec_len, vec_capacity};
+    ghost use Rattle.std.specs.Prelude.{
+      ◌≡◌,
+      ◌<◌,
+      ◌++◌,
+      ◌∷◌,
+      [],
+      true,
+      length,
+      vec_len,
+      vec_capacity,
+    };
     ghost use Rattle.std.specs.Prelude.{IfNone, IfSome, OnErr, OnOk, Some, slice_get};
     ghost use Rattle.lane.specs.Ring.{HasRoom, in_name, put_in};
-    ghost use Rattle.writerloop.specs.Sent.{Adds, HandsHome, HasNone, HasNoneBelow, IsAt, IsFirstOf};
+    ghost use Rattle.writerloop.specs.Sent.{
+      Adds,
+      HandsHome,
+      HasNone,
+      HasNoneBelow,
+      IsAt,
+      IsFirstOf,
+    };
     ghost use Rattle.writerloop.specs.Sent.{IsLastOf, Passes, SameCalls, TakesLast, ids_of};
 
     pub(crate) fn new(alloc: Global, home: RingIn<Returning<J>>) -> Sends<J>
@@ -71,7 +88,7 @@ impl<J: Naming> Sends<J> {
         self.calls.reserve(1)
     }
 
-    /// A call whose sender the core has, behind the others.
+    /// Adds a call whose sender the core has, after the others.
     pub(crate) fn push_reserved(&mut self, id: StreamId, sending: Box<Sending<J>>, line: Arc<Line>)
         requires room { vec_len self.old.calls < vec_capacity self.old.calls }
         ensures adds { Adds id sending.value self.old.calls.items self.new.calls.items }
@@ -85,7 +102,8 @@ impl<J: Naming> Sends<J> {
         });
     }
 
-    /// Has the sender of an order that isn't taken go back. Where there is no place for it the order's call comes back.
+    /// Hands back the sender of an order that isn't taken. If the ring has no place for it, the
+    /// order's call comes back.
     pub(crate) fn turn_back(&mut self, opening: Opening<J>) -> Result<(), Opening<J>>
         ensures home { Passes opening result (put_in self.old.home) (put_in self.new.home) }
         ensures name { in_name self.new.home ≡ in_name self.old.home }
@@ -100,7 +118,7 @@ impl<J: Naming> Sends<J> {
         Ok(())
     }
 
-    /// Whether there is a place for a sender on the way back.
+    /// Whether the ring has a place for a sender.
     pub(crate) fn has_place(&mut self) -> bool
         ensures free { result ≡ true → HasRoom self.new.home }
         ensures put { put_in self.new.home ≡ put_in self.old.home }
@@ -110,7 +128,7 @@ impl<J: Naming> Sends<J> {
         self.home.has_room()
     }
 
-    /// Has a sender go back, for which there is a place.
+    /// Hands back a sender, for which there is a place.
     fn send_home(&mut self, returning: Returning<J>)
         requires room { HasRoom self.old.home }
         ensures put { put_in self.new.home ≡ put_in self.old.home ++ returning ∷ [] }
@@ -122,7 +140,7 @@ impl<J: Naming> Sends<J> {
         }
     }
 
-    /// The sender of the first call of this stream goes back, for which there is a place.
+    /// Hands back the sender of the first call of this stream, for which there is a place.
     pub(crate) fn hand_back(&mut self, id: StreamId, sender: Sender<OutLane>)
         requires room { HasRoom self.old.home }
         requires whose { IsFirstOf id sender self.old.calls.items }
@@ -163,7 +181,7 @@ impl<J: Naming> Sends<J> {
         Returning { sending }
     }
 
-    /// The end of the way back that puts.
+    /// The putting end of the ring.
     pub(crate) fn into_home(self) -> RingIn<Returning<J>>
         ensures { result ≡ self.home }
     {
@@ -187,7 +205,7 @@ impl<J: Naming> Sends<J> {
         None
     }
 
-    /// The sender of this stream's call is to go back, where there is such a call.
+    /// Notes that the sender of this stream's call is to go back, if there is such a call.
     pub(crate) fn note_through(&mut self, id: StreamId)
         ensures same { SameCalls self.old.calls.items self.new.calls.items }
         ensures home { self.new.home ≡ self.old.home }
@@ -201,12 +219,12 @@ impl<J: Naming> Sends<J> {
         }
     }
 
-    /// Whether senders may be to go back.
+    /// Whether there may be senders that are to go back.
     pub(crate) fn are_some_through(&self) -> bool {
         self.are_some_through
     }
 
-    /// Those that are to go back are looked at now.
+    /// Notes that the senders that are to go back are looked at now.
     pub(crate) fn look_through(&mut self)
         ensures calls { self.new.calls ≡ self.old.calls }
         ensures home { self.new.home ≡ self.old.home }
@@ -214,7 +232,7 @@ impl<J: Naming> Sends<J> {
         self.are_some_through = false;
     }
 
-    /// The stream of the call at this place, where its sender is to go back.
+    /// The stream of the call at this place, if its sender is to go back.
     pub(crate) fn through_at(&self, place: usize) -> Option<StreamId> {
         let call = self.calls.get(place)?;
         call.is_through.then_some(call.id)
@@ -228,7 +246,8 @@ impl<J: Naming> Sends<J> {
         }
     }
 
-    /// Wakes the worker of the call of this stream: so it looks whether the call is live still.
+    /// Wakes the worker of the call of this stream, which then looks whether the call is still
+    /// live.
     pub(crate) fn wake(&self, id: StreamId) {
         if let Some(call) = self.calls.iter().find(|call| call.id == id) {
             call.line.bell.ring();

@@ -7,10 +7,10 @@ use h2frame::StreamId;
 pub enum Waiting {
     /// None.
     Nothing,
-    /// One by which a window of the peer's may overflow, so that the writer may end the connection:
-    /// whoever has it taken tells the greatest stream that was admitted.
+    /// One that may make a window of the peer's overflow, so that the writer may end the
+    /// connection. Whoever takes it gives the greatest stream that was admitted.
     Window,
-    /// A GOAWAY. Where this side ends the connection while calls go on, the peer is warned before it
+    /// A GOAWAY. If this side ends the connection while calls go on, the owner warns the peer first
     /// (`warn`).
     Goaway,
     /// Another.
@@ -22,17 +22,17 @@ pub enum Waiting {
 pub enum Took {
     /// There is none.
     Nothing,
-    /// It can't be passed over yet: there is no place for its sender on the way back.
+    /// It can't be passed over yet: the ring of senders has no place for its sender.
     Early,
-    /// It was taken, or passed over since one before it was lost.
+    /// It was taken; or passed over, because one before it was lost.
     One,
     /// It was taken, and the writer ended this stream: its call is to be cut, and then its worker
     /// is to be woken (`wake`).
     Ends(StreamId),
     /// It was taken, and the writer ended the connection, which is to be stopped.
     Stops,
-    /// It was lost for want of memory, or the writer's answer to it was: the writer is to give up
-    /// (`give_up`), and the connection is to be stopped.
+    /// The order, or the writer's answer to it, was lost for want of memory: the writer is to give
+    /// up (`give_up`), and the connection is to be stopped.
     Lost,
 }
 
@@ -47,7 +47,8 @@ pub enum Rest {
     /// Nothing is written any more, and orders may still come: the connection is to be stopped, and
     /// the owner waits.
     Stopped,
-    /// The same, and no more orders come: the connection is to be stopped, and it has ended.
+    /// Nothing is written any more, and no more orders come: the connection is to be stopped, and
+    /// has ended.
     StoppedOver,
     /// All is written, and nothing more comes.
     Over,

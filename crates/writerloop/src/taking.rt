@@ -8,11 +8,13 @@ use outwriter::Control;
 pub enum Taking<S> {
     /// It was taken.
     Done,
-    /// It was taken, and with it a window would be over 2^31 - 1 bytes. The writer ended the stream by RST_STREAM, or
-    /// at 0 the connection by GOAWAY, with FLOW_CONTROL_ERROR (RFC 9113, sections 6.9.1 and 6.9.2).
+    /// It was taken, and would make a window larger than 2^31 - 1 bytes. The writer ended the
+    /// stream by RST_STREAM, or at 0 the connection by GOAWAY, with FLOW_CONTROL_ERROR (RFC 9113,
+    /// sections 6.9.1 and 6.9.2).
     Ended(StreamId),
-    /// The same, but out of memory: nothing tells it to the peer, and the writer stops.
+    /// It was taken, and would make a window larger than 2^31 - 1 bytes, but there was no memory
+    /// for RST_STREAM or GOAWAY: the writer stops.
     Unanswered(StreamId),
-    /// Out of memory: it comes back, and nothing changed.
+    /// Out of memory: it comes back, and nothing changes.
     HandedBack(Control<S>),
 }

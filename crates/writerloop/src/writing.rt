@@ -12,8 +12,9 @@ use crate::sends::Sends;
 use crate::standing::Standing;
 use crate::steps::{Rest, Took, Waiting};
 use crate::taking::Taking;
+use crate::writer_ending::WriterEnding;
 use callbox::Sender;
-use callparts::{Ending, Naming, Opening, Order, OutLane, Returning};
+use callparts::{Naming, Opening, Order, OutLane, Returning};
 use device::{ConnWrite, DeviceFault};
 use h2frame::{ErrorCode, StreamId};
 use lane::{RingIn, RingOut};
@@ -39,30 +40,33 @@ pub struct Writing<J: Naming, W: ConnWrite> {
     input_ended: bool,
     /// Whether no more orders come.
     closed: bool,
-    /// Whether the writer has ended the connection by itself, since a window of the peer's would be too large.
+    /// Whether the writer has ended the connection by itself, because a window of the peer's would
+    /// be too large.
     blames: bool,
-    ghost aligned: { keys sends.calls.items ≡ core_keys frames.core.sending.senders.items } by { Keys_set (keys sends.calls.items) (core_keys frames.core.sending.senders.items) },
+    ghost aligned: { keys sends.calls.items
+        ≡ core_keys frames.core.sending.senders.items } by { Keys_set (keys sends.calls.items)
+            (core_keys frames.core.sending.senders.items) },
 }
 
-/// What a writer hands back: how the connection ended as far as it sees, whether no error was told
-/// by GOAWAY, what it wrote to, its end of the ring of orders, and the senders that didn't go back before.
+/// What a writer hands back: how it ended, or nothing where all was written, what it wrote to, its
+/// end of the ring of orders, and the senders that didn't go back before.
 #[derive(Drop)]
 pub struct Written<J: Naming, W: ConnWrite + Drop> {
-    pub ending: Option<Ending>,
-    pub is_faultless: bool,
+    pub ending: Option<WriterEnding>,
     pub device: W,
     pub orders: RingOut<Order<J>>,
     pub rest: Senders<J>,
 }
 
-/// The senders that a writer had at its end, and its end of the way on which the others went back.
+/// The senders that a writer had at its end, and its end of the ring on which the others went back.
 #[derive(Drop)]
 pub struct Senders<J: Naming> {
     sends: Sends<J>,
     core: Vec<(StreamId, Sender<OutLane>)>,
     /// An order that was set aside.
     aside: Option<Order<J>>,
-    ghost aligned: { keys sends.calls.items ≡ core_keys core.items } by { Keys_set (keys sends.calls.items) (core_keys core.items) },
+    ghost aligned: { keys sends.calls.items
+        ≡ core_keys core.items } by { Keys_set (keys sends.calls.items) (core_keys core.items) },
 }
 
 impl<J: Naming> Senders<J> {
@@ -71,7 +75,7 @@ impl<J: Naming> Senders<J> {
     ghost use Rattle.writerloop.specs.Rest.{HandsOver, rest_numbers};
     ghost use Rattle.writerloop.specs.Sent.{opens};
 
-    /// The next of them.
+    /// The next sender.
     pub fn next(&mut self) -> Option<Returning<J>>
         ensures some { IfSome result (HandsOver self.old self.new) }
         ensures none { IfNone result (rest_numbers self.old ≡ []) }
@@ -83,7 +87,7 @@ impl<J: Naming> Senders<J> {
         }
     }
 
-    /// That of the order that was set aside, if it opens a call.
+    /// The sender of the order that was set aside, if it opens a call.
     fn next_aside(&mut self) -> Option<Returning<J>>
         ensures some { IfSome result (HandsOver self.old self.new) }
         ensures none { IfNone result (opens (order_in self.old.aside) ≡ []) }
@@ -101,7 +105,7 @@ impl<J: Naming> Senders<J> {
         }
     }
 
-    /// That of the last call whose sender the core had.
+    /// The sender of the last call that the core had.
     fn next_in_core(&mut self) -> Option<Returning<J>>
         requires { self.old.aside ≡ None }
         ensures some { IfSome result (HandsOver self.old self.new) }
@@ -117,7 +121,7 @@ impl<J: Naming> Senders<J> {
         }
     }
 
-    /// The end of the way back that puts.
+    /// The putting end of the ring of senders.
     pub fn into_home(self) -> RingIn<Returning<J>>
         ensures { result ≡ self.sends.home }
     {
@@ -128,7 +132,18 @@ impl<J: Naming> Senders<J> {
 
 impl<J: Naming, W: ConnWrite + Drop> Writing<J, W> {
     ghost use Rattle.std.specs.Prelude.{◌≢◌, ◌⊎◌, ◌||◌, ◌+◌, ℕ, nat_eq, if◌then◌else◌, true, false};
-    ghost use Rattle.std.specs.Prelude.{List, [], length, Option, None, Some, IfNone, IfSome, OnErr, OnOk};
+    ghost use Rattle.std.specs.Prelude.{
+      List,
+      [],
+      length,
+      Option,
+      None,
+      Some,
+      IfNone,
+      IfSome,
+      OnErr,
+      OnOk,
+    };
     ghost use Rattle.lane.specs.Ring.{in_name, put_in, taken};
     ghost use Rattle.lane.specs.RingLane.{got};
     ghost use Rattle.h2frame.specs.declared.error_code.ErrorCode.{ErrorCode as Code};
@@ -145,15 +160,23 @@ impl<J: Naming, W: ConnWrite + Drop> Writing<J, W> {
     ghost use Rattle.writerloop.specs.declared.steps.Rest.TheVariants as rest;
     ghost use Rattle.writerloop.specs.declared.steps.Took.TheVariants as took;
     ghost use Rattle.writerloop.specs.declared.steps.Waiting.TheVariants as waiting;
-    ghost use Rattle.writerloop.specs.Orders.{IsWarning, OpensNone, TakesNoWindow, Warns, closes, orders_of, waiting_of};
+    ghost use Rattle.writerloop.specs.Orders.{
+      IsWarning,
+      OpensNone,
+      TakesNoWindow,
+      Warns,
+      closes,
+      waiting_of,
+    };
     ghost use Rattle.writerloop.specs.OwnOrders.{Blamed, steps_of};
     ghost use Rattle.writerloop.specs.Sent.{SameCalls};
     ghost use Rattle.writerloop.specs.Wrote.{WritesOn, Wrote};
-    ghost use Rattle.writerloop.specs.Written.{Begins, HasSent, HasWritten, Heeds, IsFlushed, Led, core_of};
+    ghost use Rattle.writerloop.specs.Endings.{ending_told};
+    ghost use Rattle.writerloop.specs.Written.{Begins, HasSent, Heeds, IsFlushed, Led, core_of};
     ghost use Rattle.writerloop.specs.Written.{LedOut, LeadsOn, LeadsOut, LeadsTo, Parts};
     ghost use Rattle.writerloop.specs.Written.{PassesOver, Stays, Takes, rest_of, stream_at};
 
-    /// A writer that has taken no orders, handed no sender back, and written nothing to a device that was so.
+    /// A writer that has taken no order, handed no sender back, and written nothing to the device.
     pub fn new(
         alloc: Global,
         orders: RingOut<Order<J>>,
@@ -181,7 +204,7 @@ impl<J: Naming, W: ConnWrite + Drop> Writing<J, W> {
 
     // ---- orders
 
-    /// Which order is the next to be taken.
+    /// Which order is to be taken next.
     pub fn look(&mut self) -> Waiting
         ensures stays { Stays W.contents W.failed self.old self.new }
         ensures rest { self.new ≡ record self.old { inbox = self.new.inbox } }
@@ -207,8 +230,8 @@ impl<J: Naming, W: ConnWrite + Drop> Writing<J, W> {
         }
     }
 
-    /// Takes the next order; `last` is the greatest stream that was admitted, which a GOAWAY of the
-    /// writer's own tells (RFC 9113, section 6.8). Once one was lost only Close is taken.
+    /// Takes the next order. `last` is the greatest stream that was admitted, which a GOAWAY of the
+    /// writer's own names (RFC 9113, section 6.8). Once an order was lost only Close is taken.
     pub fn take_next(&mut self, last: StreamId) -> Took
         ensures leads { LeadsOn W.contents W.failed self.old self.new }
         ensures lost { result ≡ took.Lost → self.new.inbox.has_lost ≡ true }
@@ -292,14 +315,16 @@ impl<J: Naming, W: ConnWrite + Drop> Writing<J, W> {
         }
     }
 
-    /// Takes an order behind one that was lost: only a Close, and else that is lost too; the sender of a call goes back.
+    /// Takes an order after one that was lost. Any but a Close is lost too, and the sender of its
+    /// call goes back.
     fn pass_over(&mut self, order: Order<J>, last: StreamId) -> Took
         requires lost { self.old.inbox.has_lost ≡ true }
         requires none_aside { self.old.inbox.set_aside ≡ None }
-        ensures passes { result ≡ took.One → PassesOver W.contents W.failed order self.old self.new }
+        ensures passes { result ≡ took.One
+            → PassesOver W.contents W.failed order self.old self.new }
         ensures inbox { result ≡ took.One → self.new.inbox ≡ self.old.inbox }
 
-        // Or it waits, and nothing else changes.
+        // If the order waits, nothing else changes.
         ensures waits { result ≡ took.Early → self.new.inbox
             ≡ record self.old.inbox { set_aside = Some order } }
         ensures same { result ≡ took.Early → (self.new.sends.calls ≡ self.old.sends.calls)
@@ -322,7 +347,7 @@ impl<J: Naming, W: ConnWrite + Drop> Writing<J, W> {
         }
     }
 
-    /// The sender of a call whose order is lost goes back. Where there is no place for it the order waits.
+    /// Hands back the sender of a call whose order is lost. Without a place for it the order waits.
     fn turn_back(&mut self, id: StreamId, opening: Opening<J>) -> Took
         ensures passes { result ≡ took.One
             → PassesOver W.contents W.failed (orders.Open id opening) self.old self.new }
@@ -348,7 +373,7 @@ impl<J: Naming, W: ConnWrite + Drop> Writing<J, W> {
         }
     }
 
-    /// No more orders come, behind one that was lost. Whether the core took that.
+    /// No more orders come, after one that was lost. Answers whether the core took the Close.
     fn close(&mut self, last: StreamId) -> bool
         ensures passes { PassesOver W.contents W.failed orders.Close self.old self.new }
         ensures way { in_name self.new.sends.home ≡ in_name self.old.sends.home }
@@ -388,6 +413,7 @@ impl<J: Naming, W: ConnWrite + Drop> Writing<J, W> {
         ensures input { self.new.input_ended ≡ self.old.input_ended }
         ensures closed { self.new.closed ≡ self.old.closed }
         ensures blames { self.new.blames ≡ true → (id ≡ 0) ⊎ (self.old.blames ≡ true) }
+        ensures spares { self.new.blames ≡ false → (id ≢ 0) × (self.old.blames ≡ false) }
         ensures stops { result ≡ took.Stops → self.new.blames ≡ true }
         ensures ends { result ≢ took.Lost }
     {
@@ -409,8 +435,8 @@ impl<J: Naming, W: ConnWrite + Drop> Writing<J, W> {
         Took::Lost
     }
 
-    /// Ends the connection once an order was lost: by GOAWAY where there is memory for that, and
-    /// behind it nothing is written.
+    /// Ends the connection once an order was lost: by GOAWAY, if there is memory for it. Nothing is
+    /// written after that.
     pub fn give_up(&mut self, last: StreamId)
         requires lost { self.old.inbox.has_lost ≡ true }
         ensures leads { LeadsOn W.contents W.failed self.old self.new }
@@ -420,7 +446,7 @@ impl<J: Naming, W: ConnWrite + Drop> Writing<J, W> {
         }
     }
 
-    /// Gives the core a GOAWAY of the writer's own. Whether it was taken.
+    /// Gives the core a GOAWAY of the writer's own. Answers whether it was taken.
     fn part(&mut self, last: StreamId) -> bool
         ensures parts { Parts W.contents W.failed self.old self.new }
         ensures way { in_name self.new.sends.home ≡ in_name self.old.sends.home }
@@ -433,21 +459,21 @@ impl<J: Naming, W: ConnWrite + Drop> Writing<J, W> {
         matches!(taking, Taking::Done)
     }
 
-    /// Wakes the worker of the call of a stream that the writer has ended, once the call was cut:
-    /// so it sees that.
+    /// Wakes the worker of the call of a stream that the writer has ended. The call is cut before,
+    /// so the worker sees that.
     pub fn wake(&self, id: StreamId) {
         self.sends.wake(id);
     }
 
-    /// Wakes the workers that wait for room, where something of their calls is in the buffer: for
-    /// that items were taken.
+    /// Wakes the workers that wait for room and have something of their calls in the buffer, since
+    /// items were taken for that.
     pub fn wake_for_room(&self) {
         for id in self.frames.streams() {
             self.sends.wake_for_room(*id);
         }
     }
 
-    /// Wakes all workers that wait for room, once no call is live: so they see that.
+    /// Wakes all workers that wait for room. No call is live then, and they see that.
     pub fn wake_all(&self) {
         self.sends.wake_all();
     }
@@ -455,11 +481,13 @@ impl<J: Naming, W: ConnWrite + Drop> Writing<J, W> {
     // ---- calls that were left
 
     /// Resets the streams of calls that were left without trailers, with INTERNAL_ERROR, so that
-    /// their clients don't wait: where the peer sends on and no order waits, since the client may have
-    /// reset the stream. Such a call's sender gave that last, so all else that it gave is in frames.
-    /// Answers whether its owner is to go on at once, since a call was reset.
+    /// their clients don't wait. It does so only while the peer's input goes on and no order waits,
+    /// since the client may have reset the stream. The call's sender gave last that it was left, so
+    /// all else that it gave is in frames. Answers whether a call was reset, so that the owner is
+    /// to go on at once.
     pub fn reset_left(&mut self) -> bool
-        // No call is reset whose sender gave something else last, as trailers, or nothing: so the run says.
+        // By the run, no call is reset whose sender gave last something else, such as trailers, or
+        // gave nothing.
         ensures leads { LeadsOn W.contents W.failed self.old self.new }
     {
         let Waiting::Nothing = self.look() else {
@@ -477,7 +505,8 @@ impl<J: Naming, W: ConnWrite + Drop> Writing<J, W> {
         goes_on
     }
 
-    /// The same of one, by its sender's place. Whether there was one, and memory for that.
+    /// Resets the stream of the call whose sender is at this place, if the call was left. Answers
+    /// whether it was, and there was memory for the reset.
     fn reset_left_at(&mut self, place: usize) -> bool
         requires kept { self.old.inbox.has_lost ≡ false }
         requires going { self.old.input_ended ≡ false }
@@ -494,7 +523,8 @@ impl<J: Naming, W: ConnWrite + Drop> Writing<J, W> {
         self.reset(id)
     }
 
-    /// The stream of the call whose sender stands at this place, where it gave last that the call was left.
+    /// The stream of the call whose sender is at this place, if the sender gave last that the call
+    /// was left.
     fn left_at(&mut self, place: usize) -> Option<StreamId>
         ensures left { IfSome result (λ id. WasLeft id (calls got (core_of self.new))) }
         ensures leads { LeadsOn W.contents W.failed self.old self.new }
@@ -504,7 +534,7 @@ impl<J: Naming, W: ConnWrite + Drop> Writing<J, W> {
         self.frames.left_at(place)
     }
 
-    /// Resets the stream of a call that was left. Whether there was memory for that.
+    /// Resets the stream of a call that was left. Answers whether there was memory for that.
     fn reset(&mut self, id: StreamId) -> bool
         requires kept { self.old.inbox.has_lost ≡ false }
         requires going { self.old.input_ended ≡ false }
@@ -526,9 +556,9 @@ impl<J: Naming, W: ConnWrite + Drop> Writing<J, W> {
     // ---- the end while calls go on
 
     /// Warns the peer, once, that this side is to end the connection while calls go on (RFC 9113,
-    /// section 6.8): by a GOAWAY without an error that names the greatest number of a stream, unless
-    /// a GOAWAY was ordered before, and by a PING. Out of memory, or once an order was lost, it may
-    /// be left out.
+    /// section 6.8). The warning is a GOAWAY without an error that names stream 2^31 - 1, unless a
+    /// GOAWAY was ordered before, and a PING. Without memory, or once an order was lost, it may be
+    /// left out.
     pub fn warn(&mut self)
         ensures leads { LeadsOn W.contents W.failed self.old self.new }
     {
@@ -538,7 +568,7 @@ impl<J: Naming, W: ConnWrite + Drop> Writing<J, W> {
         }
     }
 
-    /// The GOAWAY of it.
+    /// Warns the peer by the GOAWAY.
     fn warn_by_goaway(&mut self)
         requires kept { self.old.inbox.has_lost ≡ false }
         ensures leads { LeadsOn W.contents W.failed self.old self.new }
@@ -550,7 +580,7 @@ impl<J: Naming, W: ConnWrite + Drop> Writing<J, W> {
         }
     }
 
-    /// The PING of it.
+    /// Warns the peer by the PING.
     fn warn_by_ping(&mut self)
         requires kept { self.old.inbox.has_lost ≡ false }
         ensures leads { LeadsOn W.contents W.failed self.old self.new }
@@ -561,7 +591,7 @@ impl<J: Naming, W: ConnWrite + Drop> Writing<J, W> {
         }
     }
 
-    /// Gives the core a warning. Whether it was taken.
+    /// Gives the core a warning. Answers whether it was taken.
     fn warn_by(&mut self, warning: Control<Sender<OutLane>>) -> bool
         requires kept { self.old.inbox.has_lost ≡ false }
         requires own { IsWarning warning }
@@ -577,8 +607,8 @@ impl<J: Naming, W: ConnWrite + Drop> Writing<J, W> {
 
     // ---- frames
 
-    /// Whether credit that is granted on a stream counts: the order that opens it was taken, and none
-    /// that resets it. On the connection, which is stream 0, it always does.
+    /// Whether credit that is granted on a stream counts: the order that opens it was taken, and
+    /// none that resets it. On the connection, which is stream 0, credit always counts.
     pub fn takes_credit(&self, id: StreamId) -> bool
         ensures { result ≡ takes_credit self.now.frames.core id }
     {
@@ -587,7 +617,7 @@ impl<J: Naming, W: ConnWrite + Drop> Writing<J, W> {
 
     /// Owes the peer n bytes more of credit, on a stream, or on the connection where it is 0.
     pub fn grant(&mut self, id: StreamId, n: u32)
-        // On the connection just so much more credit was granted.
+        // On the connection just that much more credit was granted.
         ensures leads { (had has : ℕ) → has ≡ had + (if nat_eq id 0 then n else 0)
             → LeadsTo W.contents W.failed had self.old has self.new }
     {
@@ -604,8 +634,8 @@ impl<J: Naming, W: ConnWrite + Drop> Writing<J, W> {
         self.frames.fill()
     }
 
-    /// Tells the peer that no more frames come, where the core had no memory for one: by its last
-    /// word, a GOAWAY of the writer's own.
+    /// Puts the last word of a core that had no memory for a frame into the buffer: a GOAWAY of the
+    /// writer's own.
     pub fn say_last(&mut self, last: StreamId)
         ensures stays { Stays W.contents W.failed self.old self.new }
     {
@@ -622,7 +652,8 @@ impl<J: Naming, W: ConnWrite + Drop> Writing<J, W> {
         self.frames.is_flushed()
     }
 
-    /// Hands the senders of calls that are through back, before the peer can see that. Whether there was one.
+    /// Hands back the senders of calls that are through, before the peer can see their last frames.
+    /// Answers whether there was one.
     pub fn release_all(&mut self) -> bool
         ensures stays { Stays W.contents W.failed self.old self.new }
     {
@@ -638,7 +669,7 @@ impl<J: Naming, W: ConnWrite + Drop> Writing<J, W> {
         has_one
     }
 
-    /// That of the call whose END_STREAM is in the buffer, by its place there.
+    /// Hands back the sender of the call whose END_STREAM is in the buffer, by its place there.
     fn release_ended_at(&mut self, index: usize) -> bool
         ensures stays { Stays W.contents W.failed self.old self.new }
     {
@@ -648,7 +679,8 @@ impl<J: Naming, W: ConnWrite + Drop> Writing<J, W> {
         }
     }
 
-    /// Those of calls that were reset, and of those for which there was no place.
+    /// Hands back the senders of calls that were reset, and those for which there was no place
+    /// before.
     fn release_through(&mut self) -> bool
         ensures stays { Stays W.contents W.failed self.old self.new }
     {
@@ -666,7 +698,7 @@ impl<J: Naming, W: ConnWrite + Drop> Writing<J, W> {
         has_one
     }
 
-    /// That of the call at this place, where it is to go back.
+    /// Hands back the sender of the call at this place, if it is to go back.
     fn release_through_at(&mut self, place: usize) -> bool
         ensures stays { Stays W.contents W.failed self.old self.new }
     {
@@ -676,8 +708,8 @@ impl<J: Naming, W: ConnWrite + Drop> Writing<J, W> {
         }
     }
 
-    /// Hands the sender of a call back. Where there is no place, or the call isn't through yet, that is noted: a full buffer
-    /// may have cut a header block of it.
+    /// Hands back the sender of a call, or notes that it is to go back: there may be no place for
+    /// it, or the call isn't through because a full buffer has cut a header block of it.
     fn release(&mut self, id: StreamId) -> bool
         ensures stays { Stays W.contents W.failed self.old self.new }
     {
@@ -725,7 +757,8 @@ impl<J: Naming, W: ConnWrite + Drop> Writing<J, W> {
 
     // ---- the end
 
-    /// What comes once the buffer was filled and written; `is_silent` where it was empty.
+    /// What the owner does once the buffer was filled and written. `is_silent` says that it was
+    /// empty.
     pub fn rest(&self, filled: Filled, is_silent: bool) -> Rest
         ensures rest { result ≡ rest_of filled is_silent self.now.closed }
         ensures over { result ≡ rest.Over → filled ≡ filling.Over }
@@ -748,14 +781,14 @@ impl<J: Naming, W: ConnWrite + Drop> Writing<J, W> {
         self.sends.len()
     }
 
-    /// The stream of the call at this place that waits for a window which won't open, since the input has
-    /// ended: the call is to be cut.
+    /// The stream of the call at this place that waits for a window which won't open, since the
+    /// input has ended: the call is to be cut.
     pub fn stuck(&self, place: usize) -> Option<StreamId>
         ensures ended { IfSome result (λ id. self.now.input_ended ≡ true) }
         ensures held { IfSome result (λ id. is_held (open_stream self.now.frames.core id)
             (room self.now.frames.core.sending.outbound.states.windows id) ≡ true) }
         ensures whose { IfSome result (λ id. stream_at place self.now ≡ Some id) }
-        // None, where the call doesn't wait so.
+        // It is None only where the call doesn't wait for such a window.
         ensures none { IfNone result (self.now.input_ended ≡ true → (id : ℕ)
             → stream_at place self.now ≡ Some id
             → is_held (open_stream self.now.frames.core id)
@@ -771,16 +804,11 @@ impl<J: Naming, W: ConnWrite + Drop> Writing<J, W> {
     /// What is handed back once no more is to be written.
     pub fn into_end(self) -> Written<J, W>
         requires flushed { IsFlushed self }
-        ensures written { (before : Option (List ℕ)) (credit : ℕ)
-            → LedOut W.contents W.failed before credit self
-            → HasWritten W.contents W.failed before credit (orders_of (taken result.orders))
-            result.ending result.is_faultless result.device }
-
         // With the senders of all calls, which tell what was sent of each.
         ensures sent { (before : Option (List ℕ)) (credit : ℕ)
             → LedOut W.contents W.failed before credit self
             → HasSent W.contents W.failed before credit (taken result.orders) result.rest
-            result.ending result.is_faultless result.device }
+            (ending_told result.ending) result.device }
         ensures ring { result.orders ≡ self.inbox.ring }
         ensures way { result.rest.sends.home ≡ self.sends.home }
     {
@@ -791,7 +819,6 @@ impl<J: Naming, W: ConnWrite + Drop> Writing<J, W> {
             sends,
             ..
         } = self;
-        let is_faultless = frames.is_faultless();
         let (core, device) = frames.into_parts();
         let Inbox {
             ring,
@@ -800,7 +827,6 @@ impl<J: Naming, W: ConnWrite + Drop> Writing<J, W> {
         } = inbox;
         Written {
             ending,
-            is_faultless,
             device,
             orders: ring,
             rest: Senders {
@@ -811,31 +837,30 @@ impl<J: Naming, W: ConnWrite + Drop> Writing<J, W> {
         }
     }
 
-    fn ending(&self) -> Option<Ending>
+    /// How the writer ended; nothing, where all was written.
+    fn ending(&self) -> Option<WriterEnding>
         ensures memory { self.now.frames.standing ≡ stands.OutOfMemory
-            → result ≡ Some ending.OutOfMemory }
-        ensures broken { result ≡ Some ending.WriteFailed
+            → ending_told result ≡ Some ending.OutOfMemory }
+        ensures broken { ending_told result ≡ Some ending.WriteFailed
             → self.now.frames.standing ≡ stands.Broken }
-        ensures each { result ≢ Some ending.OutOfMemory → result ≢ Some ending.WriteFailed
-            → (self.now.inbox.has_lost ≡ false) × (self.now.inbox.set_aside ≡ None) }
-        ensures going { result ≢ Some ending.OutOfMemory → result ≢ Some ending.WriteFailed
+        ensures each { ending_told result ≢ Some ending.OutOfMemory
+            → ending_told result ≢ Some ending.WriteFailed
+            → self.now.inbox.has_lost ≡ false }
+        ensures going { ending_told result ≢ Some ending.OutOfMemory
+            → ending_told result ≢ Some ending.WriteFailed
             → self.now.frames.standing ≡ stands.Going }
-        ensures blames { (code : Code) → result ≡ Some (ending.ProtocolError code)
+        ensures blames { (code : Code) → ending_told result ≡ Some (ending.ProtocolError code)
             → (code ≡ FlowControlError) × (self.now.blames ≡ true) }
-        ensures blamed { self.now.blames ≡ true → result ≢ Some ending.OutOfMemory
-            → result ≢ Some ending.WriteFailed
-            → result ≡ Some (ending.ProtocolError FlowControlError) }
+        ensures unblamed { ending_told result ≡ None → self.now.blames ≡ false }
     {
         if self.inbox.has_lost {
-            return Some(Ending::OutOfMemory);
+            return Some(WriterEnding::OutOfMemory);
         }
         match self.frames.standing() {
-            Standing::OutOfMemory => Some(Ending::OutOfMemory),
-            Standing::Broken => Some(Ending::WriteFailed),
-            // It doesn't come that an order is set aside still.
-            Standing::Going if self.inbox.set_aside.is_some() => Some(Ending::OutOfMemory),
+            Standing::OutOfMemory => Some(WriterEnding::OutOfMemory),
+            Standing::Broken => Some(WriterEnding::WriteFailed),
             Standing::Going if self.blames => {
-                Some(Ending::ProtocolError(ErrorCode::FlowControlError))
+                Some(WriterEnding::ProtocolError(ErrorCode::FlowControlError))
             }
             Standing::Going => None,
         }

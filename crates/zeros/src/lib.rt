@@ -1,9 +1,9 @@
-//! Zeros that cost no copy: bytes whose last ones may be zeros that take no memory, and a buffer that is wiped as little as it was
-//! written.
+//! Bytes whose last ones may be zeros that take no memory, and a buffer for them.
 //!
-//! The payloads of this server are zeros. `zero_tail` has the bytes of a message: the first ones, and how many zeros follow.
-//! `zero_buffer` has the bytes that are to be written to a connection: all of its memory after its end that was used before is
-//! zeros, so that zeros are appended by moving the end. A clause sees the list of the bytes alone.
+//! The payloads of this server are zeros. `zero_tail` has the bytes of a message: the first ones,
+//! and how many zeros follow. `zero_buffer` has the bytes that are to be written to a connection:
+//! all of its memory after its end that was used before is zeros, so that zeros are appended by
+//! moving the end. A clause sees the list of the bytes alone.
 //!
 //! Read `zero_tail`, then `zero_buffer`.
 #![tactic(auto)]

@@ -46,8 +46,8 @@ impl Marks {
         Ok(())
     }
 
-    /// Marks the places `from..to`, which follow all that are marked. It takes no memory: where there is no room for one span more,
-    /// the last one is made longer, with the places between.
+    /// Marks the places `from..to`, which follow all that are marked. It takes no memory: without
+    /// room for one more span it makes the last one longer, with the places between.
     pub(crate) fn mark(&mut self, from: usize, to: usize)
         requires order { from ≤ to }
         requires before { All (EndsBy from) (spans self.old) }
@@ -64,7 +64,7 @@ impl Marks {
         self.last = Span { from, to };
     }
 
-    /// Fills the marked places with zeros, and marks none of them any more.
+    /// Fills the marked places with zeros, and then marks none.
     pub(crate) fn wipe(&mut self, bytes: &mut [u8])
         requires ends { All (EndsBy (length bytes.old)) (spans self.old) }
         requires zeros { AreZerosOutside (spans self.old) bytes.old }

@@ -1,9 +1,24 @@
 //! A buffer that is filled, written out and cleared, again and again.
 //!
-//! All of its memory after its end that was used before is zeros, so zeros are appended by moving the end. `clear` wipes the
-//! places that were written, and no others.
+//! All of its memory after its end that was used before is zeros, so zeros are appended by moving
+//! the end. `clear` wipes the places that were written, and no others.
 
-ghost use Rattle.std.specs.Prelude.{◌≡◌, ◌==◌, ◌≤◌, ◌+◌, ◌-◌, ◌++◌, [], length, replicate, take, drop, OnOk, vec_len, vec_capacity};
+ghost use Rattle.std.specs.Prelude.{
+  ◌≡◌,
+  ◌==◌,
+  ◌≤◌,
+  ◌+◌,
+  ◌-◌,
+  ◌++◌,
+  [],
+  length,
+  replicate,
+  take,
+  drop,
+  OnOk,
+  vec_len,
+  vec_capacity,
+};
 
 use crate::marks::Marks;
 use std::alloc::{AllocError, Global};
@@ -34,9 +49,13 @@ impl Model for ZeroBuffer {
 
     ghost use Rattle.zeros.specs.Marks.{spans, EndsBy, AreZerosOutside};
 
-    ghost view = { λ buffer. record { items = take buffer.end buffer.bytes.items; spare = buffer.room - buffer.end } };
+    ghost view = { λ buffer.
+        record { items = take buffer.end buffer.bytes.items; spare = buffer.room - buffer.end } };
 
-    ghost invariant = { λ buffer. (buffer.end ≤ length buffer.bytes.items) × (buffer.end ≤ buffer.room) × (buffer.room ≤ vec_capacity buffer.bytes) × All (EndsBy buffer.end) (spans buffer.marks) × AreZerosOutside (spans buffer.marks) buffer.bytes.items };
+    ghost invariant = { λ buffer.
+        (buffer.end ≤ length buffer.bytes.items) × (buffer.end ≤ buffer.room)
+        × (buffer.room ≤ vec_capacity buffer.bytes) × All (EndsBy buffer.end) (spans buffer.marks)
+        × AreZerosOutside (spans buffer.marks) buffer.bytes.items };
 }
 
 impl ZeroBuffer {
@@ -73,7 +92,7 @@ impl ZeroBuffer {
         &self.bytes.as_slice()[..self.end]
     }
 
-    /// Makes room for that many bytes more.
+    /// Makes room for `more` bytes more.
     pub fn reserve(&mut self, more: usize) -> Result<(), AllocError>
         ensures items { self.new.items ≡ self.old.items }
         ensures room { OnOk result (more ≤ self.new.spare) }
@@ -98,7 +117,8 @@ impl ZeroBuffer {
         self.marks.mark(start, self.end);
     }
 
-    /// Appends zeros, for which there is room. None of them is written where the memory was used before.
+    /// Appends zeros, for which there is room. None of them is written where the memory was used
+    /// before.
     pub fn append_zeros(&mut self, count: usize)
         requires { count ≤ self.old.spare }
         ensures items { self.new.items ≡ self.old.items ++ replicate count 0 }
@@ -122,7 +142,8 @@ impl ZeroBuffer {
     }
 }
 
-/// Writes bytes from place `at` on, over those that are there and then after the last one. There is room for them.
+/// Writes bytes from place `at` on, over those that are there and then after the last. There is
+/// room for them.
 fn overwrite(out: &mut Vec<u8>, at: usize, bytes: &[u8])
     requires at { at ≤ length out.old.items }
     requires room { at + length bytes.now ≤ vec_capacity out.old }

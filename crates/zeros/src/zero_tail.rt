@@ -1,12 +1,25 @@
 //! Bytes, the last of which may be zeros that take no memory.
 
-ghost use Rattle.std.specs.Prelude.{◌≡◌, ◌==◌, ◌≤◌, ◌++◌, length, replicate, take, drop, IfOk, OnOk, OnErr};
+ghost use Rattle.std.specs.Prelude.{
+  ◌≡◌,
+  ◌==◌,
+  ◌≤◌,
+  ◌++◌,
+  length,
+  replicate,
+  take,
+  drop,
+  IfOk,
+  OnOk,
+  OnErr,
+};
 
 use bytes::Bytes;
 use std::alloc::AllocError;
 use std::marker::Model;
 
-/// Bytes, and a number of zeros that follow them and take no memory. A clause sees the list of all of them.
+/// Bytes, and a number of zeros that follow them and take no memory. A clause sees the list of all
+/// of them.
 #[derive(Debug, Drop)]
 pub struct ZeroTail {
     front: Bytes,
@@ -50,7 +63,8 @@ impl ZeroTail {
         self.len() == 0
     }
 
-    /// Takes the first `at` bytes out, and leaves the others. No byte is copied.
+    /// Takes the first `at` bytes out, and leaves the others. No byte is copied. Without memory
+    /// nothing changes.
     pub fn split_to(&mut self, at: usize) -> Result<ZeroTail, AllocError>
         requires { at ≤ length self.old }
         ensures front { IfOk result (λ tail. tail ≡ take at self.old) }
@@ -69,7 +83,7 @@ impl ZeroTail {
     }
 }
 
-/// The same bytes. The copy shares the first ones.
+/// A copy has the same bytes, and shares the first ones.
 impl Clone for ZeroTail {
     ghost is_clone = { λ tail copy. copy ≡ tail };
 

@@ -60,7 +60,7 @@ fn are_spelled(alloc: Global, messages: &[Bytes], bytes: &[u8]) -> Result<bool> 
     Ok(bytes.starts_with(out.as_slice()))
 }
 
-/// How bytes end behind their whole messages.
+/// How bytes end after their whole messages.
 fn end_text(alloc: Global, fault: Option<LpmFault>, end: Result<(), LpmFault>) -> Result<String> {
     Ok(match (fault, end) {
         (None, Ok(())) => String::from_str(alloc, "end")?,
@@ -69,8 +69,8 @@ fn end_text(alloc: Global, fault: Option<LpmFault>, end: Result<(), LpmFault>) -
     })
 }
 
-/// The messages of a body and how it ends, for one way of handing it over. The end is judged the same before the
-/// messages are answered and after it, and what was answered behind them is answered again.
+/// The messages of a body and how it ends, for one way of handing it over. The end is judged alike
+/// before and after the messages are answered, and the answer after them comes again.
 fn body_text(alloc: Global, bytes: &[u8], cut: usize, push: Push) -> Result<String> {
     let mut splitter = splitter_of(alloc, bytes, cut, push)?;
     let end = splitter.end();

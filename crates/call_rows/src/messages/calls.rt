@@ -12,7 +12,7 @@ use std::alloc::Global;
 /// What begins the path of each method.
 const SERVICE: &str = "/grpc.testing.TestService/";
 
-/// Replies, each with a `;` behind it.
+/// Replies, each with a `;` after it.
 fn push_replies(text: &mut String, alloc: Global, mut replies: Replies) -> Result<()> {
     for _ in 0..u64::MAX {
         let Some(reply) = replies.first() else {
@@ -35,7 +35,8 @@ fn push_answer(text: &mut String, alloc: Global, answer: Step) -> Result<()> {
     Ok(())
 }
 
-/// What a method answers to these messages, and to their end where that is told. Its path has to end with this name.
+/// What a method answers to these messages, and to their end if `ended`. Its path has to end with
+/// this name.
 fn call_text(
     alloc: Global,
     method: &dyn Method,
@@ -51,7 +52,7 @@ fn call_text(
     Ok(text)
 }
 
-/// The same of the method with this name.
+/// What the method with this name answers.
 fn named_call(alloc: Global, name: &str, messages: &[&[u8]], ended: bool) -> Result<String> {
     match name {
         "EmptyCall" => call_text(alloc, &EmptyCall, name, messages, ended),
@@ -65,7 +66,7 @@ fn named_call(alloc: Global, name: &str, messages: &[&[u8]], ended: bool) -> Res
     }
 }
 
-/// Whether the end is told, by the word of a row.
+/// Whether the messages have ended, by the word of a row.
 fn is_ended(word: &str) -> Result<bool> {
     match word {
         "ended" => Ok(true),
@@ -92,7 +93,7 @@ impl Subject for Calls {
     }
 }
 
-/// What StreamingInputCall answers to this message behind others with this sum.
+/// What StreamingInputCall answers to this message after others with this sum.
 fn sum_text(alloc: Global, sum: u32, message: &[u8]) -> Result<String> {
     let mut state = MethodState::Sum(sum);
     let step = StreamingInputCall.message(alloc, &mut state, message)?;

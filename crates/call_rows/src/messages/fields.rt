@@ -93,7 +93,7 @@ fn stays_at_end(fields: &mut Fields<'_>) -> bool {
     fields.next().is_none() && fields.next().is_none()
 }
 
-/// The same text, of fields that are asked for one by one. What ends them is answered again.
+/// The text of fields that are asked for one by one. What ends them is answered again.
 fn steps_text(alloc: Global, bytes: &[u8]) -> Result<String> {
     let mut text = String::new(alloc);
     let mut fields = Fields::new(bytes);

@@ -58,7 +58,8 @@ fn try_row<S: Subject>(
     Ok(Tried { rows, differing })
 }
 
-/// Tries the rows of a file, prints those whose answer isn't the wanted one, and answers how many they are.
+/// Tries the rows of a file, prints those whose answer isn't the wanted one, and answers how many
+/// they are.
 pub fn try_file<S: Subject + Drop>(
     rt: &(impl Files + Print + AllocGlobal),
     name: &str,

@@ -1,4 +1,5 @@
-//! Rows of `testproto`: test messages, as they are read and written, and the faults of bytes that are none.
+//! Rows of `testproto`: test messages, as they are read and written, and the faults of bytes that
+//! are none.
 
 use super::rows::Subject;
 use super::text_form::{Shown, TextForm};
@@ -16,7 +17,7 @@ use testproto::{
 enum Question {
     /// The text form of the message that they are.
     TextForm,
-    /// The same, and they are what is written of the message.
+    /// The bytes are a message's, and what is written of the message.
     Written,
     /// Why they are no message.
     Fault,
@@ -76,7 +77,7 @@ fn named_answer(alloc: Global, name: &str, bytes: &[u8], question: Question) -> 
     }
 }
 
-/// The same for the messages of streaming calls.
+/// The answer for the messages of streaming calls.
 fn streaming_answer(alloc: Global, name: &str, bytes: &[u8], question: Question) -> Result<String> {
     match name {
         "StreamingInputCallRequest" => {

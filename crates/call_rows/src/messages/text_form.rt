@@ -1,5 +1,5 @@
-//! The text form of a message, as the reference protobuf library prints it on one line: the fields that are no defaults,
-//! with their names, by ascending number.
+//! The text form of a message, as the reference protobuf library prints it on one line: the fields
+//! that are no defaults, with their names, by ascending number.
 
 use anyhow::Result;
 use std::alloc::Global;
@@ -17,7 +17,7 @@ pub trait Shown {
     fn show(&self, form: &mut TextForm) -> Result<()>;
 }
 
-/// Fields in their text form, each with a blank behind it.
+/// Fields in their text form, each with a blank after it.
 #[derive(Drop)]
 pub struct TextForm {
     text: String,

@@ -31,7 +31,7 @@ const STREAM: u32 = 1;
 /// Room for the pieces and the items of a row.
 const ROOM: usize = 64;
 
-/// The most items that are looked at behind the turns.
+/// The most items that are looked at after the turns.
 const MAX_ITEMS: u32 = 1000;
 
 /// What happens to a call.
@@ -113,7 +113,7 @@ fn push_turns(events: &mut Vec<Event>, count: u32) -> Result<()> {
     Ok(())
 }
 
-/// What a row gives, behind the name of its method.
+/// What a row gives, after the name of its method.
 fn course_of(alloc: Global, words: &str, events: &str) -> Result<Course> {
     let mut course = Course {
         head: plain_head(alloc),
@@ -210,7 +210,7 @@ struct Client {
     sender: Sender<OutLane>,
 }
 
-/// How a call stands behind its events.
+/// The state of a call after its events.
 #[derive(Drop)]
 struct Seen {
     now: u64,
@@ -295,7 +295,7 @@ fn run_course(alloc: Global, methods: &Methods, index: usize, course: Course) ->
     answer_text(alloc, &seen, code)
 }
 
-/// A call: the name of its method, words for its head, and its events, each behind a `;`.
+/// A call: the name of its method, words for its head, and its events, each after a `;`.
 #[derive(Drop)]
 pub struct Turns<'a> {
     pub methods: &'a Methods,

@@ -1,5 +1,5 @@
-//! How bytes are written in a row: hexadecimal digits, `00*5` for a byte that stands five times, `+` between such parts,
-//! and `-` for no bytes.
+//! How bytes are written in a row: hexadecimal digits, `00*5` for a byte that stands five times,
+//! `+` between such parts, and `-` for no bytes.
 
 use anyhow::{Context, Result};
 use std::alloc::Global;
@@ -55,7 +55,7 @@ pub fn all_bytes(alloc: Global, text: &str) -> Result<Vec<Vec<u8>>> {
 /// The fewest equal bytes at an end that are written as one part.
 const LONG_RUN: usize = 16;
 
-/// How many bytes at the end are the same as the last.
+/// How many bytes at the end are equal to the last.
 fn run_at_end(bytes: &[u8]) -> usize {
     match bytes.last() {
         Some(last) => bytes

@@ -64,7 +64,8 @@ pub fn two_take_turns<R: Threads + Wait + Sync + Clock>(rt: &R) -> Result<bool> 
     Ok(is_whole && start.elapsed(rt)?.as_secs() < LIMIT)
 }
 
-/// Counts and rings in each round, beside another thread, and waits until two others have done so at their bell.
+/// Counts and rings in each round, beside another thread, and waits until two others have done so
+/// at their bell.
 fn keep_pace(rt: &impl Wait, ours: (&Bell, &AtomicU64), theirs: (&Bell, &AtomicU64)) {
     for round in 0..ROUNDS {
         ours.1.fetch_add(1, Ordering::SeqCst);

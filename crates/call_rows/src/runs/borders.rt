@@ -37,7 +37,8 @@ fn gets(rx: &mut RingLaneOut<u64>, first: u64, end: u64) -> bool
     are_got
 }
 
-/// All that there is room for is put before any is got. Then it is full, and the last item still has its place.
+/// All that there is room for is put before any is got. Then it is full, and the last item still
+/// has its place.
 pub fn wait_all(alloc: Global) -> Result<bool> {
     let (mut tx, mut rx) = Numbers::open(alloc, ROOM as usize)?;
     let are_put = puts(&mut tx, 0, ROOM);
@@ -68,7 +69,7 @@ pub fn come_one_by_one(alloc: Global) -> Result<bool> {
     Ok(holds && settled.put == ROOM && settled.got == ROOM && settled.left == 0)
 }
 
-/// The reader is always so many items after the writer, from where it has got `start` items.
+/// The reader is always a number of items after the writer, from where it has got `start` items.
 fn is_followed(alloc: Global, start: u8, lag: u8) -> Result<bool> {
     let (start, lag) = (u64::from(start), u64::from(lag));
     let (mut tx, mut rx) = Numbers::open(alloc, ROOM as usize)?;
@@ -82,7 +83,8 @@ fn is_followed(alloc: Global, start: u8, lag: u8) -> Result<bool> {
     Ok(holds && settled.got == start + SOME && settled.left == lag)
 }
 
-/// From each place of the first ring, with one item to get and with more than the ring has places for.
+/// From each place of the first ring, with one item to get and with more than the ring has places
+/// for.
 pub fn follow(alloc: Global) -> Result<bool> {
     let mut holds = true;
     for start in 0..17 {
@@ -109,7 +111,7 @@ fn gets_what_is_there(tx: &mut RingLaneIn<u64>, rx: &mut RingLaneOut<u64>, first
     next.saturating_sub(first)
 }
 
-/// So many are got, and so many more are there where the ends meet.
+/// Where the ends meet, `got` items were got, and `left` more are there.
 fn is_met(alloc: Global, got: u8, left: u8) -> Result<bool> {
     let (got, left) = (u64::from(got), u64::from(left));
     let (mut tx, mut rx) = Numbers::open(alloc, ROOM as usize)?;

@@ -46,7 +46,7 @@ impl Read for Trickle {
     }
 }
 
-/// Takes one byte at a call, every other time after a signal, and has room for so many.
+/// Takes one byte at a call, every other time after a signal, and has room for a number of bytes.
 #[derive(Drop)]
 struct Narrow {
     bytes: Vec<u8>,
@@ -82,7 +82,7 @@ fn read_up_to(alloc: Global, fails_at: usize) -> Result<(Option<Vec<u8>>, bool)>
     Ok((all, input.has_failed()))
 }
 
-/// What a text is written as where there is room for so many bytes, and whether that was all.
+/// What is written of a text if there is room for a number of bytes, and whether that was all.
 fn write_within(alloc: Global, room: usize) -> (Result<(), DeviceFault>, Vec<u8>) {
     let mut output = Marked::new(Narrow {
         bytes: Vec::new(alloc),

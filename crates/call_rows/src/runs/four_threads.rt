@@ -2,7 +2,25 @@
 //!
 //! It is there to state what four threads do; a server's own loops decide what a refusal means.
 
-ghost use Rattle.std.specs.Prelude.{◌≡◌, ℕ, true, List, [], ◌∷◌, ◌++◌, None, Some, ◌≤◌, length, map, take, All, IfOk, MatchBool, MatchOption};
+ghost use Rattle.std.specs.Prelude.{
+  ◌≡◌,
+  ℕ,
+  true,
+  List,
+  [],
+  ◌∷◌,
+  ◌++◌,
+  None,
+  Some,
+  ◌≤◌,
+  length,
+  map,
+  take,
+  All,
+  IfOk,
+  MatchBool,
+  MatchOption,
+};
 ghost use mathlib.Core.List.{IsPrefix};
 ghost use Rattle.lane.specs.End.{of_end};
 ghost use Rattle.callbox.specs.InSides.{Took, pieces_of};
@@ -211,7 +229,8 @@ fn give_answer<L: Lane<Item = OutItem>>(
     End::Shut(giver.trailers(trailers))
 }
 
-/// Gives the messages up to the first that is refused, or whose sharing runs out of memory, and says whether it gave all.
+/// Gives the messages up to the first that is refused, or whose sharing runs out of memory, and
+/// says whether it gave all.
 fn give_messages<L: Lane<Item = OutItem>>(giver: &mut Giver<L>, messages: &[Bytes]) -> bool
     requires head { has_head (L.put_in giver.old.tx) ≡ true }
     requires within { All (λ m. length m ≤ 4194304) messages.now }
@@ -354,8 +373,9 @@ fn run_out<L: Lane<Item = OutItem> + Send, R: Threads + Wait + Sync>(
 
 /// Runs one call whose four ends are in four threads, and settles both of its sides.
 ///
-/// The pieces are fed, and then the half is shut; where a piece is refused, the half stays open. The answer is given up to
-/// the first item that is refused. It waits for what the other threads do, but for no room in a lane.
+/// The pieces are fed, and then the half is shut; where a piece is refused, the half stays open.
+/// The answer is given up to the first item that is refused. It waits for what the other threads
+/// do, but for no room in a lane.
 pub fn run_call<
     I: Lane<Item = InPiece> + Send,
     O: Lane<Item = OutItem> + Send,

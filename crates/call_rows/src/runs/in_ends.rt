@@ -30,7 +30,7 @@ fn feeds<L: Lane<Item = InPiece>>(
     Ok(feeder.feed(Bytes::copy_from_slice(alloc, piece)?).is_ok())
 }
 
-/// Whether the next message has so many bytes, and so much credit returns with it.
+/// Whether the next message has this many bytes, and this much credit returns with it.
 fn takes<L: Lane<Item = InPiece>>(taker: &mut Taker<L>, len: usize, credit: u32) -> bool
     ensures { L.out_name taker.new.rx ≡ L.out_name taker.old.rx }
 {
@@ -44,7 +44,8 @@ pub fn keep_what_was_polled(alloc: Global) -> Result<bool> {
     let (mut feeder, mut taker, _, _) = open_call::<RingLane<InPiece>, RingLane<OutItem>>(
         alloc, 1, 3, 0,
     )?;
-    // A message's first bytes; its last one, with an empty message and the first bytes of another; and that one's last.
+    // A message's first bytes; its last one, with an empty message and the first bytes of another;
+    // and that one's last.
     let are_fed = feeds(alloc, &mut feeder, &[0, 0, 0])?
         && feeds(alloc, &mut feeder, &[0, 1, 0x41, 0, 0, 0, 0, 0])?
         && feeds(alloc, &mut feeder, &[0, 0, 0, 0, 0])?;
@@ -64,7 +65,8 @@ pub fn keep_what_was_polled(alloc: Global) -> Result<bool> {
     Ok(are_fed && is_first && is_second && is_third && is_end && is_settled)
 }
 
-/// A message in two pieces, and a piece of the next, which isn't polled for it: the bytes of two return.
+/// A message in two pieces, and a piece of the next, which isn't polled for it: the bytes of two
+/// return.
 fn credits_what_was_polled<L: Lane<Item = InPiece>>(alloc: Global) -> Result<bool> {
     let (mut feeder, mut taker, _, _) = open_call::<L, RingLane<OutItem>>(alloc, 1, 3, 0)?;
     let are_fed = feeds(alloc, &mut feeder, &[0, 0, 0])?

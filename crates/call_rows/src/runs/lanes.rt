@@ -9,7 +9,8 @@ use std::thread::Threads;
 /// Items that cross from one thread to another.
 const CROSSING: u64 = 65_536;
 
-/// Room for two: the third item comes back with how many wait, the last one is placed, and the others are found before it.
+/// Room for two: the third item comes back with how many wait, the last one is placed, and the
+/// others are found before it.
 fn fills_and_empties<L: Lane<Item = u64>>(alloc: Global) -> Result<bool> {
     let (mut tx, mut rx) = L::open(alloc, 2)?;
     let are_put = L::put(&mut tx, 10).is_ok() && L::put(&mut tx, 11).is_ok();
@@ -28,7 +29,7 @@ fn fills_and_empties<L: Lane<Item = u64>>(alloc: Global) -> Result<bool> {
     Ok(are_put && is_full && is_placed && are_got && is_end && is_settled)
 }
 
-/// Whether a queue handed this item back, as so many waited.
+/// Whether a queue handed this item back, since this many waited.
 fn is_full(put: &Result<(), PutFault<u64>>, refused: u64, wait: u64) -> bool {
     matches!(put, Err(PutFault::Full { item, waiting }) if *item == refused && *waiting == wait)
 }

@@ -65,7 +65,7 @@ fn call_both(alloc: Global, methods: &Methods) -> bool {
     true
 }
 
-/// Two threads that hold the same methods, of which one outlives the other's hold.
+/// Two threads that hold the methods, of which one holds them longer than the other.
 pub fn are_shared<R: Threads>(rt: &R, alloc: Global) -> Result<bool> {
     let mut methods: Vec<Box<dyn Method>> = Vec::new(alloc);
     methods.push(Box::new(alloc, EmptyCall)?)?;

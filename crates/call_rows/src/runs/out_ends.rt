@@ -74,7 +74,8 @@ fn begins<L: Lane<Item = OutItem>>(giver: &mut Giver<L>, head: Sequence<Field>) 
     giver.give(Bytes::from_static(&[0x41])).is_ok() && is_begun
 }
 
-/// Gives another message, and what is refused: what is no frame, and a frame for which there is no room.
+/// Gives another message, and what is refused: what is no frame, and a frame for which there is no
+/// room.
 fn goes_on<L: Lane<Item = OutItem>>(giver: &mut Giver<L>) -> bool
     ensures { L.in_name giver.new.tx ≡ L.in_name giver.old.tx }
 {

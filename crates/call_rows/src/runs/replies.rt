@@ -37,7 +37,7 @@ fn are(replies: &mut Replies, order: &[Reply]) -> bool {
     replies.is_empty()
 }
 
-/// All replies are read back; behind them nothing is, until one more is pushed.
+/// All replies are read back, and nothing after them, until one more is pushed.
 pub fn are_read_back(alloc: Global) -> Result<bool> {
     let mut replies = Replies::one(alloc, ORDER[0])?;
     for reply in &ORDER[1..] {

@@ -22,7 +22,8 @@ pub fn octets(alloc: Global) -> Result<bool> {
     )
 }
 
-/// Bytes of the program, bytes that were made shared, and copies of both, which stay when those are dropped.
+/// Bytes of the program, bytes that were made shared, and copies of both, which stay when those are
+/// dropped.
 pub fn shared_octets(alloc: Global) -> Result<bool> {
     let fixed = Octets::fixed(BYTES);
     let shared = Octets::from(BYTES.to_vec(alloc)?).share()?;

@@ -1,9 +1,27 @@
 //! Calls that are run one after another, as a worker runs those of its list.
 //!
-//! When the turns of a call come is its worker's to say, by a [`Pace`]: one with a bell waits where there is nothing to
-//! do, and one whose connection has ended has the call left.
+//! A worker decides by a [`Pace`] when the turns of a call come. A pace with a bell waits where
+//! there is nothing to do, and a pace whose connection has ended leaves the call.
 
-ghost use Rattle.std.specs.Prelude.{◌≡◌, ◌+◌, ◌≤◌, ◌<◌, ◌++◌, ◌⊎◌, ℕ, List, [], true, false, All, IfOk, IfSome, IsSomeAnd, length, slice_get};
+ghost use Rattle.std.specs.Prelude.{
+  ◌≡◌,
+  ◌+◌,
+  ◌≤◌,
+  ◌<◌,
+  ◌++◌,
+  ◌⊎◌,
+  ℕ,
+  List,
+  [],
+  true,
+  false,
+  All,
+  IfOk,
+  IfSome,
+  IsSomeAnd,
+  length,
+  slice_get,
+};
 ghost use Rattle.std.specs.List.{AllZip, sum_by};
 ghost use Rattle.lane.specs.End.{of_end};
 ghost use Rattle.callbox.specs.InSides.{Took};
@@ -12,7 +30,16 @@ ghost use Rattle.callrun.specs.Runs.{HasCome};
 ghost use Rattle.callrun.specs.Handlings.{lacks_memory};
 ghost use Rattle.callrun.specs.Sides.{is_left, is_open, name_by, shown};
 ghost use Rattle.callrun.specs.declared.uses.call_list.Why.TheVariants as why;
-ghost use Rattle.callrun.specs.Listings.{CountsOn, HadTurns, IsUntouched, IsWhy, WasRun, lefts_by, leaves, turns_by};
+ghost use Rattle.callrun.specs.Listings.{
+  CountsOn,
+  HadTurns,
+  IsUntouched,
+  IsWhy,
+  WasRun,
+  lefts_by,
+  leaves,
+  turns_by,
+};
 
 use crate::call::Turn;
 use crate::call_run::CallRun;
@@ -26,16 +53,16 @@ use std::collections::VecDeque;
 
 /// When the turns of calls come.
 pub trait Pace {
-    /// The latest moment that was told.
+    /// The latest moment that it gave.
     ghost latest: { Self → ℕ };
 
     /// How many turns it gave.
     ghost turns: { Self → ℕ };
 
-    /// How often it had a call left.
+    /// How often it left a call.
     ghost lefts: { Self → ℕ };
 
-    /// The moment of the next turn, behind one that came to this. None: the call is to be left.
+    /// The moment of the next turn, after one that answered this. None: the call is to be left.
     fn next(&mut self, last: Turn) -> Option<u64>
         ensures stays { latest self.old ≤ latest self.new }
         ensures told { IfSome result (λ now. now ≤ latest self.new) }
@@ -48,16 +75,16 @@ pub trait Pace {
 pub enum Why {
     /// It is over.
     Over,
-    /// Its pace had it left.
+    /// Its pace left it.
     Left,
-    /// It had as many as it may have.
+    /// It had all the turns that it may have.
     Spent,
 }
 
 /// A call that was opened, and waits for its worker.
 #[derive(Drop)]
 pub struct Opened<I: Lane<Item = InPiece>, O: Lane<Item = OutItem>> {
-    /// Which of the server's methods the call names.
+    /// The index of the call's method.
     pub index: usize,
     pub head: CallHead,
     /// When it was opened, in nanoseconds of the server's clock.
@@ -80,7 +107,8 @@ pub struct Ended<I: Lane<Item = InPiece>, O: Lane<Item = OutItem>> {
     pub ran_out: bool,
 }
 
-/// Gives the call turns until it is over, or its pace has it left, or it had so many: how many it had, and why no more.
+/// Gives the call turns until it is over, its pace leaves it, or it had `turns` turns. Answers how
+/// many it had, and why no more.
 fn take_turns<I: Lane<Item = InPiece>, O: Lane<Item = OutItem>, P: Pace>(
     run: &mut CallRun<I, O>,
     methods: &Methods,
@@ -131,7 +159,8 @@ fn take_turns<I: Lane<Item = InPiece>, O: Lane<Item = OutItem>, P: Pace>(
     (turns, Why::Spent)
 }
 
-/// Runs a call until it is over, or its pace has it left, or it had so many turns. It takes no memory of its own.
+/// Runs a call until it is over, its pace leaves it, or it had `turns` turns. It takes no memory of
+/// its own.
 pub fn run_call<I: Lane<Item = InPiece>, O: Lane<Item = OutItem>, P: Pace>(
     alloc: Global,
     methods: &Methods,
@@ -151,7 +180,7 @@ pub fn run_call<I: Lane<Item = InPiece>, O: Lane<Item = OutItem>, P: Pace>(
     ensures name { of_end (λ g. O.in_name g.tx) (λ s. O.shut_name s.shut) result.end
         ≡ O.in_name call.giver.tx }
     ensures stays { P.latest pace.old ≤ P.latest pace.new }
-    // It is left only where its pace had it left, or its pace had as many turns as it may have.
+    // The call is left only if its pace leaves it, or it had all the turns that it may have.
     ensures turns { CountsOn (P.turns pace.old) (P.turns pace.new) result.turns }
     ensures lefts { CountsOn (P.lefts pace.old) (P.lefts pace.new) (leaves result.why) }
     ensures had { HadTurns turns result.turns result.why
@@ -179,8 +208,8 @@ pub fn run_call<I: Lane<Item = InPiece>, O: Lane<Item = OutItem>, P: Pace>(
     }
 }
 
-/// Runs calls, one after another, each as [`run_call`] does: what is left of each stands at its place in the list. Room
-/// for what is left is made before the first is run.
+/// Runs calls, one after another, each as [`run_call`] does. The answer has what is left of each
+/// call, in the order of the calls. It makes room for that before it runs the first.
 pub fn run_list<I: Lane<Item = InPiece>, O: Lane<Item = OutItem>, P: Pace>(
     alloc: Global,
     methods: &Methods,

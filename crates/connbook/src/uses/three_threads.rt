@@ -1,8 +1,8 @@
 //! A reader, a worker and a writer over one lock.
 //!
-//! It is there to state what the shares and the book say together, once the three have met again. The reader admits a call
-//! and counts the pieces of DATA that come on it, the worker returns them, and the writer announces so many times and then
-//! stops.
+//! It states what the shares and the book say together, once the three have met again. The reader
+//! admits a call and counts the pieces of DATA that come on it, the worker returns them, and the
+//! writer announces a number of times and then stops.
 
 ghost use Rattle.std.specs.Prelude.{◌≡◌, ℕ, ◌+◌, ◌*◌, ◌^◌, ◌<◌, ◌≤◌, sum, length};
 
@@ -53,7 +53,7 @@ fn work<A: Ledger, B: Ledger, C: Ledger, R: Wait>(
     }
 }
 
-/// Announces so many times, and stops; with how many bytes were announced on the connection.
+/// Announces `times` times, and stops. Answers how many bytes were announced on the connection.
 fn write<A: Ledger, B: Ledger, C: Ledger, R: Wait>(
     rt: &R,
     book: &Mutex<ConnBook<A, B, C>>,
@@ -74,7 +74,7 @@ fn write<A: Ledger, B: Ledger, C: Ledger, R: Wait>(
     (told, credit)
 }
 
-/// The three, over ledgers of their own.
+/// Runs the three over ledgers of their own.
 fn run_over<
     A: Ledger + Send + Sync,
     B: Ledger + Send + Sync,
@@ -113,7 +113,7 @@ fn run_over<
     credit
 }
 
-/// The worker, and the writer in a thread beside it.
+/// Runs the worker, and the writer in a thread beside it.
 fn work_and_write<
     A: Ledger + Send + Sync,
     B: Ledger + Send + Sync,
@@ -144,8 +144,8 @@ fn work_and_write<
     written
 }
 
-/// Runs a reader of these pieces, a worker and a writer over one book, and answers how many bytes the writer announced on the
-/// connection: no more than came.
+/// Runs a reader of these pieces, a worker and a writer over one book, and answers how many bytes
+/// the writer announced on the connection: no more than came.
 pub fn run<R: Threads + Wait + Sync>(rt: &R, alloc: Global, pieces: &[u32], times: u32) -> u64
     ensures credit { result ≤ sum pieces.now }
 {

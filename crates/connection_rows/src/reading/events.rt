@@ -1,4 +1,5 @@
-//! Events as the rows have them, each behind a space. Of a head the path, the timeout in nanoseconds, and the echoes.
+//! Events as the rows have them, each after a space. Of a head the path, the timeout in
+//! nanoseconds, and the echoes.
 
 use callhead::{CallHead, Encoding};
 use session::{Control, InEvent};
@@ -45,7 +46,7 @@ fn push_control(out: &mut String, control: &Control) -> Result<(), AllocError> {
     }
 }
 
-/// An event, behind a space.
+/// An event, after a space.
 pub fn push_event(out: &mut String, event: &InEvent) -> Result<(), AllocError> {
     match event {
         InEvent::Open(id, head) => {
@@ -64,7 +65,7 @@ pub fn push_event(out: &mut String, event: &InEvent) -> Result<(), AllocError> {
     }
 }
 
-/// Events, one behind the other.
+/// Events, one after the other.
 pub fn text_of(alloc: Global, events: &[InEvent]) -> Result<String, AllocError> {
     let mut out = String::new(alloc);
     for event in events {

@@ -1,4 +1,5 @@
-//! Reads connections by the reading core, cut in many ways, and compares their events with those that are wanted.
+//! Reads connections by the reading core, cut in many ways, and compares their events with those
+//! that are wanted.
 
 ghost use Rattle.std.specs.Prelude.{◌≤◌, length, IfOk};
 ghost use Rattle.session.specs.Events.{Events};
@@ -9,12 +10,13 @@ use session::InEvent;
 use session::uses::in_pieces::events_of;
 use std::alloc::{AllocError, Global};
 
-/// A connection of so many bytes is cut at each place, and a longer one at the last few.
+/// A connection of up to this many bytes is cut at each place, and a longer one at the last few.
 const CUT_EVERYWHERE: usize = 4_096;
 
 const LAST_PLACES: usize = 12;
 
-/// The sizes of pieces in which a connection is read: each one of a byte at a time, and a longer one of these too.
+/// The sizes of pieces in which a connection is read: each one of a byte at a time, and a longer
+/// one of these too.
 const EACH: [usize; 1] = [1];
 
 const LONGER: [usize; 6] = [1, 2, 9, 100, 16_384, 16_393];
@@ -41,7 +43,8 @@ pub fn events_in_pieces(
     events_of(alloc, pieces.as_slice())
 }
 
-/// The first place at which a connection of so many bytes is cut, and the sizes of pieces in which it is read.
+/// The first place at which a connection of `len` bytes is cut, and the sizes of pieces in which it
+/// is read.
 fn cuts(len: usize) -> (usize, &'static [usize]) {
     if len <= CUT_EVERYWHERE {
         (0, &EACH)
@@ -50,7 +53,8 @@ fn cuts(len: usize) -> (usize, &'static [usize]) {
     }
 }
 
-/// What the events of a row's bytes are where they are not those that are wanted, and how the bytes were cut.
+/// What the events of a row's bytes are where they are not those that are wanted, and how the bytes
+/// were cut.
 pub fn difference(alloc: Global, row: &Part) -> Result<Option<String>, AllocError> {
     let bytes = row.bytes.as_slice();
     let wanted = row.events.as_str();

@@ -1,7 +1,8 @@
-//! Bytes and the events that they come to, as a line spells them: items with spaces between them, `=>`, and the events.
+//! Bytes and their events, as a line spells them: items with spaces between them, `=>`, and the
+//! events.
 //!
-//! An item is a name, pairs of hexadecimal digits, such digits with a number of times (`20*16384`), or `heads*N`: HEADERS
-//! of N streams with the numbers 1, 3, 5 .. whose heads are those of no call.
+//! An item is a name, pairs of hexadecimal digits, such digits with a number of times (`20*16384`),
+//! or `heads*N`: HEADERS of N streams with the numbers 1, 3, 5 .. whose heads are those of no call.
 
 use anyhow::{Context, Result};
 use std::alloc::{AllocError, Global};

@@ -1,5 +1,6 @@
-//! The rows of a file. A line is a row, `ITEMS => EVENTS`, or gives a name, `NAME = ITEMS => EVENTS`, which the lines behind
-//! it may have as an item. A line that begins with `#` is a comment.
+//! The rows of a file. A line is a row, `ITEMS => EVENTS`, or gives a name,
+//! `NAME = ITEMS => EVENTS`, which later lines may have as an item. A line that begins with `#` is
+//! a comment.
 
 use super::part::{Named, Part};
 use anyhow::{Context, Result};

@@ -40,7 +40,7 @@ fn grant(core: &mut Core, peer: &mut Peer, id: StreamId, n: u32) -> Result<()> {
     Ok(())
 }
 
-/// Takes a control. One that is refused for what it says is told.
+/// Takes a control. One that is refused for what it says appears in the text.
 fn take(core: &mut Core, peer: &mut Peer, order: Order) -> Result<()> {
     match core.control(order) {
         Ok(()) => Ok(()),
@@ -49,7 +49,7 @@ fn take(core: &mut Core, peer: &mut Peer, order: Order) -> Result<()> {
     }
 }
 
-/// Writes until nothing is left, at most so many frames.
+/// Writes until nothing is left, up to a number of frames.
 fn write_all(core: &mut Core, peer: &mut Peer, frames: u32) -> Result<()> {
     for _ in 0..frames {
         match next(core)? {

@@ -16,7 +16,7 @@ const ROOM: usize = 256;
 /// The longest message that a row may have.
 const LONGEST: usize = 400_000;
 
-/// One field. Its value is a text of so many bytes, all of them `2`.
+/// One field. Its value is a text of `len` bytes, all of them `2`.
 pub fn fields(alloc: Global, name: &str, len: usize) -> Result<Sequence<Field>> {
     let value = vec![in alloc; b'2'; len]?;
     let field = Field {
@@ -28,7 +28,8 @@ pub fn fields(alloc: Global, name: &str, len: usize) -> Result<Sequence<Field>> 
     Ok(Sequence::from(list))
 }
 
-/// The sender of a call that gave a head, messages of these lengths, as `300,20`, and trailers where it ended.
+/// The sender of a call that gave a head, messages of these lengths, as `300,20`, and trailers
+/// where it ended.
 pub fn sender(alloc: Global, id: u32, lengths: &str, ended: bool) -> Result<Sender<Ring>> {
     let head = fields(alloc, ":status", 3)?;
     let (mut giver, sender) = open_response(alloc, id)?;
@@ -53,7 +54,7 @@ fn given<T: Drop>(answer: Result<(), PutFault<T>>) -> Result<()> {
     Ok(())
 }
 
-/// Gives what comes behind the head.
+/// Gives what follows the head.
 fn give_all(alloc: Global, mut giver: Giver<Ring>, lengths: &str, ended: bool) -> Result<()> {
     for length in lengths.split(',') {
         if length != "-" {
@@ -66,7 +67,7 @@ fn give_all(alloc: Global, mut giver: Giver<Ring>, lengths: &str, ended: bool) -
     Ok(())
 }
 
-/// Gives a message of so many zeros.
+/// Gives a message of zeros, by their number.
 fn give(alloc: Global, giver: &mut Giver<Ring>, len: usize) -> Result<()> {
     let message = Bytes::from_vec(vec![in alloc; 0; len.min(LONGEST)]?)?;
     if giver.has_head() {

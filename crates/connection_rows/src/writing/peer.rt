@@ -1,4 +1,4 @@
-//! What a peer reads of what is written, told as text.
+//! What a peer reads of what is written, as text.
 
 ghost use Rattle.h2frame.specs.Spelling.{IsWritable};
 
@@ -12,7 +12,7 @@ use zeros::ZeroBuffer;
 /// The bytes of a frame's head (RFC 9113, section 4.1).
 const HEAD_LEN: usize = 9;
 
-/// Reads frames, and the header blocks in them, and tells them.
+/// Reads frames, and the header blocks in them, and writes them as text.
 #[derive(Drop)]
 pub struct Peer {
     reader: FrameReader,
@@ -35,7 +35,7 @@ impl Peer {
         }
     }
 
-    /// What was told since it was forgotten last, with spaces between.
+    /// The text since it was last cleared, with spaces between words.
     pub fn told(&self) -> &str {
         self.told.as_str().trim_end()
     }
@@ -44,20 +44,20 @@ impl Peer {
         self.told.clear();
     }
 
-    /// Tells a word.
+    /// Adds a word.
     pub fn tell(&mut self, word: &str) -> Result<()> {
         self.told.push_str(word)?;
         self.told.push(' ')?;
         Ok(())
     }
 
-    /// Tells why a control was refused.
+    /// Adds why a control was refused.
     pub fn tell_fault(&mut self, code: u32) -> Result<()> {
         write!(self.told, "fault{code} ")?;
         Ok(())
     }
 
-    /// Tells the bytes of a frame, in hexadecimal digits.
+    /// Adds the bytes of a frame, in hexadecimal digits.
     pub fn tell_bytes(&mut self, frame: &OutFrame) -> Result<()>
         requires { IsWritable frame.now }
     {
@@ -68,7 +68,7 @@ impl Peer {
         self.tell("")
     }
 
-    /// Tells a sender that came back: the stream that it was opened on, and its own.
+    /// Adds a sender that came back: the stream on which it was opened, and its own.
     pub fn tell_sender(&mut self, stream: u32, own: u32) -> Result<()> {
         write!(self.told, "sender{stream}:{own} ")?;
         Ok(())
@@ -160,7 +160,7 @@ fn name_of(head: &FrameHead) -> &'static str {
     }
 }
 
-/// The stream that is told: the frame's own, or the last one of GOAWAY.
+/// The stream in the text: the frame's own, or the last one of GOAWAY.
 fn stream_of(frame: &Frame) -> Option<u32> {
     match frame.head.kind {
         FrameKind::Settings | FrameKind::Ping => None,
@@ -169,7 +169,7 @@ fn stream_of(frame: &Frame) -> Option<u32> {
     }
 }
 
-/// The number that is told: an error, credit, the last byte of a PING, or the length of the payload.
+/// The number in the text: an error, credit, the last byte of a PING, or the length of the payload.
 fn number_of(frame: &Frame) -> Option<u32> {
     match frame.head.kind {
         FrameKind::Settings => None,

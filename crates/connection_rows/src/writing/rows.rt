@@ -5,7 +5,8 @@ use super::peer::Peer;
 use crate::Tally;
 use anyhow::{Result, ensure};
 
-/// Runs all rows of a file. The acts that tell something else are printed, and counted as differing.
+/// Runs all rows of a file. The acts that tell something else are printed, and counted as
+/// differing.
 pub fn run_file(rt: &(impl AllocGlobal + Print), file: &str, text: &str) -> Result<Tally> {
     let mut tally = Tally {
         rows: 0,
@@ -32,7 +33,8 @@ fn is_comment(line: &str) -> bool {
     line.is_empty() || line.starts_with('#')
 }
 
-/// Runs a row, the lines from this number on, of which the first is its name. Answers how many acts told something else.
+/// Runs a row, the lines from this number on, of which the first is its name. Answers how many acts
+/// gave another text.
 fn run_row(rt: &(impl AllocGlobal + Print), file: &str, first: usize, row: &str) -> Result<u64> {
     let mut core = Core::new(rt.alloc());
     let mut peer = Peer::new(rt.alloc());
@@ -61,7 +63,7 @@ fn run_acts(
     Ok(differing)
 }
 
-/// Performs the act of a line, and answers whether it told what it has to.
+/// Performs the act of a line, and answers whether it gave the text that it has to.
 fn holds(rt: &impl AllocGlobal, core: &mut Core, peer: &mut Peer, line: &str) -> Result<bool> {
     let (act, wanted) = parts(line);
     peer.forget();

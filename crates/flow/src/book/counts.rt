@@ -1,6 +1,7 @@
 //! The bytes of DATA that a credit book counts.
 //!
-//! `Counts` and `Call` are public with public fields, since clauses name them; no call hands one out.
+//! `Counts` and `Call` are public with public fields, since clauses name them; no function hands
+//! one out.
 
 ghost use Rattle.std.specs.Prelude.{◌≡◌, ◌+◌, ◌-◌, ◌<◌, ◌≤◌, ◌^◌, min};
 
@@ -11,9 +12,9 @@ use crate::{INITIAL_WINDOW, MAX_RECEIVED};
 pub struct Counts {
     /// How many came, padding counted (RFC 9113, section 6.9.1).
     pub received: u64,
-    /// How many of those were taken since, or never will be.
+    /// How many of those were taken, or never will be.
     pub returned: u64,
-    /// How many of those were told to the peer by WINDOW_UPDATE.
+    /// How many of those WINDOW_UPDATE announced to the peer.
     pub announced: u64,
 }
 
@@ -36,7 +37,8 @@ impl Counts {
         u64::from(INITIAL_WINDOW) + self.announced - self.received
     }
 
-    /// How many more bytes may come on the connection: no more than the peer may send, nor than can be counted.
+    /// How many more bytes may come on the connection: no more than the peer may send, nor than can
+    /// be counted.
     pub(super) fn room(self) -> u64
         requires counted { IsCounted self }
         requires bounded { self.received ≤ MAX_RECEIVED }

@@ -10,7 +10,7 @@ use thiserror::Error;
 /// Why the book isn't changed.
 #[derive(Clone, Copy, Debug, PartialEq, Eq, Error)]
 pub enum BookFault {
-    /// As many calls are live as may be.
+    /// 64 calls are live.
     #[error("64 calls are live")]
     TooMany,
     /// No more calls are admitted.
@@ -28,7 +28,7 @@ pub enum BookFault {
     /// The call isn't live.
     #[error("the call isn't live")]
     Unknown,
-    /// No memory was to be had.
+    /// There is no memory.
     #[error("out of memory")]
     OutOfMemory,
 }

@@ -8,7 +8,7 @@ use crate::method::Method;
 use crate::step::Step;
 use std::alloc::Global;
 
-/// What a call without a message is answered.
+/// The answer to a call without a message.
 pub fn run_none<M: Method>(alloc: Global, method: &M) -> Result<Step, MethodFault>
     ensures { IfOk result (λ step. M.answers method.now [] true (joined nothing step)) }
 {

@@ -8,10 +8,10 @@ use crate::method::Method;
 use crate::step::Step;
 use std::alloc::Global;
 
-/// What the method answers to a call of these messages, and of its end where that is told.
+/// What the method answers to a call of these messages, and to their end if `ended` says so.
 ///
-/// All steps are taken, those behind a status too; they give nothing. Where memory runs out, in a step or for the list
-/// of replies, nothing is answered.
+/// It takes all steps, also those after a status, which give nothing. If memory runs out, in a step
+/// or for the list of replies, there is no answer.
 pub fn run(
     alloc: Global,
     method: &dyn Method,

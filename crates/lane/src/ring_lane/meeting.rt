@@ -1,7 +1,7 @@
-//! A meeting of the two ends of a `RingLane`, which are used again after it.
+//! A meeting of the two ends of a `RingLane`, which go on after it.
 //!
-//! Where the way on waits after other items, the reading end of the second ring lies in the first ring and can't be reached:
-//! so the meeting says nothing of the items in the second.
+//! If the way on waits after other items, the reading end of the second ring is in the first ring
+//! and can't be reached: so the meeting says nothing of the items in the second.
 ghost use Rattle.std.specs.Prelude.{◌≡◌, ◌≤◌, ◌++◌, true, length, None, is_some};
 ghost use mathlib.Core.List.{IsPrefix};
 ghost use Rattle.rtrb.specs.Ring.{sent, received};

@@ -1,5 +1,17 @@
 //! How the reading end of a `RingLane` gets an item.
-ghost use Rattle.std.specs.Prelude.{◌≡◌, ◌<◌, [], ◌∷◌, ◌++◌, true, false, length, None, is_some, MatchOption};
+ghost use Rattle.std.specs.Prelude.{
+  ◌≡◌,
+  ◌<◌,
+  [],
+  ◌∷◌,
+  ◌++◌,
+  true,
+  false,
+  length,
+  None,
+  is_some,
+  MatchOption,
+};
 ghost use Rattle.rtrb.specs.Ring.{received, known_items};
 ghost use Rattle.lane.specs.Steps.{link};
 ghost use Rattle.lane.specs.RingLane.{out_name, got, ahead};

@@ -1,4 +1,4 @@
-//! The second ring of a `RingLane`, which has room for all that its queue has room for, and for the last item.
+//! The second ring of a `RingLane`, with room for all items of its queue and the last one.
 ghost use Rattle.std.specs.Prelude.{◌≡◌, ◌+◌, ◌<◌, ◌≤◌, true, false, length};
 ghost use Rattle.rtrb.specs.Ring.{sent, known_free, producer_capacity, received};
 ghost use mathlib.Core.List.{IsPrefix};
@@ -44,9 +44,20 @@ pub(crate) struct Second;
 impl Second {
     ghost use Rattle.std.specs.Prelude.{[], ◌++◌, IfOk};
     ghost use Rattle.lane.specs.End.{of_end};
-    ghost use Rattle.lane.specs.Second.{room_of, in_name, shut_name, out_name, put_in, put_shut, seen_taken, seen_shut, got, ahead};
+    ghost use Rattle.lane.specs.Second.{
+      room_of,
+      in_name,
+      shut_name,
+      out_name,
+      put_in,
+      put_shut,
+      seen_taken,
+      seen_shut,
+      got,
+      ahead,
+    };
 
-    /// An empty ring with room for so many items and a last one.
+    /// An empty ring with room for `room` items and a last one.
     pub(crate) fn open<T: Drop>(
         alloc: Global,
         room: usize,
@@ -64,7 +75,8 @@ impl Second {
         ))
     }
 
-    /// What was got, and then as many items as it answers, which `poll` gives from now on, are what was put.
+    /// How many items are still to get. What was got and then these items, which `poll` gives from
+    /// now on, are what was put.
     pub(crate) fn meet<T>(tx: &mut SecondIn<T>, rx: &mut SecondOut<T>) -> u64
         requires { in_name tx.old ≡ out_name rx.old }
         ensures writer { (in_name tx.new ≡ in_name tx.old) × (put_in tx.new ≡ put_in tx.old) }
@@ -108,9 +120,17 @@ impl Second {
 
 impl<T: Drop> SecondIn<T> {
     ghost use Rattle.std.specs.Prelude.{[], ◌∷◌, ◌++◌};
-    ghost use Rattle.lane.specs.Second.{room_of, in_name, shut_name, put_in, put_shut, seen_taken, seen_shut};
+    ghost use Rattle.lane.specs.Second.{
+      room_of,
+      in_name,
+      shut_name,
+      put_in,
+      put_shut,
+      seen_taken,
+      seen_shut,
+    };
 
-    /// How many of the items that were put this end has not seen taken, in this call.
+    /// Looks how many of the items that were put this end hasn't seen taken.
     pub(crate) fn waiting(&mut self) -> u64
         ensures name { in_name self.new ≡ in_name self.old }
         ensures unchanged { put_in self.new ≡ put_in self.old }
@@ -186,7 +206,7 @@ impl<T: Drop> SecondOut<T> {
     }
 }
 
-/// What was popped begins what was pushed. It answers how many items were not popped.
+/// How many items were not popped. What was popped begins what was pushed.
 fn compare<T: Drop>(mut producer: Producer<T>, mut consumer: Consumer<T>) -> u64
     requires { producer_name producer ≡ consumer_name consumer }
     ensures begins { IsPrefix (received consumer) (sent producer) }

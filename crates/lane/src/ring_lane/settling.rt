@@ -9,7 +9,16 @@ ghost use Rattle.lane.specs.RingEnds.{producer_name, consumer_name, popped_count
 ghost use Rattle.lane.specs.Steps.{pieces, link, closed, after};
 ghost use Rattle.lane.specs.Linked.{of_second, count_second, Linked};
 ghost use Rattle.lane.specs.Firsts.{seen_first};
-ghost use Rattle.lane.specs.Second.{in_name as second_in_name, out_name as second_out_name, shut_name as second_shut_name, put_in as second_put_in, put_shut as second_put_shut, seen_taken as second_seen_taken, seen_shut as second_seen_shut, got as second_got};
+ghost use Rattle.lane.specs.Second.{
+  in_name as second_in_name,
+  out_name as second_out_name,
+  shut_name as second_shut_name,
+  put_in as second_put_in,
+  put_shut as second_put_shut,
+  seen_taken as second_seen_taken,
+  seen_shut as second_seen_shut,
+  got as second_got,
+};
 
 use super::second::{Second, SecondIn, SecondOut, SecondShut};
 use super::step::{Fresh, Step};
@@ -17,7 +26,7 @@ use crate::lane::{End, Settled};
 use rtrb::{Consumer, Producer};
 
 impl Settled {
-    /// The counts of both rings, where these are those of the second, and `left` counts what is left of both.
+    /// The counts of both rings: these are the second ring's, but for `left`, which is of both.
     pub(super) fn beside(self, put: u64, got: u64) -> Settled
         ensures put { result.put ≡ min (put + self.put) 18446744073709551615 }
         ensures got { result.got ≡ min (got + self.got) 18446744073709551615 }
@@ -35,7 +44,8 @@ impl Settled {
 fn drain<T: Drop>(first: Consumer<Step<T>>, known: usize) -> Option<SecondOut<T>>
     requires known { known ≡ length (known_items first) }
     requires none { link (received first) ≡ None }
-    ensures { result ≡ option_map (λ fresh. fresh.out.value) (link (received first ++ known_items first)) }
+    ensures { result
+        ≡ option_map (λ fresh. fresh.out.value) (link (received first ++ known_items first)) }
 {
     let mut first = first;
     let mut found = None;
@@ -58,7 +68,7 @@ fn way_on<T: Drop>(step: Step<T>, found: Option<SecondOut<T>>) -> Option<SecondO
     }
 }
 
-/// What was popped, and then what it answers the number of, is what was pushed.
+/// How many items were not popped. What was popped and then these items is what was pushed.
 pub(super) fn meet_first<S>(first: &mut Producer<S>, reading: &mut Consumer<S>) -> usize
     requires name { producer_name first.old ≡ consumer_name reading.old }
     requires filled { producer_capacity first.old ≤ length (sent first.old) + known_free first.old }
@@ -76,7 +86,8 @@ pub(super) fn meet_first<S>(first: &mut Producer<S>, reading: &mut Consumer<S>) 
     reading.slots_beside(first)
 }
 
-/// Brings all ends together. It counts what was put into the second ring, what was got of it, and what is left of both rings.
+/// Brings all ends together. It counts what was put into the second ring, what was got from it, and
+/// what is left in both rings.
 pub(super) fn settle_rings<T: Drop>(
     mut first: Producer<Step<T>>,
     second: Option<End<SecondIn<T>, SecondShut<T>>>,
@@ -86,17 +97,23 @@ pub(super) fn settle_rings<T: Drop>(
     requires name { producer_name first ≡ consumer_name reading }
     requires filled { producer_capacity first ≤ length (sent first) + known_free first }
     requires closed { closed (sent first) ≡ true }
-    requires written { Linked (of_end second_in_name second_shut_name) (λ fresh. second_out_name fresh.out.value) (link (sent first)) second }
-    requires read { Linked second_out_name (λ fresh. second_out_name fresh.out.value) (link (received reading)) out }
-    requires bound { length (pieces (sent first)) + length (of_second (of_end second_put_in second_put_shut) second)
-        < seen_first first + count_second (of_end second_seen_taken second_seen_shut) second + 2 ^ 64 }
+    requires written { Linked (of_end second_in_name second_shut_name)
+        (λ fresh. second_out_name fresh.out.value) (link (sent first)) second }
+    requires read { Linked second_out_name (λ fresh. second_out_name fresh.out.value)
+        (link (received reading)) out }
+    requires bound { length (pieces (sent first))
+        + length (of_second (of_end second_put_in second_put_shut) second)
+        < seen_first first
+        + count_second (of_end second_seen_taken second_seen_shut) second + 2 ^ 64 }
     ensures put { result.put ≡ count_of (of_second (of_end second_put_in second_put_shut) second) }
     ensures got { result.got ≡ count_of (of_second second_got out) }
-    ensures left { length (pieces (sent first)) + length (of_second (of_end second_put_in second_put_shut) second)
+    ensures left { length (pieces (sent first))
+        + length (of_second (of_end second_put_in second_put_shut) second)
         ≡ length (pieces (received reading)) + length (of_second second_got out) + result.left }
     ensures begins { IsPrefix (pieces (received reading) ++ of_second second_got out)
         (pieces (sent first) ++ of_second (of_end second_put_in second_put_shut) second) }
-    ensures seen { seen_first first + count_second (of_end second_seen_taken second_seen_shut) second
+    ensures seen { seen_first first
+        + count_second (of_end second_seen_taken second_seen_shut) second
         ≤ length (pieces (received reading)) + length (of_second second_got out) }
 {
     let known = meet_first(&mut first, &mut reading);

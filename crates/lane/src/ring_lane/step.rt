@@ -12,8 +12,8 @@ pub(crate) enum Step<T> {
     Next(Fresh<T>),
 }
 
-/// The reading end of a second ring of which nothing was got, and whose next item is there. It is boxed, so that a place of
-/// the first ring stays small.
+/// The reading end of a second ring from which nothing was got, and whose next item is there. It is
+/// boxed, so that a place of the first ring stays small.
 #[derive(Drop)]
 pub(crate) struct Fresh<T> {
     pub(crate) out: Box<SecondOut<T>>,

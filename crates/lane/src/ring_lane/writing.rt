@@ -1,5 +1,22 @@
 //! How the writing end of a `RingLane` puts an item.
-ghost use Rattle.std.specs.Prelude.{◌≡◌, ◌+◌, ◌<◌, ◌≤◌, [], ◌∷◌, ◌++◌, true, false, length, None, Some, is_some, OnOk, OnErr, IfErr};
+ghost use Rattle.std.specs.Prelude.{
+  ◌≡◌,
+  ◌+◌,
+  ◌<◌,
+  ◌≤◌,
+  [],
+  ◌∷◌,
+  ◌++◌,
+  true,
+  false,
+  length,
+  None,
+  Some,
+  is_some,
+  OnOk,
+  OnErr,
+  IfErr,
+};
 ghost use Rattle.rtrb.specs.Ring.{sent, known_free};
 ghost use Rattle.lane.specs.RingEnds.{producer_name};
 ghost use Rattle.lane.specs.PutFault.{item_of, MayRefuse};
@@ -7,7 +24,13 @@ ghost use Rattle.lane.specs.Steps.{pieces};
 ghost use Rattle.lane.specs.Linked.{of_second, count_second};
 ghost use Rattle.lane.specs.Firsts.{seen_first};
 ghost use Rattle.lane.specs.RingLane.{in_name, put_in, seen_taken};
-ghost use Rattle.lane.specs.Second.{in_name as second_in_name, out_name as second_out_name, put_in as second_put_in, seen_taken as second_seen_taken, room_of as second_room_of};
+ghost use Rattle.lane.specs.Second.{
+  in_name as second_in_name,
+  out_name as second_out_name,
+  put_in as second_put_in,
+  seen_taken as second_seen_taken,
+  room_of as second_room_of,
+};
 
 use super::RingLaneIn;
 use super::second::{Second, SecondIn};
@@ -16,7 +39,7 @@ use crate::fault::PutFault;
 use std::alloc::AllocError;
 
 impl<T: Drop> RingLaneIn<T> {
-    /// How many items of the first ring this end has not seen taken.
+    /// Looks how many items of the first ring this end hasn't seen taken.
     fn unseen(&mut self) -> u64
         ensures name { in_name self.new ≡ in_name self.old }
         ensures second { self.new.second ≡ self.old.second }
@@ -48,14 +71,15 @@ impl<T: Drop> RingLaneIn<T> {
         self.first.cached_slots() >= 2 || self.first.slots() >= 2
     }
 
-    /// How many items wait, where the queue is full and there is no second ring.
+    /// Whether there is room, where there is no second ring; `Err` has how many items wait.
     pub(super) fn look(&mut self) -> Result<(), u64>
         requires first { self.old.second ≡ None }
         ensures name { in_name self.new ≡ in_name self.old }
         ensures second { self.new.second ≡ None }
         ensures sent { sent self.new.first ≡ sent self.old.first }
         ensures seen { seen_taken self.old ≤ seen_taken self.new }
-        ensures room { OnOk result (length (put_in self.new) < self.new.room + seen_taken self.new) }
+        ensures room { OnOk result
+            (length (put_in self.new) < self.new.room + seen_taken self.new) }
         ensures full { IfErr result
             (λ waiting. (waiting + seen_taken self.new ≡ length (put_in self.new))
             × (self.new.room ≤ waiting)) }
@@ -66,11 +90,13 @@ impl<T: Drop> RingLaneIn<T> {
         self.check_waiting()
     }
 
-    /// How many items wait, where the queue is full, the first ring has no room and there is no second one.
+    /// Whether there is room, where the first ring has none and there is no second one; `Err` has
+    /// how many items wait.
     fn check_waiting(&self) -> Result<(), u64>
         requires first { self.now.second ≡ None }
         requires full { known_free self.now.first ≤ 1 }
-        ensures room { OnOk result (length (put_in self.now) < self.now.room + seen_taken self.now) }
+        ensures room { OnOk result
+            (length (put_in self.now) < self.now.room + seen_taken self.now) }
         ensures wants { OnOk result (16 < self.now.room) }
         ensures full { IfErr result
             (λ waiting. (waiting + seen_taken self.now ≡ length (put_in self.now))
@@ -83,14 +109,15 @@ impl<T: Drop> RingLaneIn<T> {
         Ok(())
     }
 
-    /// How many items wait, where the queue is full and has a second ring.
+    /// Whether there is room, where there is a second ring; `Err` has how many items wait.
     pub(super) fn look_on(&mut self) -> Result<(), u64>
         requires second { is_some self.old.second ≡ true }
         ensures name { in_name self.new ≡ in_name self.old }
         ensures second { is_some self.new.second ≡ true }
         ensures unchanged { put_in self.new ≡ put_in self.old }
         ensures seen { seen_taken self.old ≤ seen_taken self.new }
-        ensures room { OnOk result (length (put_in self.new) < self.new.room + seen_taken self.new) }
+        ensures room { OnOk result
+            (length (put_in self.new) < self.new.room + seen_taken self.new) }
         ensures full { IfErr result
             (λ waiting. (waiting + seen_taken self.new ≡ length (put_in self.new))
             × (self.new.room ≤ waiting)) }

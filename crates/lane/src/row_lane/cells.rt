@@ -1,5 +1,21 @@
 //! Steps on a row of cells, each of which is set once.
-ghost use Rattle.std.specs.Prelude.{◌≡◌, ◌+◌, ◌<◌, ◌≤◌, [], ◌∷◌, true, length, vec_len, slice_index, take, IfOk, IfErr, IfSome, Some};
+ghost use Rattle.std.specs.Prelude.{
+  ◌≡◌,
+  ◌+◌,
+  ◌<◌,
+  ◌≤◌,
+  [],
+  ◌∷◌,
+  true,
+  length,
+  vec_len,
+  slice_index,
+  take,
+  IfOk,
+  IfErr,
+  IfSome,
+  Some,
+};
 ghost use mathlib.Core.List.{IsPrefix};
 ghost use Rattle.once_cell.specs.Once.{cell_name};
 ghost use Rattle.lane.specs.Notes.{known_item, holds_item};
@@ -11,10 +27,10 @@ use crate::lane::Settled;
 use once_cell::race::OnceBox;
 use std::alloc::{AllocError, Global};
 
-/// An item is behind an `Option`, so that the box of the last item can be made before the item.
+/// An item is in an `Option`, so that the box of the last item can be made before the item.
 pub(crate) type Cells<T> = Vec<OnceBox<Option<T>>>;
 
-/// So many cells that aren't set.
+/// `count` cells that aren't set.
 pub(crate) fn unset_cells<T: Drop>(alloc: Global, count: usize) -> Result<Cells<T>, AllocError>
     ensures { IfOk result (λ cells. vec_len cells ≡ count) }
 {
@@ -78,7 +94,7 @@ pub(crate) fn item_at<T: Drop>(cells: &Cells<T>, at: usize, known: Known<T>) -> 
     }
 }
 
-/// Two ends know the same items of the same cells.
+/// Two ends that know of equal cells know equal items.
 pub(crate) fn agree<T: Drop>(mut one: Vec<Known<T>>, mut other: Vec<Known<T>>)
     requires { cells_of other.items ≡ cells_of one.items }
     ensures { items_of other.items ≡ items_of one.items }

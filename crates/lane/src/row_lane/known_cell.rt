@@ -1,10 +1,10 @@
-//! A cell with what is known of it.
+//! What is known of a cell.
 ghost use Rattle.std.specs.Prelude.{◌≡◌, true};
 ghost use Rattle.lane.specs.Notes.{holds_item};
 
 use once_cell::race::Note;
 
-/// A cell of which it is known that it holds an item, and which. It takes no bytes.
+/// The knowledge that a cell holds an item, and which. It takes no bytes.
 #[derive(Drop)]
 pub(crate) struct Known<T> {
     pub(crate) note: Note<Option<T>>,
@@ -14,7 +14,7 @@ pub(crate) struct Known<T> {
 impl<T: Drop> Known<T> {
     ghost use Rattle.lane.specs.KnownCells.{cell_of, item_of};
 
-    /// The same knowledge once more.
+    /// A copy of the knowledge.
     pub(crate) fn again(&mut self) -> Known<T>
         ensures unchanged { (cell_of self.new ≡ cell_of self.old)
             × (item_of self.new ≡ item_of self.old) }

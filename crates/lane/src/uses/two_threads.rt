@@ -1,5 +1,24 @@
 //! Items that one thread puts and another takes.
-ghost use Rattle.std.specs.Prelude.{◌≡◌, false, List, ◌+◌, ◌<◌, ◌≤◌, [], ◌∷◌, ◌++◌, length, take, vec_len, vec_capacity, IfOk, IfSome, OnOk, OnErr, MatchOption};
+ghost use Rattle.std.specs.Prelude.{
+  ◌≡◌,
+  false,
+  List,
+  ◌+◌,
+  ◌<◌,
+  ◌≤◌,
+  [],
+  ◌∷◌,
+  ◌++◌,
+  length,
+  take,
+  vec_len,
+  vec_capacity,
+  IfOk,
+  IfSome,
+  OnOk,
+  OnErr,
+  MatchOption,
+};
 ghost use mathlib.Core.List.{IsPrefix};
 ghost use Rattle.lane.specs.Lawful.{IsLawful, count_of};
 
@@ -69,7 +88,7 @@ fn put_all<T: Copy + Send + Sync + Drop, L: Lane<Item = T>, R: Wait>(
     (tx, count)
 }
 
-/// Takes so many items, or fewer where the writer stopped before.
+/// Takes `count` items, or fewer where the writer stopped before.
 fn take_all<T: Copy + Send + Sync + Drop, L: Lane<Item = T>, R: Wait>(
     rt: &R,
     rx: L::Out,
@@ -105,7 +124,7 @@ fn take_all<T: Copy + Send + Sync + Drop, L: Lane<Item = T>, R: Wait>(
 /// Sends the items through a queue of this room from one thread to another, and answers what the
 /// other took.
 ///
-/// It waits for good where the queue stays full, as a `RowLane` with room for fewer items.
+/// It waits forever if the queue stays full, as a `RowLane` with room for fewer items does.
 pub fn relay<T: Copy + Send + Sync + Drop, L: Lane<Item = T> + Send, R: Threads + Wait + Sync>(
     rt: &R,
     alloc: Global,

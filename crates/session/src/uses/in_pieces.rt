@@ -7,7 +7,7 @@ use crate::event::InEvent;
 use crate::in_core::InCore;
 use std::alloc::{AllocError, Global};
 
-/// The events of these pieces, one list of them all: those of the joined pieces, however they are cut.
+/// The events of these pieces in one list: those of the joined pieces, however they are cut.
 pub fn events_of(alloc: Global, pieces: &[&[u8]]) -> Result<Vec<InEvent>, AllocError>
     ensures { IfOk result
         (λ events. Events (flat_map (λ piece. piece.now) pieces.now) events.items) }

@@ -1,5 +1,6 @@
-//! Malformed requests. A stream error answers them; a server may send a response before (RFC 9113, section 8.1.1), which has to
-//! tell of an error then. Each is a call that is answered without its one fault.
+//! Malformed requests. A stream error answers them; a server may send a response before (RFC 9113,
+//! section 8.1.1), which has to tell of an error then. Each is a call that is answered without its
+//! one fault.
 
 pub const ROWS: &str = "\
 a name with an upper-case letter

@@ -5,4 +5,5 @@ use Rattle.account.proofs.serial.replay.Given as goal
 
 -- the call is where the events so far lead
 abbrev pub invariant-loop-event : goal.invariant-loop-event
-invariant-loop-event l = (account_of l.call ≡ run (take l.event-index l.events)) × IsConsistent l.call
+invariant-loop-event l =
+    (account_of l.call ≡ run (take l.event-index l.events)) × IsConsistent l.call

@@ -7,4 +7,10 @@ pub returns : goal.returns
 returns g c =
     let put = g.L.Lane.put_shut c.args.shut.shut in
     let begins = c.settle.ensures.lawful.begins in
-    record { account = λ messages t. counts_in (g.L.Lane.got c.args.taker.rx) put begins.0 c.args.taker.progress (Some c.args.shut.kind) c.args.shut.fed messages (sym begins.1) c.args.shut.last (fits_kind (shut_of put) (g.L.Lane.was_placed c.args.shut.shut) c.args.shut.kind c.args.shut.put) c.args.shut.counted t }
+    record {
+      account = λ messages t.
+          counts_in (g.L.Lane.got c.args.taker.rx) put begins.0 c.args.taker.progress
+          (Some c.args.shut.kind) c.args.shut.fed messages (sym begins.1) c.args.shut.last
+          (fits_kind (shut_of put) (g.L.Lane.was_placed c.args.shut.shut) c.args.shut.kind
+          c.args.shut.put) c.args.shut.counted t;
+    }

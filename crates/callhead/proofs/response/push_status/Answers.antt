@@ -4,4 +4,9 @@ use Rattle.callhead.proofs.response.push_status.Goals as goal
 
 pub returns : goal.returns
 returns c =
-    rw (c.in_ok-push_message.ensures, c.in_ok-push.ensures.items, c.field.ensures, c.in_ok-number.ensures) (simp (append_assoc, append-nil))
+    rw (
+      c.in_ok-push_message.ensures,
+      c.in_ok-push.ensures.items,
+      c.field.ensures,
+      c.in_ok-number.ensures,
+    ) (simp (append_assoc, append-nil))

@@ -4,4 +4,6 @@ use Rattle.callhead.proofs.status.read_code.Given as goal
 
 -- the digits before this one are read, and name no number over 16
 abbrev pub invariant-loop-digit : goal.invariant-loop-digit
-invariant-loop-digit l = AllDigits 10 (take l.digit-index l.text) × (l.code ≡ digits_value 10 (take l.digit-index l.text)) × (l.code ≤ 16)
+invariant-loop-digit l =
+    AllDigits 10 (take l.digit-index l.text)
+    × (l.code ≡ digits_value 10 (take l.digit-index l.text)) × (l.code ≤ 16)

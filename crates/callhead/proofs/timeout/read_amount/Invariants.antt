@@ -4,4 +4,6 @@ use Rattle.callhead.proofs.timeout.read_amount.Given as goal
 
 -- the digits before this one are read
 abbrev pub invariant-loop-digit : goal.invariant-loop-digit
-invariant-loop-digit l = AllDigits 10 (take l.digit-index l.digits) × (l.amount ≡ digits_value 10 (take l.digit-index l.digits))
+invariant-loop-digit l =
+    AllDigits 10 (take l.digit-index l.digits)
+    × (l.amount ≡ digits_value 10 (take l.digit-index l.digits))

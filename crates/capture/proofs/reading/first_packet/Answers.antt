@@ -8,4 +8,5 @@ returns-in-None-clause-err c = inr (no_first c.args.bytes.now c.in-None.ensures.
 pub returns-in-None-parts_of-clause-err : goal.returns-in-None-parts_of-clause-err
 returns-in-None-parts_of-clause-err c =
     let parts = c.in-Some.ensures.some in
-    inr (no_parts c.args.bytes.now c.in-Some.text.now c.in-Some.behind.now parts.0 parts.1 c.in-None-parts_of.ensures.none)
+    inr (no_parts c.args.bytes.now c.in-Some.text.now c.in-Some.behind.now parts.0 parts.1
+    c.in-None-parts_of.ensures.none)

@@ -6,7 +6,8 @@ use Rattle.capture.proofs.reading.packets_of.Goals as goal
 pub loop-rest-init : goal.loop-rest-init
 loop-rest-init c =
     let empty : c.new-packets.result.items ≡ [] = search rules in
-    subst (λ (ps : List Packet). IsRead c.args.records.now c.args.records.now ps) (sym empty) (read_init c.args.records.now)
+    subst (λ (ps : List Packet). IsRead c.args.records.now c.args.records.now ps) (sym empty)
+    (read_init c.args.records.now)
 
 pub returns-in-Err-clause-only : goal.returns-in-Err-clause-only
 returns-in-Err-clause-only c =
@@ -14,7 +15,9 @@ returns-in-Err-clause-only c =
     only_stuck _ _ _ c.in-Err.fault c.loop-rest.invariant some c.in-Err.ensures.err
 
 pub loop-rest-preserved : goal.loop-rest-preserved
-loop-rest-preserved c = rw c.in_ok-push-in-Ok.ensures.items (read_next _ _ _ _ _ c.loop-rest.invariant c.in-Ok.ensures.ok)
+loop-rest-preserved c =
+    rw c.in_ok-push-in-Ok.ensures.items
+    (read_next _ _ _ _ _ c.loop-rest.invariant c.in-Ok.ensures.ok)
 
 pub returns-clause-ok : goal.returns-clause-ok
 returns-clause-ok c =

@@ -9,7 +9,8 @@ returns-then-not-is_file_head-clause-only c = λ packets is.
     let head = c.in-Some.head.now in
     let records = c.in-Some.records.now in
     let cut = c.in-Some.ensures.cases in
-    let parts : c.args.bytes.now ≡ head ++ records = cc (cut.1, cut.2, take-append-drop 24 c.args.bytes.now) in
+    let parts : c.args.bytes.now ≡ head ++ records =
+    cc (cut.1, cut.2, take-append-drop 24 c.args.bytes.now) in
     let size : length head ≡ 24 = cut.3 in
     let wrong : IsFileHead head → ⊥ = search rules in
     absurd (wrong (behind_file_head _ head records packets parts size is).0)
@@ -19,7 +20,8 @@ returns-in-Ok-clause-ok c =
     let head = c.in-Some.head.now in
     let records = c.in-Some.records.now in
     let cut = c.in-Some.ensures.cases in
-    let parts : c.args.bytes.now ≡ head ++ records = cc (cut.1, cut.2, take-append-drop 24 c.args.bytes.now) in
+    let parts : c.args.bytes.now ≡ head ++ records =
+    cc (cut.1, cut.2, take-append-drop 24 c.args.bytes.now) in
     let right : IsFileHead head = search rules in
     (head, records, parts, right, c.in-Ok.ensures.ok)
 
@@ -28,7 +30,8 @@ returns-in-Ok-clause-only c = λ packets is.
     let head = c.in-Some.head.now in
     let records = c.in-Some.records.now in
     let cut = c.in-Some.ensures.cases in
-    let parts : c.args.bytes.now ≡ head ++ records = cc (cut.1, cut.2, take-append-drop 24 c.args.bytes.now) in
+    let parts : c.args.bytes.now ≡ head ++ records =
+    cc (cut.1, cut.2, take-append-drop 24 c.args.bytes.now) in
     let size : length head ≡ 24 = cut.3 in
     c.in-Ok.ensures.only packets (behind_file_head _ head records packets parts size is).1
 
@@ -37,6 +40,7 @@ returns-in-Err-clause-only c = λ packets is.
     let head = c.in-Some.head.now in
     let records = c.in-Some.records.now in
     let cut = c.in-Some.ensures.cases in
-    let parts : c.args.bytes.now ≡ head ++ records = cc (cut.1, cut.2, take-append-drop 24 c.args.bytes.now) in
+    let parts : c.args.bytes.now ≡ head ++ records =
+    cc (cut.1, cut.2, take-append-drop 24 c.args.bytes.now) in
     let size : length head ≡ 24 = cut.3 in
     c.in-Err.ensures.only packets (behind_file_head _ head records packets parts size is).1

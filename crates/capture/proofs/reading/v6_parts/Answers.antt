@@ -12,5 +12,7 @@ returns-clause-some c =
       next_header = search rules;
       source = search rules;
       destination = search rules;
-      content = sym (take_all (length packet - 40) (drop 40 packet) (omega (arith, length-drop 40 packet)));
+      content =
+          sym (take_all (length packet - 40) (drop 40 packet)
+          (omega (arith, length-drop 40 packet)));
     }

@@ -22,10 +22,16 @@ returns-clause-checked c =
     let sum = c.checksum-sum.result in
     let text : c.in_ok-text.text.items ≡ segment_head head sum ++ payload =
     c.in_ok-text.ensures ∙ ap (λ (front : List ℕ). front ++ payload) c.segment_head-front.ensures in
-    let of_head : c.word_sum-of_head.result ≡ word_sum (segment_head head 0) = c.word_sum-of_head.ensures.sum ∙ ap word_sum c.segment_head-blank.ensures in
-    let of_payload : c.word_sum-of_payload.result ≡ word_sum payload = c.word_sum-of_payload.ensures.sum in
-    let pseudo : c.pseudo_sum-pseudo.result ≡ pseudo_sum head.path.hosts (20 + length payload) = c.pseudo_sum-pseudo.ensures.sum in
-    let same : c.pseudo_sum-pseudo.result + c.word_sum-of_head.result + c.word_sum-of_payload.result + sum
-    ≡ pseudo_sum head.path.hosts (20 + length payload) + word_sum (segment_head head 0) + word_sum payload + sum = cc (pseudo, of_head, of_payload) in
+    let of_head : c.word_sum-of_head.result ≡ word_sum (segment_head head 0) =
+    c.word_sum-of_head.ensures.sum ∙ ap word_sum c.segment_head-blank.ensures in
+    let of_payload : c.word_sum-of_payload.result ≡ word_sum payload =
+    c.word_sum-of_payload.ensures.sum in
+    let pseudo : c.pseudo_sum-pseudo.result ≡ pseudo_sum head.path.hosts (20 + length payload) =
+    c.pseudo_sum-pseudo.ensures.sum in
+    let same : c.pseudo_sum-pseudo.result + c.word_sum-of_head.result
+    + c.word_sum-of_payload.result + sum
+    ≡ pseudo_sum head.path.hosts (20 + length payload) + word_sum (segment_head head 0)
+    + word_sum payload + sum = cc (pseudo, of_head, of_payload) in
     subst (λ (t : List ℕ). IsChecked head.path.hosts t) (sym text)
-    (is_checked head.path.hosts head sum payload (search rules) (subst IsAllOnes same c.checksum-sum.ensures.ones))
+    (is_checked head.path.hosts head sum payload (search rules)
+    (subst IsAllOnes same c.checksum-sum.ensures.ones))

@@ -10,6 +10,7 @@ returns-clause-packet c =
     let to = c.args.to.now in
     let segment = c.args.segment.now in
     let text : c.in_ok-text.text.items ≡ v6_head (length segment) ++ (from ++ (to ++ segment)) =
-    c.in_ok-text.ensures ∙ ap (λ (front : List ℕ). front ++ (from ++ (to ++ segment))) c.v6_head-front.ensures in
+    c.in_ok-text.ensures
+    ∙ ap (λ (front : List ℕ). front ++ (from ++ (to ++ segment))) c.v6_head-front.ensures in
     subst (λ (t : List ℕ). IsV6 t from to segment) (sym text)
     (is_v6 (length segment) from to segment (omega arith) refl (search rules) (search rules))

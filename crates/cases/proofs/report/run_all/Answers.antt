@@ -10,5 +10,6 @@ loop-case-preserved g c =
       search of_calls,
       one_more_case all_cases c.loop-case.case-index _ _ _ _ (omega arith) items refl before.1,
       ran_one_more _ _ _ _ _ _ _ items before.2 c.run-answer.ensures,
-      printed_one_more _ _ _ _ _ _ items before.3 (rw c.name.ensures at c.in_ok-print_line.ensures.line),
+      printed_one_more _ _ _ _ _ _ items before.3
+          (rw c.name.ensures at c.in_ok-print_line.ensures.line),
     )

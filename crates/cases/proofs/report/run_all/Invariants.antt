@@ -8,5 +8,7 @@ abbrev pub invariant-loop-case : goal.invariant-loop-case
 invariant-loop-case g l =
     goal.F-IsAlwaysCallable g l.run
     × (map (λ outcome. outcome.case) l.outcomes.items ≡ take l.case-index all_cases)
-    × FoldsTo (λ before outcome after. goal.F-step g before outcome.case outcome.answer after) l.fn.run l.outcomes.items l.run
-    × Appends (g.W.ConnWrite.contents l.fn.output) (g.W.ConnWrite.contents l.output) (lines_of l.outcomes.items)
+    × FoldsTo (λ before outcome after. goal.F-step g before outcome.case outcome.answer after)
+    l.fn.run l.outcomes.items l.run
+    × Appends (g.W.ConnWrite.contents l.fn.output) (g.W.ConnWrite.contents l.output)
+    (lines_of l.outcomes.items)

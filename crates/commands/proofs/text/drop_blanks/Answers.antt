@@ -5,4 +5,5 @@ use Rattle.commands.proofs.text.drop_blanks.Goals as goal
 
 pub returns : goal.returns
 returns c =
-    filter_from_retain _ (λ b. not (is_blank b)) (λ test b stays after called. search rules) _ _ _ c.retain.ensures.filtered
+    filter_from_retain _ (λ b. not (is_blank b)) (λ test b stays after called. search rules) _ _ _
+    c.retain.ensures.filtered

@@ -8,7 +8,9 @@ pub loop-id-smaller : goal.loop-id-smaller
 loop-id-smaller c =
     let first = cut_first c.loop-id.book c.in-Some.id (sym c.live_id.ensures ∙ c.in-Some.is) in
     let fewer : length c.cut.new.book.calls < length c.loop-id.book.calls =
-    subst (λ (b : Books). length b.calls < length c.loop-id.book.calls) (sym c.cut.ensures.value) first.1 in fewer
+    subst (λ (b : Books). length b.calls < length c.loop-id.book.calls)
+    (sym c.cut.ensures.value) first.1 in
+    fewer
 
 pub loop-id-preserved : goal.loop-id-preserved
 loop-id-preserved c =

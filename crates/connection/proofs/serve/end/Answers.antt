@@ -1,18 +1,22 @@
-use Rattle.std.proofs.Common.{◌∙◌, arith, ap, sym, Some}
-use mathlib.Core.List.{IsPrefix}
+use Rattle.std.proofs.Common.{◌≢◌, ◌∙◌, arith, ap, le_trans, sym, subst, Some}
 use Rattle.callparts.specs.Blocks.{items_of}
 use Rattle.callparts.specs.declared.accounts.Accounts.{Accounts}
+use Rattle.callparts.specs.declared.report.Ending.{Ending}
+use Rattle.callparts.specs.declared.report.Ending.TheVariants.{WriteFailed}
 use Rattle.lane.specs.Ring.{taken}
-use Rattle.connection.specs.Puts.{put_of}
-use Rattle.connection.proofs.Ends.{ended-served, gave, gave-there}
+use Rattle.writerloop.specs.Endings.{ending_told}
+use Rattle.connection.proofs.Endings.{Meets, meets, untold}
+use Rattle.connection.proofs.Ends.{ended-accounted, ended-served, gave, gave-there}
 use Rattle.connection.proofs.Reports.{served-by}
 use Rattle.connection.proofs.serve.end.Goals as goal
 
 pub meet_writer-requires-clause-route : goal.meet_writer-requires-clause-route
-meet_writer-requires-clause-route g c = λ κs within. c.requires.route ∙ ap Some (sym c.join-written.ensures.0)
+meet_writer-requires-clause-route g c = λ κs within.
+    c.requires.route ∙ ap Some (sym c.join-written.ensures.0)
 
 pub meet_writer-requires-clause-way : goal.meet_writer-requires-clause-way
-meet_writer-requires-clause-way g c = λ κs within. c.end.ensures.grows.name ∙ (c.requires.way ∙ sym c.join-written.ensures.1)
+meet_writer-requires-clause-way g c = λ κs within.
+    c.end.ensures.grows.name ∙ (c.requires.way ∙ sym c.join-written.ensures.1)
 
 pub returns : goal.returns
 returns g c =
@@ -30,26 +34,36 @@ returns g c =
     let old = c.args.reader.orders in
     let orders = c.end.new.self.orders in
     let is = c.meet_writer.ensures in
-    let front : IsPrefix took (put_of orders) = (is.obeyed.0, is.obeyed.1) in
     let report = c.meet_writer.result.report in
+    let told = ending_told written.ending in
     record {
       served = (
-        gave known names (λ (calls : Accounts). items_of calls.full calls.last) contents failed reading mid old orders c.end.ensures.grows c.end.ensures.ended c.requires.heard before amount took written.rest written.ending written.is_faultless written.device sent is.came front,
-        gave-there known names (λ (calls : Accounts). items_of calls.full calls.last) contents failed reading mid old orders c.end.ensures.grows c.end.ensures.ended c.requires.heard before amount took written.rest written.ending written.is_faultless written.device sent is.came front,
-        λ came told read_failed has within unread.
-            served-by known names (λ (calls : Accounts). items_of calls.full calls.last) contents failed came before read_failed report.ending report.calls written.device c.meet_writer.result.output is.output
-            (ended-served known names (λ (calls : Accounts). items_of calls.full calls.last) contents failed reading mid old orders c.end.ensures.grows c.end.ensures.ended c.requires.heard before amount took written.rest written.ending written.is_faultless written.device sent is.came front
-            c.args.read report.ending report.calls came told read_failed
-            (record {
-              none = is.obeyed.2;
-              memory = is.memory;
-              broken = is.broken;
-              marked = is.marked;
-              dropped = is.dropped;
-              faultless = is.faultless;
-              input = is.input;
-              blamed = is.blamed;
-            })
-            is.accounts has (omega (arith, c.audit.ensures.within, within)) unread),
+        gave known names (λ (calls : Accounts). items_of calls.full calls.last) contents failed
+            reading mid old orders c.end.ensures.grows c.end.ensures.ended c.requires.heard before
+            amount took written.rest told written.device sent is.came is.obeyed,
+        gave-there known names (λ (calls : Accounts). items_of calls.full calls.last) contents
+            failed reading mid old orders c.end.ensures.grows c.end.ensures.ended c.requires.heard
+            before amount took written.rest told written.device sent is.came is.obeyed,
+        λ came rest heard read_failed has covers unread over. (
+          served-by known names (λ (calls : Accounts). items_of calls.full calls.last) contents
+              failed came rest before read_failed report.ending report.calls written.device
+              c.meet_writer.result.output is.output
+              (ended-served known names
+              (λ (calls : Accounts). items_of calls.full calls.last) contents failed reading
+              mid old orders c.end.ensures.grows c.end.ensures.ended c.requires.heard before
+              amount took written.rest told written.device sent is.came is.obeyed
+              c.args.read report.ending report.calls came rest heard read_failed
+              (λ (unbroken : c.args.read ≢ WriteFailed).
+              subst (λ (ending : Ending). Meets c.args.read ending told orders.has_dropped)
+              (sym is.ending) (meets c.args.read written.ending orders.has_dropped unbroken))
+              is.accounts has (omega (arith, c.audit.ensures.within, covers.came)) unread over
+              (λ stopped none. is.halted stopped (untold written.ending none))),
+          le_trans covers.calls
+              (ended-accounted known names
+              (λ (calls : Accounts). items_of calls.full calls.last) contents failed reading mid
+              old orders c.end.ensures.grows c.end.ensures.ended c.requires.heard before amount
+              took written.rest told written.device sent is.came is.obeyed
+              report.calls heard is.accounts has.reads),
+        ),
       );
     }

@@ -13,17 +13,24 @@ pub returns : goal.returns
 returns g c =
     let is = c.end.ensures.served in
     let read = c.read-read.ensures.heard is.0 is.1 (c.in-Ok.ensures.kept is.0) in
-    let served = is.2 read.0 read.2.0 _ read.2.1 read.2.2 (c.read-read.ensures.failed is.0 is.1 (c.in-Ok.ensures.kept is.0)) in
+    let served =
+    is.2 read.0 (g.I.ConnRead.remaining c.read-read.new.input) read.2.0 _ read.2.1 read.2.2
+    (c.read-read.ensures.failed is.0 is.1 (c.in-Ok.ensures.kept is.0))
+    (c.read-read.ensures.over is.0 is.1 (c.in-Ok.ensures.kept is.0)) in
     record {
       served = (
         read.0,
         read.1,
         subst (λ (before : Option (List ℕ)).
-            IsServed (λ calls. items_of calls.full calls.last) g.O.ConnWrite.contents g.O.ConnWrite.failed g.M.Answering.known g.M.Answering.names read.0 before (g.I.ConnRead.failed c.read-read.new.input) c.end.result.report.ending c.end.result.report.calls
+            IsServed (λ calls. items_of calls.full calls.last) g.O.ConnWrite.contents
+            g.O.ConnWrite.failed g.M.Answering.known g.M.Answering.names read.0
+            (g.I.ConnRead.remaining c.read-read.new.input) before
+            (g.I.ConnRead.failed c.read-read.new.input) c.end.result.report.ending
+            c.end.result.report.calls
             c.end.result.output)
-            c.in-Ok.ensures.device served,
+            c.in-Ok.ensures.device served.0,
       );
     }
 
 pub returns-in-Err : goal.returns-in-Err
-returns-in-Err g c = record { served = ([], consumes-none _, c.in-Err.ensures.served _) }
+returns-in-Err g c = record { served = ([], consumes-none _, c.in-Err.ensures.served _ _) }

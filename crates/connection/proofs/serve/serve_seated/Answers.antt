@@ -11,7 +11,9 @@ returns-in_default g c =
       served = (
         [],
         consumes-none _,
-        unbegun _ _ (λ calls. items_of calls.full calls.last) g.O.ConnWrite.contents g.O.ConnWrite.failed _ c.unserved.result.report.ending c.unserved.result.report.calls c.args.output c.unserved.result.output
+        unbegun _ _ (λ calls. items_of calls.full calls.last) g.O.ConnWrite.contents
+            g.O.ConnWrite.failed _ _ c.unserved.result.report.ending c.unserved.result.report.calls
+            c.args.output c.unserved.result.output
             is.ending is.output is.calls,
       );
     }

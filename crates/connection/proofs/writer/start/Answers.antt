@@ -1,24 +1,33 @@
 use Rattle.std.proofs.Common.{◌≡◌, ◌∙◌, ◌∷◌, [], List, Option, ap, subst, sym, ℕ}
 use Rattle.lane.specs.Ring.{in_name, out_name, taken}
-use Rattle.writerloop.specs.Orders.{orders_of}
-use Rattle.writerloop.specs.Written.{HasSent, HasWritten, Led}
+use Rattle.writerloop.specs.Endings.{ending_told}
+use Rattle.writerloop.specs.Written.{HasSent, Led}
 use Rattle.outwriter.specs.declared.control.Control.TheVariants.{InputEnded}
 use Rattle.connection.proofs.Heard.{closed-behind, ordered-put}
 use Rattle.connection.proofs.writer.start.Goals as goal
 
-pub returns-in-Err-clause-written : goal.returns-in-Err-clause-written
-returns-in-Err-clause-written g c =
+pub returns-in-Err-clause-sent : goal.returns-in-Err-clause-sent
+returns-in-Err-clause-sent g c =
     let contents = g.W.ConnWrite.contents in
     let failed = g.W.ConnWrite.failed in
     let parted = c.write.result in
-    let led = subst (λ (credit : ℕ). Led contents failed (contents c.of.result.value) credit c.new-writing.result) (sym c.requires.untold) c.new-writing.ensures.led in
-    let kept : HasWritten contents failed (contents c.of.result.value) parted.told.amount (orders_of (taken parted.written.orders)) parted.written.ending parted.written.is_faultless parted.written.device =
-    (c.write.ensures.sent (contents c.of.result.value) (rw c.in-Err.ensures.err led)).written in
-    subst (λ (before : Option (List ℕ)). HasWritten contents failed before parted.told.amount (orders_of (taken parted.written.orders)) parted.written.ending parted.written.is_faultless parted.written.device) (ap contents c.of.ensures) kept
+    let led =
+    subst (λ (credit : ℕ).
+    Led contents failed (contents c.of.result.value) credit c.new-writing.result)
+    (sym c.requires.untold) c.new-writing.ensures.led in
+    let kept : HasSent contents failed (contents c.of.result.value) parted.told.amount
+    (taken parted.written.orders) parted.written.rest (ending_told parted.written.ending)
+    parted.written.device =
+    c.write.ensures.sent (contents c.of.result.value) (rw c.in-Err.ensures.err led) in
+    subst (λ (before : Option (List ℕ)).
+    HasSent contents failed before parted.told.amount (taken parted.written.orders)
+    parted.written.rest (ending_told parted.written.ending) parted.written.device)
+    (ap contents c.of.ensures) kept
 
 pub returns-in-Err-clause-put : goal.returns-in-Err-clause-put
 returns-in-Err-clause-put g c = λ ordered.
-    closed-behind (InputEnded ∷ []) c.put.new.self c.close.new.self c.close.ensures.put c.close.ensures.dropped c.close.ensures.unput
+    closed-behind (InputEnded ∷ []) c.put.new.self c.close.new.self c.close.ensures.put
+    c.close.ensures.dropped c.close.ensures.unput
     (ordered-put [] InputEnded c.args.orders.now c.put.new.self c.put.ensures.puts tt ordered)
 
 pub spawn_with-requires-clause-keeps : goal.spawn_with-requires-clause-keeps
@@ -27,11 +36,14 @@ spawn_with-requires-clause-keeps g c = λ κs within r claims.
     let failed = g.W.ConnWrite.failed in
     let kept : (out_name r.written.orders ≡ out_name c.of-2.result.value)
     × (in_name r.written.rest.sends.home ≡ in_name c.of-3.result.value)
-    × HasSent contents failed (contents c.of.result.value) r.told.amount (taken r.written.orders) r.written.rest r.written.ending r.written.is_faultless r.written.device
+    × HasSent contents failed (contents c.of.result.value) r.told.amount (taken r.written.orders)
+    r.written.rest (ending_told r.written.ending) r.written.device
     × (r.told.parts ≡ g.C.Ledger.parts) = (
       claims.0 ∙ (ap out_name c.new-writing.ensures.ring ∙ ap out_name (sym c.of-2.ensures)),
       claims.1.0 ∙ (ap in_name c.new-writing.ensures.way ∙ ap in_name (sym c.of-3.ensures)),
       claims.1.1.0 (contents c.of.result.value)
-          (subst (λ (credit : ℕ). Led contents failed (contents c.of.result.value) credit c.new-writing.result) (sym c.requires.untold) c.new-writing.ensures.led),
+          (subst (λ (credit : ℕ).
+          Led contents failed (contents c.of.result.value) credit c.new-writing.result)
+          (sym c.requires.untold) c.new-writing.ensures.led),
       claims.1.1.1,
     ) in kept

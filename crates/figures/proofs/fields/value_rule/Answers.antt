@@ -8,7 +8,9 @@ use Rattle.figures.proofs.fields.value_rule.Goals as goal
 -- src/fields.rt:79:1
 pub returns-in-Some : goal.returns-in-Some
 returns-in-Some c =
-    let found = ap (find is_forbidden_in_values) (sym c.as_slice.ensures) ∙ sym c.forbidden_in_value.ensures ∙ c.in-Some.is in
+    let found =
+    ap (find is_forbidden_in_values) (sym c.as_slice.ensures)
+    ∙ sym c.forbidden_in_value.ensures ∙ c.in-Some.is in
     record {
       broken = and_from _ _
           (found_passes is_forbidden_in_values c.in-Some.byte c.args.field.now.value found)
@@ -18,5 +20,11 @@ returns-in-Some c =
 -- src/fields.rt:79:1
 pub returns-in-None : goal.returns-in-None
 returns-in-None c =
-    let none = ap (find is_forbidden_in_values) (sym c.as_slice.ensures) ∙ sym c.forbidden_in_value.ensures ∙ c.in-None.is in
-    record { broken = last_of_three _ _ _ (none_passes is_forbidden_in_values c.args.field.now.value none) c.requires.bad }
+    let none =
+    ap (find is_forbidden_in_values) (sym c.as_slice.ensures)
+    ∙ sym c.forbidden_in_value.ensures ∙ c.in-None.is in
+    record {
+      broken =
+          last_of_three _ _ _
+          (none_passes is_forbidden_in_values c.args.field.now.value none) c.requires.bad;
+    }

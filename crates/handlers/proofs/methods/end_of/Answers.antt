@@ -8,5 +8,6 @@ use Rattle.handlers.proofs.methods.end_of.Goals as goal
 pub returns-clause-answers : goal.returns-clause-answers
 returns-clause-answers g c =
     subst (λ method. IfOk c.end.result (λ step. (messages : List (List ℕ)) (given : Step)
-    → (goal.Method-dyn g method).stands method.1 c.args.state.now messages given → (goal.Method-dyn g method).answers method.1 messages true (joined given step)))
+    → (goal.Method-dyn g method).stands method.1 c.args.state.now messages given
+    → (goal.Method-dyn g method).answers method.1 messages true (joined given step)))
     c.deref_box-1.ensures.1 c.end.ensures.0

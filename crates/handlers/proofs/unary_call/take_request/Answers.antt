@@ -8,26 +8,31 @@ pub returns-in-Ok-clause-answers : goal.returns-in-Ok-clause-answers
 returns-in-Ok-clause-answers c = λ messages given stands.
     let fresh = rw c.in-Fresh.is at stands in
     let is = rw c.in-Ok.is at c.in_ok-size-in-Fresh.ensures in
-    rw c.nothing.ensures (first_asks SimpleVerdict messages given c.args.message.now (Zeros c.in-Ok.size ∷ []) fresh is)
+    rw c.nothing.ensures
+    (first_asks SimpleVerdict messages given c.args.message.now (Zeros c.in-Ok.size ∷ []) fresh is)
 
 pub returns-in-Err-clause-stands : goal.returns-in-Err-clause-stands
 returns-in-Err-clause-stands c = λ messages given stands.
     let fresh = rw c.in-Fresh.is at stands in
     let is = rw c.in-Err.is at c.in_ok-size-in-Fresh.ensures in
-    rw (c.end_with.ensures.step, c.end_with.ensures.state) (first_ends SimpleVerdict messages given c.args.message.now c.in-Err.status fresh is)
+    rw (c.end_with.ensures.step, c.end_with.ensures.state)
+    (first_ends SimpleVerdict messages given c.args.message.now c.in-Err.status fresh is)
 
 pub returns-in-Err-clause-answers : goal.returns-in-Err-clause-answers
 returns-in-Err-clause-answers c = λ messages given stands.
     let fresh = rw c.in-Fresh.is at stands in
     let is = rw c.in-Err.is at c.in_ok-size-in-Fresh.ensures in
-    rw c.end_with.ensures.step ((first_ends SimpleVerdict messages given c.args.message.now c.in-Err.status fresh is).1)
+    rw c.end_with.ensures.step
+    ((first_ends SimpleVerdict messages given c.args.message.now c.in-Err.status fresh is).1)
 
 pub returns-in-Sum-clause-stands : goal.returns-in-Sum-clause-stands
 returns-in-Sum-clause-stands c = λ messages given stands.
     let one = rw c.in-Sum.is at stands in
-    rw (c.refuse.ensures.step, c.refuse.ensures.state) (second_ends SimpleVerdict messages given one.0 c.args.message.now _ one.1 one.3 one.2)
+    rw (c.refuse.ensures.step, c.refuse.ensures.state)
+    (second_ends SimpleVerdict messages given one.0 c.args.message.now _ one.1 one.3 one.2)
 
 pub returns-in-Sum-clause-answers : goal.returns-in-Sum-clause-answers
 returns-in-Sum-clause-answers c = λ messages given stands.
     let one = rw c.in-Sum.is at stands in
-    rw c.refuse.ensures.step ((second_ends SimpleVerdict messages given one.0 c.args.message.now _ one.1 one.3 one.2).1)
+    rw c.refuse.ensures.step
+    ((second_ends SimpleVerdict messages given one.0 c.args.message.now _ one.1 one.3 one.2).1)

@@ -8,7 +8,11 @@ pub bounds-lengths-place : goal.bounds-lengths-place
 bounds-lengths-place c = (code_listed _ _ c.args.octet c.requires c.ranges.octet.fits).in_lengths
 
 pub returns-clause-number : goal.returns-clause-number
-returns-clause-number c = (code_listed c.args.numbers.now c.args.lengths.now c.args.octet c.requires c.ranges.octet.fits).number
+returns-clause-number c =
+    (code_listed c.args.numbers.now c.args.lengths.now c.args.octet c.requires
+    c.ranges.octet.fits).number
 
 pub returns-clause-len : goal.returns-clause-len
-returns-clause-len c = (code_listed c.args.numbers.now c.args.lengths.now c.args.octet c.requires c.ranges.octet.fits).len
+returns-clause-len c =
+    (code_listed c.args.numbers.now c.args.lengths.now c.args.octet c.requires
+    c.ranges.octet.fits).len

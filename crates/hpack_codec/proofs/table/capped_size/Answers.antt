@@ -10,5 +10,6 @@ unfolding size_of
 returns c =
     c.saturating_add-2.ensures
     ∙ ap (λ n. min (n + 32) (2 ^ 64 - 1)) (c.saturating_add.ensures
-    ∙ ap (λ n. min n (2 ^ 64 - 1)) (ap (λ n. n + c.len-2.result) c.len.ensures ∙ ap (λ n. length c.args.field.now.name + n) c.len-2.ensures))
+    ∙ ap (λ n. min n (2 ^ 64 - 1)) (ap (λ n. n + c.len-2.result) c.len.ensures
+    ∙ ap (λ n. length c.args.field.now.name + n) c.len-2.ensures))
     ∙ capped (length c.args.field.now.name) (length c.args.field.now.value) (2 ^ 64 - 1)

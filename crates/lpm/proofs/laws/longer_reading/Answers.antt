@@ -12,5 +12,8 @@ returns-clause-fault c = IsFaultyAfter-longer
 
 pub returns-clause-behind : goal.returns-clause-behind
 returns-clause-behind c = λ messages rest each.
-    let e = reading_of-frames messages rest each in
-    (ap (λ (r : Reading). r.messages) e, ap (λ (r : Reading). r.rest) e, ap (λ (r : Reading). r.fault) e)
+    let e = reading_of-frames messages rest each in (
+      ap (λ (r : Reading). r.messages) e,
+      ap (λ (r : Reading). r.rest) e,
+      ap (λ (r : Reading). r.fault) e,
+    )

@@ -8,4 +8,6 @@ returns-then-is_some-clause-owing c =
 
 pub returns-then-is_some-clause-settled : goal.returns-then-is_some-clause-settled
 returns-then-is_some-clause-settled c =
-    taken-settled c.loop-left.streams.entries _ c.loop-left.left _ c.take_at-taken.new.streams.entries c.take_at-taken.ensures (omega (arith, c.loop-left.invariant.0)) (omega arith) c.loop-left.invariant.2
+    taken-settled c.loop-left.streams.entries _ c.loop-left.left _
+    c.take_at-taken.new.streams.entries c.take_at-taken.ensures
+    (omega (arith, c.loop-left.invariant.0)) (omega arith) c.loop-left.invariant.2

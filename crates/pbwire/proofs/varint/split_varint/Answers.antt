@@ -13,6 +13,8 @@ pub returns : goal.returns
 returns c =
     let bytes = c.args.bytes.now in
     let len = c.in_ok-number.len in
-    let all : take (length bytes - len) (drop len bytes) ≡ drop len bytes = take_all _ (drop len bytes) (omega (arith, length-drop len bytes)) in
-    reads_varint bytes c.in_ok-number.number (drop len bytes) (taken bytes c.in_ok-number.number len c.in_ok-number.ensures.ok)
+    let all : take (length bytes - len) (drop len bytes) ≡ drop len bytes =
+    take_all _ (drop len bytes) (omega (arith, length-drop len bytes)) in
+    reads_varint bytes c.in_ok-number.number (drop len bytes)
+    (taken bytes c.in_ok-number.number len c.in_ok-number.ensures.ok)
     ∙ ap (λ (t : List ℕ). Ok (c.in_ok-number.number, t)) (sym all)

@@ -6,7 +6,8 @@ use Rattle.pbwire.proofs.writing.push_varint.Given as goal
 abbrev pub invariant-loop-rest : goal.invariant-loop-rest
 invariant-loop-rest l = record {
   fits : l.rest < 2 ^ 64;
-  completes : l.out.items ++ varint_spelling l.rest ≡ l.initial.out.items ++ varint_spelling l.number;
+  completes : l.out.items ++ varint_spelling l.rest
+      ≡ l.initial.out.items ++ varint_spelling l.number;
   kept : take (vec_len l.initial.out) l.out.items ≡ l.initial.out.items;
   grown : vec_len l.initial.out ≤ vec_len l.out;
   capacity : vec_capacity l.initial.out ≤ vec_capacity l.out;

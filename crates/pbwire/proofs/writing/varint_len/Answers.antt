@@ -17,4 +17,5 @@ loop-rest-preserved c =
     }
 
 pub returns-clause-len : goal.returns-clause-len
-returns-clause-len c = omega (arith, one_long c.loop-rest.rest c.loop-rest-test.false, c.loop-rest.invariant.len)
+returns-clause-len c =
+    omega (arith, one_long c.loop-rest.rest c.loop-rest-test.false, c.loop-rest.invariant.len)

@@ -8,6 +8,8 @@ use Rattle.results.proofs.junit.skipped_count.Goals as goal
 
 pub returns : goal.returns
 returns c =
-    count_from_yields_List {v = λ (outcome : Bor Outcome). outcome.now} c.filter.result c.count.result c.count.ensures.ran
-    (YieldsList-from_filter _ is_skipped (YieldsList-from_slice c.args.outcomes.now (cc)) c.filter.ensures.closure (λ x b q k. search (rules, tests)))
+    count_from_yields_List {v = λ (outcome : Bor Outcome). outcome.now} c.filter.result
+    c.count.result c.count.ensures.ran
+    (YieldsList-from_filter _ is_skipped (YieldsList-from_slice c.args.outcomes.now (cc))
+    c.filter.ensures.closure (λ x b q k. search (rules, tests)))
     ∙ length-filter is_skipped c.args.outcomes.now

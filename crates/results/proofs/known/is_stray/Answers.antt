@@ -6,5 +6,6 @@ use Rattle.results.proofs.known.is_stray.Goals as goal
 
 pub returns : goal.returns
 returns c =
-    ap not (any_from_yields_List (λ name. bytes_eq name.now (string_bytes c.args.known.now.name)) _ _ _ c.any.ensures.ran
+    ap not (any_from_yields_List (λ name. bytes_eq name.now (string_bytes c.args.known.now.name)) _
+    _ _ c.any.ensures.ran
     (YieldsList-from_slice c.args.names.now c.iter.ensures.rest) (λ x b q k. search (rules, tests)))

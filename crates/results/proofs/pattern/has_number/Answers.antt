@@ -7,4 +7,5 @@ returns-then-is_at_most c =
     c.is_at_most-then-is_at_most.ensures.0 c.is_at_most-then-is_at_most.ensures.1
 
 pub returns-else-is_at_most : goal.returns-else-is_at_most
-returns-else-is_at_most c = range_low _ _ _ _ _ c.in-Some.ensures.some c.is_at_most.ensures.1 c.if-is_at_most.false
+returns-else-is_at_most c =
+    range_low _ _ _ _ _ c.in-Some.ensures.some c.is_at_most.ensures.1 c.if-is_at_most.false

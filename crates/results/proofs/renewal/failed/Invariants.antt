@@ -6,4 +6,5 @@ use Rattle.results.proofs.renewal.failed.Given as goal
 
 abbrev pub invariant-loop-outcome : goal.invariant-loop-outcome
 invariant-loop-outcome l =
-    map entry l.all.items ≡ with_entries [] (filter_map (failed_entry l.outcomes) (take l.outcome-index l.outcomes))
+    map entry l.all.items
+    ≡ with_entries [] (filter_map (failed_entry l.outcomes) (take l.outcome-index l.outcomes))

@@ -6,4 +6,6 @@ use Rattle.results.proofs.renewal.push_others.Given as goal
 
 abbrev pub invariant-loop-other : goal.invariant-loop-other
 invariant-loop-other l =
-    map entry l.all.items ≡ with_entries (map entry l.fn.all.items) (filter_map (unrun_entry l.outcomes) (take l.other-index l.known))
+    map entry l.all.items
+    ≡ with_entries (map entry l.fn.all.items)
+    (filter_map (unrun_entry l.outcomes) (take l.other-index l.known))

@@ -8,6 +8,8 @@ use Rattle.results.proofs.standing.failure_count.Goals as goal
 
 pub returns : goal.returns
 returns c =
-    count_from_yields_List {v = λ (outcome : Bor Outcome). outcome.now} c.filter.result c.count.result c.count.ensures.ran
-    (YieldsList-from_filter _ fails_the_run (YieldsList-from_slice c.args.outcomes.now (cc)) c.filter.ensures.closure (λ x b q k. search (rules, tests)))
+    count_from_yields_List {v = λ (outcome : Bor Outcome). outcome.now} c.filter.result
+    c.count.result c.count.ensures.ran
+    (YieldsList-from_filter _ fails_the_run (YieldsList-from_slice c.args.outcomes.now (cc))
+    c.filter.ensures.closure (λ x b q k. search (rules, tests)))
     ∙ length-filter fails_the_run c.args.outcomes.now

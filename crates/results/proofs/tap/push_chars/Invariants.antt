@@ -4,4 +4,5 @@ use Rattle.results.specs.Tap.{char_text}
 use Rattle.results.proofs.tap.push_chars.Given as goal
 
 abbrev pub invariant-loop-c : goal.invariant-loop-c
-invariant-loop-c l = string_bytes l.line ≡ string_bytes l.fn.line ++ flat_map char_text (take l.c-index l.all)
+invariant-loop-c l =
+    string_bytes l.line ≡ string_bytes l.fn.line ++ flat_map char_text (take l.c-index l.all)

@@ -1,33 +1,13 @@
-use Rattle.session.proofs.Reading.{reader_shrinks, reads_next, reads_more, reads_none, reads_end, reads_on, sound_at}
+use Rattle.std.proofs.lemmas.Result.{IfOk-weaker}
+use Rattle.session.proofs.Reading.{reads_more}
 use Rattle.session.proofs.Stages.{reading_feeds}
 use Rattle.session.proofs.in_core.read.Goals as goal
 
-pub returns-in_default-next : goal.returns-in_default-next
-returns-in_default-next c = record {
-  feeds = reading_feeds c.args.position _ _ _ _ _ _ _ _ _ _ c.loop-answer.invariant.sound
+pub returns : goal.returns
+returns c = record {
+  feeds = IfOk-weaker c.read_waiting.result _ _
+      (λ next waiting. reading_feeds c.args.position next _ _ _ _ _ _ _ _ _ waiting.sound
       (λ text before reads.
-      reads_none _ _ _ _ _ _ _ _ c.in_default-next.is c.next.ensures.unfinished c.next.ensures.kept
-      (c.loop-answer.invariant.follows _ before (reads_more _ _ _ _ _ _ _ _ c.in-Ok.ensures.list reads)));
+      waiting.reads _ before (reads_more _ _ _ _ _ _ _ _ c.in-Ok.ensures.list reads)))
+      c.read_waiting.ensures.reads;
 }
-
-pub returns-in_default-2 : goal.returns-in_default-2
-returns-in_default-2 c = record {
-  feeds = reading_feeds c.args.position _ _ _ _ _ _ _ _ _ _ tt
-      (λ text before reads.
-      reads_end _ _ _ c.next.new.self c.entry.new.self.halves c.entry.new.self.decoder c.in_default-2.is
-      (reads_next c.in-Some.answer _ _ _ _ _ _ _ _ _ _ c.in-Some.ensures.list c.in-Some.ensures.cause c.in_ok-next.ensures.entry c.in_ok-next.ensures.none c.in_ok-next.ensures.fatal _ before
-      (c.loop-answer.invariant.follows _ before (reads_more _ _ _ _ _ _ _ _ c.in-Ok.ensures.list reads))));
-}
-
-pub loop-answer-smaller : goal.loop-answer-smaller
-loop-answer-smaller c =
-    reader_shrinks c.in-Some.answer _ _ _ _ c.in-Some.ensures.list c.in_ok-next.ensures.none c.in-Some-2.is
-
-pub loop-answer-preserved : goal.loop-answer-preserved
-loop-answer-preserved c =
-    record {
-      sound = sound_at _ _ _ c.in-Some-2.is c.in_ok-next.ensures.sound;
-      follows = λ text before reads. reads_on _ _ _ _ _ _ _ c.in-Some-2.is
-          (reads_next c.in-Some.answer _ _ _ _ _ _ _ _ _ _ c.in-Some.ensures.list c.in-Some.ensures.cause c.in_ok-next.ensures.entry c.in_ok-next.ensures.none c.in_ok-next.ensures.fatal _ before
-          (c.loop-answer.invariant.follows _ before reads));
-    }

@@ -7,5 +7,8 @@ use Rattle.testproto.proofs.schema.add_parameters.Given as goal
 
 abbrev pub invariant-loop-parameters : goal.invariant-loop-parameters
 invariant-loop-parameters l =
-    (l.size ≡ l.total + length (spelling_of_all (repeated_fields response_parameters_fields l.number (take l.parameters-index l.parameters-items))))
+    (l.size
+    ≡ l.total
+    + length (spelling_of_all (repeated_fields response_parameters_fields l.number
+    (take l.parameters-index l.parameters-items))))
     × AllByRecursion FitsResponseParameters (take l.parameters-index l.parameters-items)

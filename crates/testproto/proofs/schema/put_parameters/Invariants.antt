@@ -4,4 +4,8 @@ use Rattle.testproto.specs.Canonical.{repeated_fields, response_parameters_field
 use Rattle.testproto.proofs.schema.put_parameters.Given as goal
 
 abbrev pub invariant-loop-parameters : goal.invariant-loop-parameters
-invariant-loop-parameters l = l.out.items ≡ l.initial.out.items ++ spelling_of_all (repeated_fields response_parameters_fields l.number (take l.parameters-index l.parameters-items))
+invariant-loop-parameters l =
+    l.out.items
+    ≡ l.initial.out.items
+    ++ spelling_of_all (repeated_fields response_parameters_fields l.number
+    (take l.parameters-index l.parameters-items))

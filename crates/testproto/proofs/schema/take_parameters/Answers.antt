@@ -10,5 +10,9 @@ pub returns-in_ok-push-clause-value : goal.returns-in_ok-push-clause-value
 returns-in_ok-push-clause-value c before had =
     let found = rw c.in-Some.is at c.in_ok-parameters.ensures.some in
     let parameters = c.in-Some.parameters in
-    subst (λ (t : List ResponseParameters). AreRepeated IsResponseParameters (contents c.args.number (before ++ field_of c.args.item.now ∷ [])) t) (sym c.in_ok-push.ensures.ok)
-    (repeated-last IsResponseParameters c.args.number before (field_of c.args.item.now) found.0 found.2.0 c.args.held.now parameters found.1 had found.2.1 found.2.3)
+    subst (λ (t : List ResponseParameters).
+    AreRepeated IsResponseParameters
+    (contents c.args.number (before ++ field_of c.args.item.now ∷ [])) t)
+    (sym c.in_ok-push.ensures.ok)
+    (repeated-last IsResponseParameters c.args.number before (field_of c.args.item.now) found.0
+    found.2.0 c.args.held.now parameters found.1 had found.2.1 found.2.3)

@@ -9,4 +9,5 @@ returns-clause-value g c before had =
     let number = c.args.number in
     let was = c.or_empty-message.ensures (contents number before) (rw c.take.ensures.value had) in
     let added = c.in_ok-merge.ensures.ok in
-    embedded-last message.is_value number before (field_of c.args.item.now) c.in-Some.content.now was.0 added.0 c.merge.new.message c.in-Some.ensures was.1 added.1 (added.3 was.0 was.2)
+    embedded-last message.is_value number before (field_of c.args.item.now) c.in-Some.content.now
+    was.0 added.0 c.merge.new.message c.in-Some.ensures was.1 added.1 (added.3 was.0 was.2)

@@ -12,19 +12,28 @@ items-init c =
     record {
       told = ap items_of empty;
       parts = gives.0;
-      length = omega (arith, gives.1, c.args.items.ok.0, ap (λ (es : List Item). length es) gives.0);
+      length =
+          omega (arith, gives.1, c.args.items.ok.0, ap (λ (es : List Item). length es) gives.0);
     }
 
 pub items-preserved : goal.items-preserved
 items-preserved c =
-    let step = subst (λ (o : Option Item). into_iter_steps c.items.item-iterator o c.next.new.self) c.in-Some.is c.next.ensures.steps in
+    let step =
+    subst (λ (o : Option Item). into_iter_steps c.items.item-iterator o c.next.new.self)
+    c.in-Some.is c.next.ensures.steps in
     record {
-      told = rw c.in_ok-push.ensures.items (one_more c.items.lines.items _ c.items.yielded c.items.invariant.told);
+      told =
+          rw c.in_ok-push.ensures.items
+          (one_more c.items.lines.items _ c.items.yielded c.items.invariant.told);
       parts = parts_more _ _ _ _ _ c.items.invariant.parts step.0;
-      length = omega (arith, step.1, c.items.invariant.length, ap (λ (es : List Item). length es) step.0);
+      length = omega
+          (arith, step.1, c.items.invariant.length, ap (λ (es : List Item). length es) step.0);
     }
 
 pub returns : goal.returns
 returns c =
-    let step = subst (λ (o : Option Item). into_iter_steps c.items.item-iterator o c.next.new.self) c.in-None.is c.next.ensures.steps in
-    c.items.invariant.told ∙ all_yielded _ _ _ c.items.invariant.parts (omega (arith, step.0, c.items.invariant.length))
+    let step =
+    subst (λ (o : Option Item). into_iter_steps c.items.item-iterator o c.next.new.self)
+    c.in-None.is c.next.ensures.steps in
+    c.items.invariant.told
+    ∙ all_yielded _ _ _ c.items.invariant.parts (omega (arith, step.0, c.items.invariant.length))

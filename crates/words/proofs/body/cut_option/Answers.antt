@@ -6,7 +6,8 @@ use Rattle.words.proofs.body.cut_option.Goals as goal
 pub returns-clause-rule : goal.returns-clause-rule
 returns-clause-rule c =
     let made : c.range-numbers.result ≡ value_parser.Unsigned 1 65536 =
-    simp (c.value_parser.ensures, c.new.ensures.end, c.new.ensures.start) at c.range-numbers.ensures in
+    simp (c.value_parser.ensures, c.new.ensures.end, c.new.ensures.start) at
+    c.range-numbers.ensures in
     let given = c.value_parser-2.ensures.given in
     let parser : c.value_parser-2.result.value_parser ≡ Some (value_parser.Unsigned 1 65536) =
     given.1 ∙ ap (λ (p : ValueParser). Some p) (given.2 ∙ made) in

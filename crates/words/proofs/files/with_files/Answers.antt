@@ -4,6 +4,9 @@ use Rattle.words.proofs.files.with_files.Goals as goal
 
 pub returns : goal.returns
 returns c = λ app is.
-    let port = with_option _ _ _ _ _ c.in_ok-arg.ensures is (is_option c.text_option.result _ c.text_option.ensures.rule c.text_option.ensures.local) in
+    let port =
+    with_option _ _ _ _ _ c.in_ok-arg.ensures is
+    (is_option c.text_option.result _ c.text_option.ensures.rule c.text_option.ensures.local) in
     IfOk-weaker c.arg-2.result _ _ (λ command added.
-    with_option _ _ _ _ _ added port (is_option c.text_option-2.result _ c.text_option-2.ensures.rule c.text_option-2.ensures.local)) c.arg-2.ensures
+    with_option _ _ _ _ _ added port (is_option c.text_option-2.result _
+    c.text_option-2.ensures.rule c.text_option-2.ensures.local)) c.arg-2.ensures

@@ -12,9 +12,11 @@ returns-in_err-number c =
 pub returns-then-number-le-MAX_AMOUNT : goal.returns-then-number-le-MAX_AMOUNT
 returns-then-number-le-MAX_AMOUNT c =
     rw (← one_text-rows (found_of c.args.options.now) c.args.name.now)
-    (option_within 0 4000000 _ _ c.in_ok-number.ensures.none c.in_ok-number.ensures.value (omega arith) c.if-number-le-MAX_AMOUNT.true)
+    (option_within 0 4000000 _ _ c.in_ok-number.ensures.none c.in_ok-number.ensures.value
+    (omega arith) c.if-number-le-MAX_AMOUNT.true)
 
 pub returns-else-number-le-MAX_AMOUNT : goal.returns-else-number-le-MAX_AMOUNT
 returns-else-number-le-MAX_AMOUNT c =
     rw (← one_text-rows (found_of c.args.options.now) c.args.name.now)
-    (option_outside 0 4000000 c.in_ok-number.number _ c.in_ok-number.ensures.value (λ above below. omega arith))
+    (option_outside 0 4000000 c.in_ok-number.number _ c.in_ok-number.ensures.value
+    (λ above below. omega arith))

@@ -9,10 +9,12 @@ use Rattle.words.proofs.options.texts_of.Goals as goal
 pub returns-in-Some : goal.returns-in-Some
 returns-in-Some c =
     IfOk-weaker c.from_slice.result _ _ (λ texts same. ap nows same
-    ∙ ap (λ (all : Option (List Text)). unwrap_or all []) (c.in-Some.ensures ∙ raw_values-rows (found_of c.args.options.now) c.args.name.now))
+    ∙ ap (λ (all : Option (List Text)). unwrap_or all [])
+    (c.in-Some.ensures ∙ raw_values-rows (found_of c.args.options.now) c.args.name.now))
     c.from_slice.ensures.items
 
 pub returns-in-None : goal.returns-in-None
 returns-in-None c =
     ap nows c.new.ensures.items
-    ∙ ap (λ (all : Option (List Text)). unwrap_or all []) (c.in-None.ensures ∙ raw_values-rows (found_of c.args.options.now) c.args.name.now)
+    ∙ ap (λ (all : Option (List Text)). unwrap_or all [])
+    (c.in-None.ensures ∙ raw_values-rows (found_of c.args.options.now) c.args.name.now)

@@ -21,6 +21,7 @@ pub returns : goal.returns
 returns c =
     let first = ap app_of_fields c.no_binary_name.ensures ∙ ap unnamed c.new.ensures.app in
     let second = ap app_of_fields c.disable_help_flag.ensures ∙ ap without_help_flag first in
-    let third = ap app_of_fields c.disable_help_subcommand.ensures ∙ ap without_help_command second in
+    let third =
+    ap app_of_fields c.disable_help_subcommand.ensures ∙ ap without_help_command second in
     let fourth = ap app_of_fields c.disable_version_flag.ensures ∙ ap without_version third in
     ap app_of_fields c.subcommand_required.ensures ∙ ap with_command fourth

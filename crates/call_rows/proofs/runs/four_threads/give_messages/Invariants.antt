@@ -8,5 +8,6 @@ invariant-loop-message g l =
     record {
       name : g.L.Lane.in_name l.giver.tx ≡ g.L.Lane.in_name l.fn.giver.tx;
       head : has_head (g.L.Lane.put_in l.giver.tx) ≡ true;
-      given : g.L.Lane.put_in l.giver.tx ≡ g.L.Lane.put_in l.fn.giver.tx ++ message_items (take l.message-index l.messages);
+      given : g.L.Lane.put_in l.giver.tx
+          ≡ g.L.Lane.put_in l.fn.giver.tx ++ message_items (take l.message-index l.messages);
     }

@@ -8,7 +8,8 @@ invariant_of-result g c =
     let new = g.L.Lane.put_shut c.last-shut.result in
     let placed = g.L.Lane.was_placed c.last-shut.result in
     record {
-      counted = c.args.self.counted ∙ placed_counted placed put new c.args.kind c.last-shut.ensures.put;
+      counted =
+          c.args.self.counted ∙ placed_counted placed put new c.args.kind c.last-shut.ensures.put;
       last = placed_last placed put new c.args.kind c.args.self.unshut c.last-shut.ensures.put;
       put = placed_shut placed put new c.args.kind c.args.self.unshut c.last-shut.ensures.put;
     }

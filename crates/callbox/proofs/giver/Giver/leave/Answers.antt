@@ -7,6 +7,9 @@ invariant_of-result g c =
     let new = g.L.Lane.put_shut c.last-shut.result in
     let placed = g.L.Lane.was_placed c.last-shut.result in
     record {
-      response = left_response placed put new c.args.self.response c.args.self.unshut c.last-shut.ensures.put;
-      closed = left_closed placed put new (no_trailers put c.args.self.unshut) c.last-shut.ensures.put;
+      response =
+          left_response placed put new c.args.self.response c.args.self.unshut
+          c.last-shut.ensures.put;
+      closed =
+          left_closed placed put new (no_trailers put c.args.self.unshut) c.last-shut.ensures.put;
     }

@@ -12,10 +12,19 @@ invariant_of-self g c =
     let put = g.L.Lane.put_in old.tx in
     let new = g.L.Lane.put_in c.put.new.tx in
     let item = out_item.Message c.args.framed in
-    let response = response_frame put c.args.framed old.response c.requires.head old.unshut c.requires.frame in
+    let response =
+    response_frame put c.args.framed old.response c.requires.head old.unshut c.requires.frame in
     let begun = old.begins ∙ c.requires.head in
     record {
-      begins = begun ∙ sym (put_or_kept (λ (items : List OutItem). has_head items ≡ true) c.put.result put new item c.put.ensures.ok c.put.ensures.unchanged c.requires.head (has_head-push put item c.requires.head));
-      response = put_or_kept IsResponse c.put.result put new item c.put.ensures.ok c.put.ensures.unchanged old.response response;
-      unshut = put_or_kept (λ (items : List OutItem). has_end items ≡ false) c.put.result put new item c.put.ensures.ok c.put.ensures.unchanged old.unshut (has_end-push put item old.unshut);
+      begins =
+          begun
+          ∙ sym (put_or_kept (λ (items : List OutItem). has_head items ≡ true) c.put.result put new
+          item c.put.ensures.ok c.put.ensures.unchanged c.requires.head
+          (has_head-push put item c.requires.head));
+      response =
+          put_or_kept IsResponse c.put.result put new item c.put.ensures.ok c.put.ensures.unchanged
+          old.response response;
+      unshut =
+          put_or_kept (λ (items : List OutItem). has_end items ≡ false) c.put.result put new item
+          c.put.ensures.ok c.put.ensures.unchanged old.unshut (has_end-push put item old.unshut);
     }

@@ -7,6 +7,10 @@ invariant_of-result g c =
     let new = g.L.Lane.put_shut c.last-shut.result in
     let placed = g.L.Lane.was_placed c.last-shut.result in
     record {
-      response = placed_response placed put new c.args.fields c.args.self.response c.args.self.unshut c.last-shut.ensures.put;
-      closed = placed_closed placed put new c.args.fields (no_trailers put c.args.self.unshut) c.last-shut.ensures.put;
+      response =
+          placed_response placed put new c.args.fields c.args.self.response c.args.self.unshut
+          c.last-shut.ensures.put;
+      closed =
+          placed_closed placed put new c.args.fields (no_trailers put c.args.self.unshut)
+          c.last-shut.ensures.put;
     }

@@ -16,19 +16,25 @@ loop-preserved g c =
       name = c.poll.ensures.name ∙ c.loop.invariant.name;
       took = λ messages t.
           subst (λ (items : List InPiece). Took items c.accept.new.self messages) (sym polled.1)
-          (c.accept.ensures.took before item messages (c.in_default.ensures.took before messages (c.loop.invariant.took messages t)) polled.2);
+          (c.accept.ensures.took before item messages
+          (c.in_default.ensures.took before messages (c.loop.invariant.took messages t)) polled.2);
       needed = λ messages t.
           let came = c.loop.invariant.needed messages t in
-          let took = c.in_default.ensures.took before messages (c.loop.invariant.took messages t) in (
+          let took =
+          c.in_default.ensures.took before messages (c.loop.invariant.took messages t) in (
             came.0 ++ item ∷ [],
-            polled.1 ∙ ap (λ (items : List InPiece). items ++ item ∷ []) came.1 ∙ append_assoc _ came.0 (item ∷ []),
-            needed_more _ came.0 before item messages came.2 came.1 (needs_more before c.answer.new.self messages took more.0 more.2 more.3),
+            polled.1 ∙ ap (λ (items : List InPiece). items ++ item ∷ []) came.1
+                ∙ append_assoc _ came.0 (item ∷ []),
+            needed_more _ came.0 before item messages came.2 came.1
+                (needs_more before c.answer.new.self messages took more.0 more.2 more.3),
           );
       owed = (
         so_far.0 ++ item ∷ [],
-        polled.1 ∙ ap (λ (items : List InPiece). items ++ item ∷ []) so_far.1 ∙ append_assoc _ so_far.0 (item ∷ []),
+        polled.1 ∙ ap (λ (items : List InPiece). items ++ item ∷ []) so_far.1
+            ∙ append_assoc _ so_far.0 (item ∷ []),
         owed_more so_far.0 item _ c.loop.self.progress.owed c.accept.new.self.owed so_far.2
-            (c.accept.ensures.owed item polled.2 ∙ ap (λ (n : ℕ). min (n + length_of item) 4294967295) c.answer.ensures.owed),
+            (c.accept.ensures.owed item polled.2
+            ∙ ap (λ (n : ℕ). min (n + length_of item) 4294967295) c.answer.ensures.owed),
       );
     }
 

@@ -8,8 +8,14 @@ invariant-loop g l =
     record {
       told : l.self.progress.told ≡ None;
       name : g.L.Lane.out_name l.self.rx ≡ g.L.Lane.out_name l.fn.self.rx;
-      took : (messages : List (List ℕ)) → Took (g.L.Lane.got l.fn.self.rx) l.fn.self.progress messages → Took (g.L.Lane.got l.self.rx) l.self.progress messages;
-      needed : (messages : List (List ℕ)) → Took (g.L.Lane.got l.fn.self.rx) l.fn.self.progress messages
-          → (items : List InPiece) × (g.L.Lane.got l.self.rx ≡ g.L.Lane.got l.fn.self.rx ++ items) × EachNeeded (g.L.Lane.got l.fn.self.rx) items messages;
-      owed : (items : List InPiece) × (g.L.Lane.got l.self.rx ≡ g.L.Lane.got l.fn.self.rx ++ items) × (l.self.progress.owed ≡ min (l.fn.self.progress.owed + length (bytes_of items)) 4294967295);
+      took : (messages : List (List ℕ))
+          → Took (g.L.Lane.got l.fn.self.rx) l.fn.self.progress messages
+          → Took (g.L.Lane.got l.self.rx) l.self.progress messages;
+      needed : (messages : List (List ℕ))
+          → Took (g.L.Lane.got l.fn.self.rx) l.fn.self.progress messages
+          → (items : List InPiece) × (g.L.Lane.got l.self.rx ≡ g.L.Lane.got l.fn.self.rx ++ items)
+          × EachNeeded (g.L.Lane.got l.fn.self.rx) items messages;
+      owed : (items : List InPiece) × (g.L.Lane.got l.self.rx ≡ g.L.Lane.got l.fn.self.rx ++ items)
+          × (l.self.progress.owed
+          ≡ min (l.fn.self.progress.owed + length (bytes_of items)) 4294967295);
     }

@@ -10,5 +10,10 @@ returns-clause-needed g c = λ messages t.
     let same : g.L.Lane.got c.if-self.self.rx ≡ g.L.Lane.got c.args.self.now.rx =
     elim c.if-self.branch [ then-self w ↦ search rules | else-self w ↦ search rules ] in
     let took : Took (g.L.Lane.got c.if-self.self.rx) c.if-self.self.progress messages =
-    elim c.if-self.branch [ then-self w ↦ (let again = w.read_again.ensures.took messages t in search rules) | else-self w ↦ search rules ] in
-    subst (λ (old : List InPiece). (items : List InPiece) × (now ≡ old ++ items) × EachNeeded old items messages) same (c.look.ensures.needed messages took)
+    elim c.if-self.branch [
+      | then-self w ↦ (let again = w.read_again.ensures.took messages t in search rules)
+      | else-self w ↦ search rules
+    ] in
+    subst (λ (old : List InPiece).
+    (items : List InPiece) × (now ≡ old ++ items) × EachNeeded old items messages) same
+    (c.look.ensures.needed messages took)

@@ -12,5 +12,6 @@ compare_exchange-found-requires g c =
       front.one_book ∙ sym (ap (λ w. w.book) h),
       pen.0 ∙ (front.one_book ∙ sym (ap (λ w. w.book) h)),
       offer.0,
-      rw (ap (λ w. w.key) h, pen.1, offer.1, offer.3) (enters_moves front.seen.log c.args.work.now front.count (sym front.counted)),
+      rw (ap (λ w. w.key) h, pen.1, offer.1, offer.3)
+          (enters_moves front.seen.log c.args.work.now front.count (sym front.counted)),
     )

@@ -5,5 +5,7 @@ use Rattle.callworker.proofs.worker.Worker.end.Goals as goal
 
 pub returns-clause-given : goal.returns-clause-given
 returns-clause-given g c =
-    same_ends c.args.run c.credit-credit.new.self (of_end (λ giver. put_in giver.tx) (λ s. put_shut s.shut) c.into_ends-taker.result.1) _ _
-    c.credit-credit.ensures.none c.credit-credit.ensures.same c.shut_of-given.ensures.given c.into_ends-taker.ensures.outcome
+    same_ends c.args.run c.credit-credit.new.self
+    (of_end (λ giver. put_in giver.tx) (λ s. put_shut s.shut) c.into_ends-taker.result.1) _ _
+    c.credit-credit.ensures.none c.credit-credit.ensures.same c.shut_of-given.ensures.given
+    c.into_ends-taker.ensures.outcome

@@ -6,7 +6,9 @@ use Rattle.callworker.proofs.worker.Worker.run.Given as goal
 abbrev pub invariant-turns : goal.invariant-turns
 invariant-turns g l =
     record {
-      goes_on : GoesOn (λ m. (goal.Method-dyn g (m.vtable, m.value)).answers m.value) (λ m. (goal.Method-dyn g (m.vtable, m.value)).stands m.value)
+      goes_on :
+          GoesOn (λ m. (goal.Method-dyn g (m.vtable, m.value)).answers m.value)
+          (λ m. (goal.Method-dyn g (m.vtable, m.value)).stands m.value)
           (listed l.methods) l.fn.run l.run;
       same : IsOneCall l.fn.run l.run;
     }

@@ -12,19 +12,28 @@ pub returns-clause-answers : goal.returns-clause-answers
 returns-clause-answers g c =
     let work = c.args.work in
     let fresh = c.requires.fresh in
-    let untouched : Took (got c.new-run.result.taker.rx) c.new-run.result.taker.progress [] = rw c.new-run.ensures.taker (subst (λ (items : List InPiece). Took items work.taker.progress []) (sym fresh.0) fresh.1) in
+    let untouched : Took (got c.new-run.result.taker.rx) c.new-run.result.taker.progress [] =
+    rw c.new-run.ensures.taker
+    (subst (λ (items : List InPiece). Took items work.taker.progress []) (sym fresh.0) fresh.1) in
     let untold : c.new-run.result.taker.progress.told ≡ None = rw c.new-run.ensures.taker fresh.2 in
-    call_answers _ _ (listed c.args.methods.now) _ work.request c.run.new.run _ _ _ _ refl (λ none. absurd (search rules))
+    call_answers _ _ (listed c.args.methods.now) _ work.request c.run.new.run _ _ _ _ refl
+    (λ none. absurd (search rules))
     (c.run.ensures.same.3 ∙ c.new-run.ensures.head) (ap got c.end.ensures.rx) c.end.ensures.progress
-    (overdue_timed c.new-run.result c.run.new.run work.request.head _ c.new-run.ensures.early c.new-run.ensures.deadline c.run.ensures.same)
-    (run_all _ _ (listed c.args.methods.now) work.request.index c.new-run.result c.run.new.run _ _ c.new-run.ensures.index_is untouched untold fresh.2 fresh.3 c.new-run.ensures.hand c.run.ensures.over c.new-run.ensures.run c.run.ensures.goes_on)
+    (overdue_timed c.new-run.result c.run.new.run work.request.head _ c.new-run.ensures.early
+    c.new-run.ensures.deadline c.run.ensures.same)
+    (run_all _ _ (listed c.args.methods.now) work.request.index c.new-run.result c.run.new.run _ _
+    c.new-run.ensures.index_is untouched untold fresh.2 fresh.3 c.new-run.ensures.hand
+    c.run.ensures.over c.new-run.ensures.run c.run.ensures.goes_on)
     c.end.ensures.given
 
 pub returns-then-is_none-clause-answers : goal.returns-then-is_none-clause-answers
 returns-then-is_none-clause-answers g c =
     let work = c.args.work in
     let fresh = c.requires.fresh in
-    let took : Took (got work.taker.rx) work.taker.progress [] = subst (λ (items : List InPiece). Took items work.taker.progress []) (sym fresh.0) fresh.1 in
+    let took : Took (got work.taker.rx) work.taker.progress [] =
+    subst (λ (items : List InPiece). Took items work.taker.progress []) (sym fresh.0) fresh.1 in
     let nothing : IsGivenAs [] (put_shut c.pass_over.result.given.shut) =
-    subst (λ (items : List OutItem). IsGivenAs items (put_shut c.pass_over.result.given.shut)) fresh.3 c.pass_over.ensures.given in
-    rw (c.pass_over.ensures.taker, c.pass_over.ensures.status) (none_answers _ (listed c.args.methods.now) work.request _ work.taker.progress _ (search rules) took nothing)
+    subst (λ (items : List OutItem). IsGivenAs items (put_shut c.pass_over.result.given.shut))
+    fresh.3 c.pass_over.ensures.given in
+    rw (c.pass_over.ensures.taker, c.pass_over.ensures.status) (none_answers _
+    (listed c.args.methods.now) work.request _ work.taker.progress _ (search rules) took nothing)

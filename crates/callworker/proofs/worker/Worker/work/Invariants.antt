@@ -10,5 +10,7 @@ invariant-calls g l =
     record {
       tasks : consumer_name l.ways.tasks ≡ consumer_name l.fn.ways.tasks;
       done : producer_name l.ways.done ≡ producer_name l.fn.ways.done;
-      handed_back : HasHandedBack (λ job. job.number.value) (λ finished. finished.number.value) (received l.ways.tasks) (sent l.ways.done);
+      handed_back :
+          HasHandedBack (λ job. job.number.value) (λ finished. finished.number.value)
+          (received l.ways.tasks) (sent l.ways.done);
     }

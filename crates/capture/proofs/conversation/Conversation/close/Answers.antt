@@ -13,6 +13,12 @@ returns c =
     let asked : c.advanced-asked.result ≡ advanced talk Client 1 = c.advanced-asked.ensures in
     let closed : c.advanced-closed.result ≡ advanced (advanced talk Client 1) Server 1 =
     c.advanced-closed.ensures ∙ ap (λ (t : Conversation). advanced t Server 1) asked in
-    let second = subst (λ (t : Conversation). IsRecord c.in_ok-second.second.items (segment_of t time Server fin_ack [])) asked c.in_ok-second.ensures in
-    let third = subst (λ (t : Conversation). IsRecord c.in_ok-third.third.items (segment_of t time Client ack [])) closed c.in_ok-third.ensures in
+    let second =
+    subst (λ (t : Conversation).
+    IsRecord c.in_ok-second.second.items (segment_of t time Server fin_ack [])) asked
+    c.in_ok-second.ensures in
+    let third =
+    subst (λ (t : Conversation).
+    IsRecord c.in_ok-third.third.items (segment_of t time Client ack [])) closed
+    c.in_ok-third.ensures in
     rw c.in_ok-text.ensures (three_records _ _ _ _ _ _ c.in_ok-first.ensures second third)

@@ -19,8 +19,12 @@ messages-preserved-in-Some c bytes told =
       record {
         each = goes.0;
         whole = goes.1;
-        text = text_more before.0 message c.as_slice.result.now c.messages.self.text.items c.push_message.new.text.items c.messages.self.count before.1.text before.1.count c.as_slice.ensures c.in_ok-push_message-in-Message.ensures;
-        count = omega (arith, c.in-Some.ensures.1, before.1.count, length-append before.0 (message ∷ []));
+        text =
+            text_more before.0 message c.as_slice.result.now c.messages.self.text.items
+            c.push_message.new.text.items c.messages.self.count before.1.text before.1.count
+            c.as_slice.ensures c.in_ok-push_message-in-Message.ensures;
+        count = omega
+            (arith, c.in-Some.ensures.1, before.1.count, length-append before.0 (message ∷ []));
       },
     )
 
@@ -33,16 +37,28 @@ messages-preserved c bytes told =
       record {
         each = goes.0;
         whole = goes.1;
-        text = text_more before.0 message c.as_slice.result.now c.messages.self.text.items c.push_message.new.text.items c.messages.self.count before.1.text before.1.count c.as_slice.ensures c.in_ok-push_message-in-Message.ensures;
-        count = omega (arith, c.in-Some.ensures.1, before.1.count, length-append before.0 (message ∷ []));
+        text =
+            text_more before.0 message c.as_slice.result.now c.messages.self.text.items
+            c.push_message.new.text.items c.messages.self.count before.1.text before.1.count
+            c.as_slice.ensures c.in_ok-push_message-in-Message.ensures;
+        count = omega
+            (arith, c.in-Some.ensures.1, before.1.count, length-append before.0 (message ∷ []));
       },
     )
 
 pub returns-in-More : goal.returns-in-More
 returns-in-More c bytes told =
     let before = c.messages.invariant bytes told in
-    let spells = c.in-More.ensures.however_cut bytes before.0 before.1.each before.1.whole in
-    (before.0, record { each = before.1.each; whole = spells.whole; text = before.1.text; count = before.1.count }, spells)
+    let spells = c.in-More.ensures.however_cut bytes before.0 before.1.each before.1.whole in (
+      before.0,
+      record {
+        each = before.1.each;
+        whole = spells.whole;
+        text = before.1.text;
+        count = before.1.count;
+      },
+      spells,
+    )
 
 pub returns-in_default-fault : goal.returns-in_default-fault
 returns-in_default-fault c bytes told =

@@ -1,8 +1,10 @@
 use Rattle.std.proofs.Common.{◌≡◌}
-use Rattle.lane.specs.Ring.{put_in}
+use Rattle.connection.specs.Puts.{put_of}
 use Rattle.connection.proofs.orders.Orders.close.Given as goal
 
--- nothing was put yet
+-- the last order wasn't put yet
 abbrev pub invariant-tries : goal.invariant-tries
 invariant-tries g l =
-    (put_in l.self.outbox.ring ≡ put_in l.fn.self.outbox.ring) × (l.self.has_dropped ≡ l.fn.self.has_dropped) × (l.self.unput ≡ l.fn.self.unput)
+    (put_of l.self ≡ put_of l.fn.self) × (l.self.has_dropped ≡ l.fn.self.has_dropped)
+    × (l.self.unput ≡ l.fn.self.unput)
+    × (l.self.has_stopped ≡ l.fn.self.has_stopped)

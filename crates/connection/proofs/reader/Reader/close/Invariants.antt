@@ -5,5 +5,9 @@ use Rattle.connection.proofs.reader.Reader.close.Given as goal
 
 -- nothing was put yet
 abbrev pub invariant-tries : goal.invariant-tries
-invariant-tries g l = Collects g.M.Answering.known g.M.Answering.names l.fn.self.reading l.self.reading × (put_of l.self.orders ≡ put_of l.fn.self.orders)
-    × (l.self.orders.has_dropped ≡ l.fn.self.orders.has_dropped) × (l.self.orders.unput ≡ l.fn.self.orders.unput)
+invariant-tries g l =
+    Collects g.M.Answering.known g.M.Answering.names l.fn.self.reading l.self.reading
+    × (put_of l.self.orders ≡ put_of l.fn.self.orders)
+    × (l.self.orders.has_dropped ≡ l.fn.self.orders.has_dropped)
+    × (l.self.orders.unput ≡ l.fn.self.orders.unput)
+    × (l.self.orders.has_stopped ≡ l.fn.self.orders.has_stopped)

@@ -14,7 +14,9 @@ pub returns-in-Some : goal.returns-in-Some
 returns-in-Some g c = record {
   cuts =
       let found = some-of c.in-Some.decided.cut
-      (λ (cut : Cut). DecidesOn g.M.Answering.known g.M.Answering.names (CutOff cut.id) c.in-Some.decided c.args.self.now.reading c.args.self.now.reading) c.in-Some.ensures.decides in
+      (λ (cut : Cut).
+      DecidesOn g.M.Answering.known g.M.Answering.names (CutOff cut.id) c.in-Some.decided
+      c.args.self.now.reading c.args.self.now.reading) c.in-Some.ensures.decides in
       cuts-one _ _ found.0.id _ _ _ _ _ (λ is. true≢false is) refl found.1 c.act.ensures.acts;
 }
 

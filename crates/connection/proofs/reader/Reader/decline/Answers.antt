@@ -16,5 +16,6 @@ returns g c = record {
       may-turn c.args.fault tally.calls (length (reported told)) (is_draining told)
       (subst (λ (b : Bool). MayTurnAway tally.calls b c.args.fault) reads.drains may) covers.calls)
       (λ told covers. covers-more tally (step ∷ []) told covers)
-      c.act.ensures.ends c.turn_away-decided.ensures.home (c.turn_away-decided.ensures.decides head) (λ told is. plain-own told step c.turn_away-decided.result refl is) c.act.ensures.acts;
+      c.act.ensures.ends c.turn_away-decided.ensures.home (c.turn_away-decided.ensures.decides head)
+      (λ told is. plain-own told step c.turn_away-decided.result refl is) c.act.ensures.acts tt;
 }

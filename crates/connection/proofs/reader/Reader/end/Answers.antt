@@ -1,30 +1,56 @@
-use Rattle.std.proofs.Common.{[], ◌∷◌, ◌++◌}
+use Rattle.std.proofs.Common.{◌≡◌, ◌∙◌, [], ◌∷◌, ◌++◌, ap, refl}
 use Rattle.outwriter.specs.declared.control.Control.TheVariants.{InputEnded}
 use Rattle.readerloop.specs.Orders.{orders_by}
-use Rattle.connection.proofs.Heard.{closed-behind, collects-seats, collects-then, grows-home, grows-then, ordered-put, ordered-same, same-of}
+use Rattle.connection.proofs.Heard.{
+  closed-behind,
+  collects-seats,
+  collects-then,
+  grows-home,
+  grows-then,
+  ordered-put,
+  ordered-same,
+  same-of,
+}
 use Rattle.connection.proofs.reader.Reader.end.Goals as goal
 
 pub returns-clause-grows : goal.returns-clause-grows
 returns-clause-grows g c =
-    grows-then c.args.self.now.reading c.cut_all.new.self.reading _ (grows-home c.args.self.now.reading c.cut_all.new.self.reading c.cut_all.ensures.cuts.0)
+    grows-then c.args.self.now.reading c.cut_all.new.self.reading _
+    (grows-home c.args.self.now.reading c.cut_all.new.self.reading c.cut_all.ensures.cuts.0)
     (collects-then _ _ _ (collects-seats _ _ c.ring_noted.ensures.rest)
-    (collects-then _ _ _ (collects-seats _ _ c.end.ensures.rest) (collects-then _ _ _ (collects-seats _ _ c.join_all.ensures.reading) c.close.ensures.collects))).grows
+    (collects-then _ _ _ (collects-seats _ _ c.end.ensures.rest) (collects-then _ _ _
+    (collects-seats _ _ c.join_all.ensures.reading) c.close.ensures.collects))).grows
 
 pub returns-clause-ended : goal.returns-clause-ended
 returns-clause-ended g c = λ sent told carried reads.
     let cuts = c.cut_all.ensures.cuts.1 sent told reads in
     let rest = collects-then _ _ _ (collects-seats _ _ c.ring_noted.ensures.rest)
-    (collects-then _ _ _ (collects-seats _ _ c.end.ensures.rest) (collects-then _ _ _ (collects-seats _ _ c.join_all.ensures.reading) c.close.ensures.collects)) in (
+    (collects-then _ _ _ (collects-seats _ _ c.end.ensures.rest) (collects-then _ _ _
+    (collects-seats _ _ c.join_all.ensures.reading) c.close.ensures.collects)) in
+    let same : c.close.new.self.orders.has_stopped ≡ c.put.new.self.has_stopped =
+    c.close.ensures.stopped
+    ∙ (ap (λ orders. orders.has_stopped) c.join_all.ensures.orders ∙ c.ring.ensures.stopped) in (
       cuts.0,
       record {
         silent = cuts.1.silent;
         calm = cuts.1.calm;
+        undrained = cuts.1.undrained refl;
         reads = rest.keeps sent (cuts.0 ++ told) carried cuts.1.reads;
         ordered = λ ordered.
             let all = orders_by (cuts.0 ++ told) ++ InputEnded ∷ [] in
-            closed-behind all c.join_all.new.self.orders c.close.new.self.orders c.close.ensures.put c.close.ensures.dropped c.close.ensures.unput
-            (ordered-same all c.ring.new.self c.join_all.new.self.orders (same-of c.ring.new.self c.join_all.new.self.orders c.join_all.ensures.orders)
-            (ordered-same all c.put.new.self c.ring.new.self (c.ring.ensures.outbox, c.ring.ensures.dropped, c.ring.ensures.unput)
-            (ordered-put (orders_by (cuts.0 ++ told)) _ c.cut_all.new.self.orders c.put.new.self c.put.ensures.puts tt (cuts.1.ordered ordered))));
+            closed-behind all c.join_all.new.self.orders c.close.new.self.orders c.close.ensures.put
+            c.close.ensures.dropped c.close.ensures.unput
+            (ordered-same all c.ring.new.self c.join_all.new.self.orders
+            (same-of c.ring.new.self c.join_all.new.self.orders c.join_all.ensures.orders)
+            (ordered-same all c.put.new.self c.ring.new.self (
+              c.ring.ensures.outbox,
+              c.ring.ensures.dropped,
+              c.ring.ensures.unput,
+              c.ring.ensures.backlog,
+              c.ring.ensures.stopped,
+            )
+            (ordered-put (orders_by (cuts.0 ++ told)) _ c.cut_all.new.self.orders c.put.new.self
+            c.put.ensures.puts tt (cuts.1.ordered ordered))));
+        stops = λ was. same ∙ c.put.ensures.stops (cuts.1.stops was);
       },
     )

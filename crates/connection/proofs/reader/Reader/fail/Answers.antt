@@ -5,4 +5,8 @@ use Rattle.connection.proofs.Heard.{to-one}
 use Rattle.connection.proofs.reader.Reader.fail.Goals as goal
 
 pub returns : goal.returns
-returns g c = record { reads = to-one (events.StreamError c.args.id c.args.code) Plain _ _ _ _ _ _ _ (λ told. tt) c.act.ensures.ends refl refl c.fail-decided.ensures.decides c.act.ensures.acts }
+returns g c = record {
+  reads =
+      to-one (events.StreamError c.args.id c.args.code) Plain _ _ _ _ _ _ _ (λ told. tt)
+      c.act.ensures.ends refl refl c.fail-decided.ensures.decides c.act.ensures.acts tt;
+}

@@ -5,4 +5,8 @@ use Rattle.connection.proofs.Heard.{to-silent}
 use Rattle.connection.proofs.reader.Reader.hear_goaway.Goals as goal
 
 pub returns : goal.returns
-returns g c = record { reads = to-silent events.PeerGoaway Plain _ _ _ _ (λ told. refl) refl (λ told. tt) c.hear_goaway.ensures.home c.hear_goaway.ensures.reads (refl, refl, refl) }
+returns g c = record {
+  reads =
+      to-silent events.PeerGoaway Plain _ _ _ _ (λ told. refl) refl (λ told. tt)
+      c.hear_goaway.ensures.home c.hear_goaway.ensures.reads (refl, refl, refl, refl, refl) tt;
+}

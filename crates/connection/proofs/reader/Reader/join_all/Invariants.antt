@@ -3,7 +3,9 @@ use Rattle.connection.proofs.reader.Reader.join_all.Given as goal
 
 -- the workers alone are others
 abbrev pub invariant-hands : goal.invariant-hands
-invariant-hands g l = (l.self.reading ≡ record l.fn.self.reading { seats = l.self.reading.seats }) × (l.self.orders ≡ l.fn.self.orders)
+invariant-hands g l =
+    (l.self.reading ≡ record l.fn.self.reading { seats = l.self.reading.seats })
+    × (l.self.orders ≡ l.fn.self.orders)
 
 abbrev pub decreases-hands : goal.decreases-hands
 decreases-hands g l = length l.self.hands.items

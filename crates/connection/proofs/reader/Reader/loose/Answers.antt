@@ -10,10 +10,17 @@ pub returns : goal.returns
 returns g c = record {
   reads =
       with-quiet _ _ _ _ _ _ _ _ _ _ c.note_credit.ensures.reading c.note_credit.ensures.same
-      (with-one _ _ (events.Loose c.args.flow) (Received c.receive-receipt.result) c.loose-decided.result _ c.note_credit.new.self.reading c.note_credit.new.self.reading c.act.new.self.reading c.note_credit.new.self.orders c.act.new.self.orders
-      (λ sent told reads covers. may-refuse c.receive-receipt.result _ _ c.receive-receipt.ensures.justified (omega (arith, covers.came)))
+      (with-one _ _ (events.Loose c.args.flow) (Received c.receive-receipt.result)
+      c.loose-decided.result _ c.note_credit.new.self.reading c.note_credit.new.self.reading
+      c.act.new.self.reading c.note_credit.new.self.orders c.act.new.self.orders
+      (λ sent told reads covers.
+      may-refuse c.receive-receipt.result _ _ c.receive-receipt.ensures.justified
+      (omega (arith, covers.came)))
       (λ told covers.
-      covers-bytes (events.Loose c.args.flow) (Received c.receive-receipt.result) told _ _ c.receive-receipt.result c.args.flow
+      covers-bytes (events.Loose c.args.flow) (Received c.receive-receipt.result) told _ _
+      c.receive-receipt.result c.args.flow
       c.receive-receipt.ensures.calls c.receive-receipt.ensures.counted refl covers)
-      c.act.ensures.ends refl (c.loose-decided.ensures.decides c.args.flow) (λ told is. plain-own told (Told (events.Loose c.args.flow) (Received c.receive-receipt.result)) c.loose-decided.result refl is) c.act.ensures.acts);
+      c.act.ensures.ends refl (c.loose-decided.ensures.decides c.args.flow) (λ told is.
+      plain-own told (Told (events.Loose c.args.flow) (Received c.receive-receipt.result))
+      c.loose-decided.result refl is) c.act.ensures.acts tt);
 }

@@ -9,7 +9,12 @@ use Rattle.connection.proofs.reader.Reader.lose.Goals as goal
 
 pub returns : goal.returns
 returns g c = record {
-  reads = λ head tally named. with-one tally (one_more tally) (events.Open c.args.id head) (Unserved NoWorker) _ _ _ _ _ _ _
-      (λ sent told reads covers. tt) (λ told covers. covers-call tally (events.Open c.args.id head) (Unserved NoWorker) c.args.id told refl covers) c.act.ensures.ends c.lose-decided.ensures.home
-      (c.lose-decided.ensures.unserved head named) (λ told is. plain-own told (Told (events.Open c.args.id head) (Unserved NoWorker)) c.lose-decided.result refl is) c.act.ensures.acts;
+  reads = λ head tally named.
+      with-one tally (one_more tally) (events.Open c.args.id head) (Unserved NoWorker) _ _ _ _ _ _ _
+      (λ sent told reads covers. tt) (λ told covers.
+      covers-call tally (events.Open c.args.id head) (Unserved NoWorker) c.args.id told refl covers)
+      c.act.ensures.ends c.lose-decided.ensures.home
+      (c.lose-decided.ensures.unserved head named) (λ told is.
+      plain-own told (Told (events.Open c.args.id head) (Unserved NoWorker)) c.lose-decided.result
+      refl is) c.act.ensures.acts tt;
 }

@@ -5,4 +5,8 @@ use Rattle.connection.proofs.Heard.{to-one}
 use Rattle.connection.proofs.reader.Reader.pass_on.Goals as goal
 
 pub returns : goal.returns
-returns g c = record { reads = to-one (events.Control c.args.news) Plain _ _ _ _ _ _ _ (λ told. tt) c.act.ensures.ends refl refl c.pass_on-decided.ensures.decides c.act.ensures.acts }
+returns g c = record {
+  reads =
+      to-one (events.Control c.args.news) Plain _ _ _ _ _ _ _ (λ told. tt) c.act.ensures.ends refl
+      refl c.pass_on-decided.ensures.decides c.act.ensures.acts tt;
+}

@@ -10,7 +10,10 @@ pub looks-init : goal.looks-init
 looks-init g c = (collects-none _ _ refl, refl)
 
 pub looks-preserved : goal.looks-preserved
-looks-preserved g c = (collects-then _ _ _ c.looks.invariant.0 c.settle_all.ensures.collects, c.settle_all.ensures.orders ∙ c.looks.invariant.1)
+looks-preserved g c = (
+  collects-then _ _ _ c.looks.invariant.0 c.settle_all.ensures.collects,
+  c.settle_all.ensures.orders ∙ c.looks.invariant.1,
+)
 
 pub returns-then-unsettled-eq0 : goal.returns-then-unsettled-eq0
 returns-then-unsettled-eq0 g c = record {

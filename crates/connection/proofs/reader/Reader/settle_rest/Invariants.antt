@@ -3,4 +3,6 @@ use Rattle.connection.specs.Heard.{Collects}
 use Rattle.connection.proofs.reader.Reader.settle_rest.Given as goal
 
 abbrev pub invariant-looks : goal.invariant-looks
-invariant-looks g l = Collects g.M.Answering.known g.M.Answering.names l.fn.self.reading l.self.reading × (l.self.orders ≡ l.fn.self.orders)
+invariant-looks g l =
+    Collects g.M.Answering.known g.M.Answering.names l.fn.self.reading l.self.reading
+    × (l.self.orders ≡ l.fn.self.orders)

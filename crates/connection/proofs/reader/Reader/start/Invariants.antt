@@ -5,5 +5,7 @@ use Rattle.connection.proofs.reader.Reader.start.Given as goal
 
 -- nothing was heard meanwhile
 abbrev pub invariant-looks : goal.invariant-looks
-invariant-looks g l = Collects g.M.Answering.known g.M.Answering.names l.fn.self.reading l.self.reading × KeepsNext l.fn.self.reading l.self.reading
+invariant-looks g l =
+    Collects g.M.Answering.known g.M.Answering.names l.fn.self.reading l.self.reading
+    × KeepsNext l.fn.self.reading l.self.reading
     × (l.self.orders ≡ l.fn.self.orders)

@@ -2,14 +2,17 @@ use Rattle.writerloop.proofs.WrittenSteps.{to-still}
 use Rattle.connection.proofs.writer.Writer.turn.Goals as goal
 
 pub returns-in-Over-clause-over : goal.returns-in-Over-clause-over
-returns-in-Over-clause-over g c = λ yes. c.write_once-filled.ensures.over (c.rest.ensures.over c.in-Over.is)
+returns-in-Over-clause-over g c = λ yes.
+    c.write_once-filled.ensures.over (c.rest.ensures.over c.in-Over.is)
 
 pub returns-in-Idle-clause-leads : goal.returns-in-Idle-clause-leads
 returns-in-Idle-clause-leads g c =
-    to-still g.W.ConnWrite.contents g.W.ConnWrite.failed _ _ _ _ _ _ c.write_once-filled.ensures.leads c.reset_left.ensures.leads
+    to-still g.W.ConnWrite.contents g.W.ConnWrite.failed _ _ _ _ _ _
+    c.write_once-filled.ensures.leads c.reset_left.ensures.leads
     c.reset_left.ensures.outlet
 
 pub returns-in-None-clause-leads : goal.returns-in-None-clause-leads
 returns-in-None-clause-leads g c =
-    to-still g.W.ConnWrite.contents g.W.ConnWrite.failed _ _ _ _ _ _ c.write_once-filled.ensures.leads c.reset_between.ensures.leads
+    to-still g.W.ConnWrite.contents g.W.ConnWrite.failed _ _ _ _ _ _
+    c.write_once-filled.ensures.leads c.reset_between.ensures.leads
     c.reset_between.ensures.outlet

@@ -9,8 +9,12 @@ pub invariant_of-self : goal.invariant_of-self
 invariant_of-self c = record {
   connection_fits = c.self.invariant.connection_fits;
   initial_fits = c.self.invariant.initial_fits;
-  each = rw c.shift_remove.ensures.entries (all-remove (IsBalance c.self.inside.shared.initial) c.self.inside.balances.entries c.args.id c.self.invariant.each);
-  apart = apart-taken (nat_eq c.args.id 0) (lookup (nat_eq 0) c.self.inside.balances.entries) _ (c.shift_remove.ensures.updates.0 0) c.self.invariant.apart;
+  each =
+      rw c.shift_remove.ensures.entries (all-remove (IsBalance c.self.inside.shared.initial)
+      c.self.inside.balances.entries c.args.id c.self.invariant.each);
+  apart =
+      apart-taken (nat_eq c.args.id 0) (lookup (nat_eq 0) c.self.inside.balances.entries) _
+      (c.shift_remove.ensures.updates.0 0) c.self.invariant.apart;
 }
 
 pub returns-clause-law : goal.returns-clause-law

@@ -9,18 +9,23 @@ invariant_of-self c = (sym (ap sizes_of c.clear.ensures.items ∙ sizes_of-nil),
 
 pub returns-then-size-limit : goal.returns-then-size-limit
 returns-then-size-limit c =
-    insert_large c.self.inside.recent.items c.clear.new.self.items c.self.inside.max_size c.args.field.now c.clear.ensures.items (omega (arith, c.requires, c.if-size-limit.true))
+    insert_large c.self.inside.recent.items c.clear.new.self.items c.self.inside.max_size
+    c.args.field.now c.clear.ensures.items (omega (arith, c.requires, c.if-size-limit.true))
     ∙ ap (λ table. insert_entry table c.args.field.now) c.self.view_is
 
 pub invariant_of-self-2 : goal.invariant_of-self-2
 invariant_of-self-2 c = (
-  sym (ap sizes_of c.in_ok-push_front.ensures.items ∙ sizes_of-cons _ _ ∙ omega (arith, c.evict-self-inside.ensures.size, c.requires, ap size_of c.in_ok-entry.ensures)),
+  sym (ap sizes_of c.in_ok-push_front.ensures.items ∙ sizes_of-cons _ _
+      ∙ omega
+      (arith, c.evict-self-inside.ensures.size, c.requires, ap size_of c.in_ok-entry.ensures)),
   omega (arith, c.evict-self-inside.ensures.room, c.if-size-limit.false),
 )
 
 pub returns : goal.returns
 returns c =
-    insert_small c.self.inside.recent.items c.evict-self-inside.new.recent.items c.push_front.new.self.items c.self.inside.max_size c.args.size c.args.field.now
+    insert_small c.self.inside.recent.items c.evict-self-inside.new.recent.items
+    c.push_front.new.self.items c.self.inside.max_size c.args.size c.args.field.now
     c.requires c.if-size-limit.false c.evict-self-inside.ensures.kept
-    (c.in_ok-push_front.ensures.items ∙ ap (λ (entry : Field). entry ∷ c.evict-self-inside.new.recent.items) c.in_ok-entry.ensures)
+    (c.in_ok-push_front.ensures.items
+    ∙ ap (λ (entry : Field). entry ∷ c.evict-self-inside.new.recent.items) c.in_ok-entry.ensures)
     ∙ ap (λ table. insert_entry table c.args.field.now) c.self.view_is

@@ -12,7 +12,8 @@ returns-then-waiting-self-clause-full g c =
     let tx = c.args.self.now in
     let no_links = ap links (no_link _ _ _ _ tx.linked c.requires.first) in
     let steps = count_steps (sent tx.first) tx.closed in
-    let alone = ap length (first_alone second_put_in (pieces (sent tx.first)) tx.second c.requires.first) in
+    let alone =
+    ap length (first_alone second_put_in (pieces (sent tx.first)) tx.second c.requires.first) in
     let unseen = none_second second_seen_taken tx.second c.requires.first in
     let one = ap kept c.requires.first in
     let counts = tx.first.counts in
@@ -23,7 +24,8 @@ returns-clause-room g c =
     let tx = c.args.self.now in
     let no_links = ap links (no_link _ _ _ _ tx.linked c.requires.first) in
     let steps = count_steps (sent tx.first) tx.closed in
-    let alone = ap length (first_alone second_put_in (pieces (sent tx.first)) tx.second c.requires.first) in
+    let alone =
+    ap length (first_alone second_put_in (pieces (sent tx.first)) tx.second c.requires.first) in
     let unseen = none_second second_seen_taken tx.second c.requires.first in
     let one = ap kept c.requires.first in
     let counts = tx.first.counts in

@@ -25,11 +25,13 @@ invariant_of-self g c =
     }
 
 pub returns-clause-pieces : goal.returns-clause-pieces
-returns-clause-pieces g c = (push_next (sent c.args.self.now.first) _ c.args.fresh c.push_reserved.ensures.sent.0).items
+returns-clause-pieces g c =
+    (push_next (sent c.args.self.now.first) _ c.args.fresh c.push_reserved.ensures.sent.0).items
 
 pub returns-clause-seen : goal.returns-clause-seen
 returns-clause-seen g c =
-    let more = push_next (sent c.args.self.now.first) _ c.args.fresh c.push_reserved.ensures.sent.0 in
+    let more =
+    push_next (sent c.args.self.now.first) _ c.args.fresh c.push_reserved.ensures.sent.0 in
     let same = ap length more.items in
     let all = more.all in
     omega arith

@@ -33,10 +33,12 @@ invariant_of-self g c =
 
 pub returns-clause-seen : goal.returns-clause-seen
 returns-clause-seen g c =
-    let more = push_piece (sent c.args.self.now.first) _ c.args.item c.push_reserved.ensures.sent.0 in
+    let more =
+    push_piece (sent c.args.self.now.first) _ c.args.item c.push_reserved.ensures.sent.0 in
     let len = more.len in
     let all = more.all in
     omega arith
 
 pub returns-clause-sent : goal.returns-clause-sent
-returns-clause-sent g c = (push_piece (sent c.args.self.now.first) _ c.args.item c.push_reserved.ensures.sent.0).items
+returns-clause-sent g c =
+    (push_piece (sent c.args.self.now.first) _ c.args.item c.push_reserved.ensures.sent.0).items

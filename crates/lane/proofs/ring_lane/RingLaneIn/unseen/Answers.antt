@@ -25,7 +25,8 @@ returns-else-is_some-clause-count g c =
     let none = kept_none tx.second (sym c.is_some.ensures ∙ c.if-is_some.false) in
     omega arith
 
-pub returns-then-cached_slots-capacity-clause-count : goal.returns-then-cached_slots-capacity-clause-count
+pub returns-then-cached_slots-capacity-clause-count :
+    goal.returns-then-cached_slots-capacity-clause-count
 returns-then-cached_slots-capacity-clause-count g c =
     let tx = c.args.self.now in
     let steps = count_steps (sent tx.first) tx.closed in

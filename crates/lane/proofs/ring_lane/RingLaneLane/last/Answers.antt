@@ -33,5 +33,7 @@ returns-clause-put g c =
     let tx = c.args.tx in
     let more = push_piece (sent tx.first) _ c.args.item c.push_reserved.ensures.sent.0 in
     let old = pieces (sent tx.first) in
-    let none = ap (λ next. (old ++ of_second second_put_in next) ++ c.args.item ∷ []) c.in-None.is ∙ ap (λ items. items ++ c.args.item ∷ []) (append-nil old) in
+    let none =
+    ap (λ next. (old ++ of_second second_put_in next) ++ c.args.item ∷ []) c.in-None.is
+    ∙ ap (λ items. items ++ c.args.item ∷ []) (append-nil old) in
     append-nil (pieces (sent c.push_reserved.new.self)) ∙ (more.items ∙ sym none)

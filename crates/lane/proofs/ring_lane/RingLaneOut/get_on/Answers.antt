@@ -9,6 +9,10 @@ invariant_of-self-2 g c =
     let rx = c.args.self.now in
     record {
       counted = rx.counted;
-      linked = linked_moved _ _ (link (received rx.first)) rx.second c.in-Some.second c.poll.new.self c.in-Some.is c.poll.ensures.name rx.linked;
-      kept = last_second second_got (pieces (received rx.first)) c.in-Some.second c.poll.new.self c.in-Some-poll.item c.in-Some-poll.ensures.got;
+      linked =
+          linked_moved _ _ (link (received rx.first)) rx.second c.in-Some.second c.poll.new.self
+          c.in-Some.is c.poll.ensures.name rx.linked;
+      kept =
+          last_second second_got (pieces (received rx.first)) c.in-Some.second c.poll.new.self
+          c.in-Some-poll.item c.in-Some-poll.ensures.got;
     }

@@ -12,7 +12,9 @@ returns-then-known-gt1-clause-begins g c =
     let tx = c.args.tx.now in
     let rx = c.args.rx.now in
     let met = c.meet_first-known.ensures in
-    let here = here_of (received rx.first) (known_items c.meet_first-known.new.reading) (sent tx.first) met.joined tx.closed (no_link _ _ _ _ rx.linked c.requires.reader) in
+    let here =
+    here_of (received rx.first) (known_items c.meet_first-known.new.reading) (sent tx.first)
+    met.joined tx.closed (no_link _ _ _ _ rx.linked c.requires.reader) in
     begins_before _ _ _ _ _ rx.second tx.second c.requires.reader met.received met.sent here.items
 
 pub returns-then-known-gt1-clause-count : goal.returns-then-known-gt1-clause-count
@@ -20,12 +22,16 @@ returns-then-known-gt1-clause-count g c =
     let tx = c.args.tx.now in
     let rx = c.args.rx.now in
     let met = c.meet_first-known.ensures in
-    let here = here_of (received rx.first) (known_items c.meet_first-known.new.reading) (sent tx.first) met.joined tx.closed (no_link _ _ _ _ rx.linked c.requires.reader) in
+    let here =
+    here_of (received rx.first) (known_items c.meet_first-known.new.reading) (sent tx.first)
+    met.joined tx.closed (no_link _ _ _ _ rx.linked c.requires.reader) in
     let one = linked_kept _ _ _ _ tx.linked in
     let some = kept_some tx.second c.requires.writer in
     let count = here.count in
     let known = met.known in
-    let ahead = ap length (ahead_first rx.second (known_items c.meet_first-known.new.reading) c.requires.reader) in
+    let ahead =
+    ap length (ahead_first rx.second (known_items c.meet_first-known.new.reading)
+    c.requires.reader) in
     omega arith
 
 pub returns-then-known-gt1-clause-seen : goal.returns-then-known-gt1-clause-seen
@@ -33,11 +39,15 @@ returns-then-known-gt1-clause-seen g c =
     let tx = c.args.tx.now in
     let rx = c.args.rx.now in
     let met = c.meet_first-known.ensures in
-    let here = here_of (received rx.first) (known_items c.meet_first-known.new.reading) (sent tx.first) met.joined tx.closed (no_link _ _ _ _ rx.linked c.requires.reader) in
+    let here =
+    here_of (received rx.first) (known_items c.meet_first-known.new.reading) (sent tx.first)
+    met.joined tx.closed (no_link _ _ _ _ rx.linked c.requires.reader) in
     let less = here.less in
     let some = here.some in
     let seen = met.seen in
     let put = ap (λ steps. length (pieces steps)) met.sent in
     let got = ap (λ steps. length (pieces steps)) met.received in
-    let alone = ap length (first_alone second_got (pieces (received c.meet_first-known.new.reading)) rx.second c.requires.reader) in
+    let alone =
+    ap length (first_alone second_got (pieces (received c.meet_first-known.new.reading)) rx.second
+    c.requires.reader) in
     omega arith

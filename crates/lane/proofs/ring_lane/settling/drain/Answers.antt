@@ -11,6 +11,11 @@ loop-preserved g c =
     let rest = inv.rest in
     record {
       rest = omega arith;
-      joined = shifted (received c.loop.first) _ (known_items c.loop.first) (known_items c.pop_known.new.self) _ c.pop_known.result popped.0 popped.1 inv.joined;
-      found = c.way_on-found.ensures ∙ after_link (λ fresh. fresh.out.value) (received c.loop.first) _ c.pop_known.result c.loop.found popped.0 inv.found;
+      joined =
+          shifted (received c.loop.first) _ (known_items c.loop.first)
+          (known_items c.pop_known.new.self) _ c.pop_known.result popped.0 popped.1 inv.joined;
+      found =
+          c.way_on-found.ensures
+          ∙ after_link (λ fresh. fresh.out.value) (received c.loop.first) _ c.pop_known.result
+          c.loop.found popped.0 inv.found;
     }

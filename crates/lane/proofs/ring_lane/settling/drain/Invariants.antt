@@ -8,6 +8,7 @@ abbrev pub invariant-loop : goal.invariant-loop
 invariant-loop g l =
     record {
       rest : length (known_items l.first) + l.counter ≡ l.known;
-      joined : received l.first ++ known_items l.first ≡ received l.fn.first ++ known_items l.fn.first;
+      joined : received l.first ++ known_items l.first
+          ≡ received l.fn.first ++ known_items l.fn.first;
       found : l.found ≡ option_map (λ fresh. fresh.out.value) (link (received l.first));
     }

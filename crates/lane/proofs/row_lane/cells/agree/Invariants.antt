@@ -6,7 +6,8 @@ abbrev pub invariant-loop-mine : goal.invariant-loop-mine
 invariant-loop-mine g l =
     record {
       same_cells : cells_of l.other.items ≡ cells_of l.one.items;
-      same_items : items_of l.other.items ≡ items_of l.one.items → items_of l.initial.other.items ≡ items_of l.initial.one.items;
+      same_items : items_of l.other.items ≡ items_of l.one.items
+          → items_of l.initial.other.items ≡ items_of l.initial.one.items;
     }
 
 abbrev pub decreases-loop-mine : goal.decreases-loop-mine

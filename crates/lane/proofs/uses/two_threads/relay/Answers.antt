@@ -10,7 +10,9 @@ returns-clause-lawful g c =
     let taken = c.join-tx.result.1.1.items in
     let items = c.args.items.now in
     let begins : IsPrefix put items = IsPrefix-take put items c.join-tx.result.0.1 (search rules) in
-    let lawful : IsLawful c.args.room false put taken = lawful_at _ c.args.room false put _ taken (search rules) (search rules) c.settle-settled.ensures.lawful in
+    let lawful : IsLawful c.args.room false put taken =
+    lawful_at _ c.args.room false put _ taken (search rules) (search rules)
+    c.settle-settled.ensures.lawful in
     (put, begins, lawful, c.settle-settled.ensures.put)
 
 pub returns-clause-begins : goal.returns-clause-begins

@@ -9,8 +9,16 @@ invariant_of-self c =
     let bytes = c.reserve.new.self.bytes in
     let piece = c.as_slice.result.now in
     record {
-      within = within_appended bytes.items (take c.min-count.result piece) c.extend_from_slice.new.self.items _ c.args.len
+      within =
+          within_appended bytes.items (take c.min-count.result piece)
+          c.extend_from_slice.new.self.items _ c.args.len
           (ap extent_of c.reserve.ensures ∙ c.requires.extent)
-          (omega (arith, length-take c.min-count.result piece, bytes.ok.0, ap length c.reserve.ensures, c.requires.unfinished))
+          (omega (
+            arith,
+            length-take c.min-count.result piece,
+            bytes.ok.0,
+            ap length c.reserve.ensures,
+            c.requires.unfinished,
+          ))
           c.extend_from_slice.ensures.items;
     }

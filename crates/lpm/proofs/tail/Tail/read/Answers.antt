@@ -11,14 +11,20 @@ returns-in_err-at-clause-fault c = λ bytes leaves.
     let piece = c.args.piece.now in
     let front = bytes ++ take c.loop-at.at piece in
     let fault = c.in_err-at.field-0.0 in
-    let longer = fault_longer front (drop c.loop-at.at piece) fault (c.in_err-at.ensures.fault front (c.loop-at.invariant.1 bytes leaves)) in
-    rw (p.1, p.2) (subst (λ (b : List ℕ). IsFaultySomewhere b fault) (read_all bytes piece c.loop-at.at) longer)
+    let longer =
+    fault_longer front (drop c.loop-at.at piece) fault
+    (c.in_err-at.ensures.fault front (c.loop-at.invariant.1 bytes leaves)) in
+    rw (p.1, p.2)
+    (subst (λ (b : List ℕ). IsFaultySomewhere b fault) (read_all bytes piece c.loop-at.at) longer)
 
 pub loop-at-preserved : goal.loop-at-preserved
 loop-at-preserved c = (
   omega (arith, c.in_ok-at.ensures.some),
   λ bytes leaves.
       let piece = c.args.piece.now in
-      let on = rw take_rest at (c.in_ok-at.ensures.ok (bytes ++ take c.loop-at.at piece) (c.loop-at.invariant.1 bytes leaves)) in
-      subst (λ (b : List ℕ). Leaves b c.take.new.self) (read_on bytes piece c.loop-at.at c.in_ok-at.field-0) on,
+      let on =
+      rw take_rest at (c.in_ok-at.ensures.ok (bytes ++ take c.loop-at.at piece)
+      (c.loop-at.invariant.1 bytes leaves)) in
+      subst (λ (b : List ℕ). Leaves b c.take.new.self)
+      (read_on bytes piece c.loop-at.at c.in_ok-at.field-0) on,
 )

@@ -15,7 +15,11 @@ returns-in_err-read-clause-fault c = λ bytes leaves.
     let fault = c.in_err-read.field-0.0 in
     let here = c.in_err-read.ensures.fault front (c.loop-i.invariant bytes leaves) in
     let longer = fault_longer (front ++ piece) (concat (drop (i + 1) pieces)) fault here in
-    let all = ap (λ (b : List ℕ). b ++ concat (drop (i + 1) pieces)) (ap (λ (b : List ℕ). front ++ b) c.as_slice.ensures ∙ pieces_more bytes pieces i c.index.result.now (omega arith) c.index.ensures) ∙ pieces_all bytes pieces (i + 1) in
+    let all =
+    ap (λ (b : List ℕ). b ++ concat (drop (i + 1) pieces))
+    (ap (λ (b : List ℕ). front ++ b) c.as_slice.ensures
+    ∙ pieces_more bytes pieces i c.index.result.now (omega arith) c.index.ensures)
+    ∙ pieces_all bytes pieces (i + 1) in
     rw (p.1, p.2) (subst (λ (b : List ℕ). IsFaultySomewhere b fault) all longer)
 
 pub loop-i-preserved : goal.loop-i-preserved
@@ -24,4 +28,6 @@ loop-i-preserved c = λ bytes leaves.
     let i = c.loop-i.i in
     let front = bytes ++ concat (take i pieces) in
     let on = c.in_ok-read.ensures.ok front (c.loop-i.invariant bytes leaves) in
-    subst (λ (b : List ℕ). Leaves b c.read.new.self) (ap (λ (b : List ℕ). front ++ b) c.as_slice.ensures ∙ pieces_more bytes pieces i c.index.result.now (omega arith) c.index.ensures) on
+    subst (λ (b : List ℕ). Leaves b c.read.new.self)
+    (ap (λ (b : List ℕ). front ++ b) c.as_slice.ensures
+    ∙ pieces_more bytes pieces i c.index.result.now (omega arith) c.index.ensures) on

@@ -7,7 +7,8 @@ use Rattle.lpm.proofs.tail.Tail.take.Goals as goal
 pub returns-in_err-total-clause-fault : goal.returns-in_err-total-clause-fault
 returns-in_err-total-clause-fault c = λ bytes leaves.
     let p = err_from_is_err_and c.from_residual.result c.from_residual.ensures.1 in
-    rw (p.1, p.2) (leaves_fault bytes c.known.result.now c.args.self.now c.in_err-total.field-0.0 leaves c.known.ensures c.in_err-total.ensures.means)
+    rw (p.1, p.2) (leaves_fault bytes c.known.result.now c.args.self.now c.in_err-total.field-0.0
+    leaves c.known.ensures c.in_err-total.ensures.means)
 
 pub fill-requires-clause-extent : goal.fill-requires-clause-extent
 fill-requires-clause-extent c = rw c.new.ensures.nothing (extent_of-nil [] refl)
@@ -15,4 +16,5 @@ fill-requires-clause-extent c = rw c.new.ensures.nothing (extent_of-nil [] refl)
 pub returns-then-total-self-clause-ok : goal.returns-then-total-self-clause-ok
 returns-then-total-self-clause-ok c = λ bytes leaves.
     c.fill.ensures.read bytes (ended_leaves bytes c.new.result c.new.ensures.nothing
-    (leaves_whole bytes c.known.result.now c.args.self.now c.in_ok-total.total leaves c.known.ensures c.in_ok-total.ensures.bytes c.in_ok-total.ensures.extent (omega arith)))
+    (leaves_whole bytes c.known.result.now c.args.self.now c.in_ok-total.total leaves
+    c.known.ensures c.in_ok-total.ensures.bytes c.in_ok-total.ensures.extent (omega arith)))

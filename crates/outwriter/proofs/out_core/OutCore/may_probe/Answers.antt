@@ -4,7 +4,9 @@ use Rattle.outwriter.proofs.Leads.{none-probe}
 use Rattle.outwriter.proofs.out_core.OutCore.may_probe.Goals as goal
 
 pub returns-then-not-self-clause-unsaid : goal.returns-then-not-self-clause-unsaid
-returns-then-not-self-clause-unsaid g c = λ may. none-probe g.L.Lane.got c.args.self.now c.if-not-self.true may
+returns-then-not-self-clause-unsaid g c = λ may.
+    none-probe g.L.Lane.got c.args.self.now c.if-not-self.true may
 
 pub returns-else-not-self-clause-unsaid : goal.returns-else-not-self-clause-unsaid
-returns-else-not-self-clause-unsaid g c = λ may. absurd (true≢false (sym may ∙ ap not c.if-not-self.false))
+returns-else-not-self-clause-unsaid g c = λ may.
+    absurd (true≢false (sym may ∙ ap not c.if-not-self.false))

@@ -11,7 +11,9 @@ pub returns-clause-sound : goal.returns-clause-sound
 returns-clause-sound c = subst IsSound (sym c.make_first_settings.ensures) sound-settings
 
 pub returns-clause-written : goal.returns-clause-written
-returns-clause-written c = λ run m. first-written run _ _ _ _ _ _ _ c.make_first_settings.ensures c.requires.begun c.requires.going m
+returns-clause-written c = λ run m.
+    first-written run _ _ _ _ _ _ _ c.make_first_settings.ensures c.requires.begun
+    c.requires.going m
 
 pub returns-clause-own : goal.returns-clause-own
 returns-clause-own c = (
@@ -19,7 +21,8 @@ returns-clause-own c = (
   inl (
     λ run marks spells. (
       λ e. cc,
-      plain-tells run first_settings _ c.args.self.now.block c.args.self.now.block c.args.self.now.encoder marks c.make_first_settings.ensures
+      plain-tells run first_settings _ c.args.self.now.block c.args.self.now.block
+          c.args.self.now.encoder marks c.make_first_settings.ensures
           (λ begun. refl) (spells.0 c.requires.begun) (spells.0 c.requires.begun) spells.1,
     ),
     λ id. (refl, refl),

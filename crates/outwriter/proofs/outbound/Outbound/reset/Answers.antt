@@ -12,7 +12,13 @@ returns-in-Ok-clause-kept g c =
     let reset = c.take_reset.new.self in
     let streams = open_at c.args.self.now.states in
     let closes : Closes c.args.id streams (open_at c.close.new.self) =
-    λ k. c.close.ensures.closes k ∙ ap (λ (f : OpenStreams). if k == c.args.id then None else f k) c.in-Ok.ensures.open in
-    subst (λ (x : States). KeptOn (Taken (order.Reset c.args.id c.args.code c.args.written)) c.args.self.now (record reset { states = x })) (sym c.close.ensures.stands)
-    (kept-reset c.args.id c.args.code c.args.written c.args.self.now reset c.close.new.self.opened c.in-Ok.ensures.taken c.in-Ok.ensures.takes c.in-Ok.ensures.marks c.in-Ok.ensures.heard
-    c.in-Ok.ensures.over (subst (λ (x : States). Closes c.args.id streams (open_at x)) c.close.ensures.stands closes))
+    λ k.
+    c.close.ensures.closes k
+    ∙ ap (λ (f : OpenStreams). if k == c.args.id then None else f k) c.in-Ok.ensures.open in
+    subst (λ (x : States).
+    KeptOn (Taken (order.Reset c.args.id c.args.code c.args.written)) c.args.self.now
+    (record reset { states = x })) (sym c.close.ensures.stands)
+    (kept-reset c.args.id c.args.code c.args.written c.args.self.now reset c.close.new.self.opened
+    c.in-Ok.ensures.taken c.in-Ok.ensures.takes c.in-Ok.ensures.marks c.in-Ok.ensures.heard
+    c.in-Ok.ensures.over
+    (subst (λ (x : States). Closes c.args.id streams (open_at x)) c.close.ensures.stands closes))

@@ -11,7 +11,9 @@ pub returns-clause-sound : goal.returns-clause-sound
 returns-clause-sound c = subst IsSound (sym c.make_settings_ack.ensures) sound-settings-ack
 
 pub returns-clause-written : goal.returns-clause-written
-returns-clause-written c = λ run m. due-written run _ _ _ _ SettingsAck _ _ _ _ settings_ack c.make_settings_ack.ensures c.requires.begun c.requires.going c.requires.no_block
+returns-clause-written c = λ run m.
+    due-written run _ _ _ _ SettingsAck _ _ _ _ settings_ack c.make_settings_ack.ensures
+    c.requires.begun c.requires.going c.requires.no_block
     ack-plain refl refl refl (λ e. cc) (sym c.requires.going) m
 
 pub returns-clause-own : goal.returns-clause-own
@@ -20,7 +22,8 @@ returns-clause-own c = (
   (
     λ run marks spells. (
       spells.0,
-      plain-tells run settings_ack _ c.args.self.now.block c.args.self.now.block c.args.self.now.encoder marks c.make_settings_ack.ensures
+      plain-tells run settings_ack _ c.args.self.now.block c.args.self.now.block
+          c.args.self.now.encoder marks c.make_settings_ack.ensures
           (λ begun. refl) c.requires.no_block c.requires.no_block spells.1,
     ),
     λ id. (refl, refl),

@@ -11,7 +11,11 @@ use Rattle.outwriter.proofs.outbound.Outbound.take_goaway.Goals as goal
 
 pub returns-clause-taken : goal.returns-clause-taken
 returns-clause-taken c = λ run m.
-    taken (order.Goaway c.args.last c.args.reason) run _ _ _ _ _ _ _ _ m (nothing-taken run (order.Goaway c.args.last c.args.reason) c.args.self.now.states.windows (λ h. refl) m.windows_follow)
-    (subst (λ (xs : List Due). HasDue (Taken (order.Goaway c.args.last c.args.reason) ∷ run) xs) (sym c.push_back_reserved.ensures.items)
-    (more-due (order.Goaway c.args.last c.args.reason) run c.args.self.now.due.items (due_kind.Goaway c.args.last c.args.reason) refl (All-nil _) m.answers))
+    taken (order.Goaway c.args.last c.args.reason) run _ _ _ _ _ _ _ _ m (nothing-taken
+    run (order.Goaway c.args.last c.args.reason) c.args.self.now.states.windows
+    (λ h. refl) m.windows_follow)
+    (subst (λ (xs : List Due). HasDue (Taken (order.Goaway c.args.last c.args.reason) ∷ run) xs)
+    (sym c.push_back_reserved.ensures.items)
+    (more-due (order.Goaway c.args.last c.args.reason) run c.args.self.now.due.items
+    (due_kind.Goaway c.args.last c.args.reason) refl (All-nil _) m.answers))
     (quiet-stand _ run _ (λ id. refl) (λ id. refl) m.stand)

@@ -9,24 +9,31 @@ use Rattle.outwriter.proofs.sending.Sending.choose.Goals as goal
 
 pub returns-then-not-self-clause-served : goal.returns-then-not-self-clause-served
 returns-then-not-self-clause-served g c =
-    own-holds g.L.Lane.got c.args.self.now c.first_frame.new.self (Some c.first_frame.result) c.first_frame.ensures.own
+    own-holds g.L.Lane.got c.args.self.now c.first_frame.new.self (Some c.first_frame.result)
+    c.first_frame.ensures.own
 
 pub returns-in-Some-clause-served : goal.returns-in-Some-clause-served
 returns-in-Some-clause-served g c =
     own-holds g.L.Lane.got c.args.self.now c.own_frame.new.self (Some c.in-Some.frame)
-    (subst (λ (x : Option Frame). OwnOrRests x c.args.self.now.outbound c.own_frame.new.self) c.in-Some.is c.in_ok-frame.ensures.own)
+    (subst (λ (x : Option Frame). OwnOrRests x c.args.self.now.outbound c.own_frame.new.self)
+    c.in-Some.is c.in_ok-frame.ensures.own)
 
 pub returns-clause-served : goal.returns-clause-served
 returns-clause-served g c =
     IfOk-weaker c.stream_frame.result _ _ (λ o picks.
-    holds-then g.L.Lane.got c.args.self.now (record c.args.self.now { outbound = c.own_frame.new.self }) c.stream_frame.new.self o
+    holds-then g.L.Lane.got c.args.self.now
+    (record c.args.self.now { outbound = c.own_frame.new.self }) c.stream_frame.new.self o
     (own-holds g.L.Lane.got c.args.self.now c.own_frame.new.self None
-    (subst (λ (x : Option Frame). OwnOrRests x c.args.self.now.outbound c.own_frame.new.self) c.in_default.is c.in_ok-frame.ensures.own))
+    (subst (λ (x : Option Frame). OwnOrRests x c.args.self.now.outbound c.own_frame.new.self)
+    c.in_default.is c.in_ok-frame.ensures.own))
     picks.3) c.stream_frame.ensures.picks
 
 pub returns-clause-quiet : goal.returns-clause-quiet
 returns-clause-quiet g c =
-    quiet-after g.L.Lane.got (coming g.L.Lane.got g.L.Lane.ahead) c.args.self.now (record c.args.self.now { outbound = c.own_frame.new.self }) c.stream_frame.new.self c.stream_frame.result
+    quiet-after g.L.Lane.got (coming g.L.Lane.got g.L.Lane.ahead) c.args.self.now
+    (record c.args.self.now { outbound = c.own_frame.new.self }) c.stream_frame.new.self
+    c.stream_frame.result
     (own-holds g.L.Lane.got c.args.self.now c.own_frame.new.self None
-    (subst (λ (x : Option Frame). OwnOrRests x c.args.self.now.outbound c.own_frame.new.self) c.in_default.is c.in_ok-frame.ensures.own))
+    (subst (λ (x : Option Frame). OwnOrRests x c.args.self.now.outbound c.own_frame.new.self)
+    c.in_default.is c.in_ok-frame.ensures.own))
     c.stream_frame.ensures.quiet

@@ -11,7 +11,11 @@ loop-preserved g c =
     let looked = c.look.new.self in
     let left = record looked { outbound = record looked.outbound { states = c.turn.new.self } } in (
       picks-then g.L.Lane.got c.args.self.now start left None c.loop.invariant.0
-          (picks-after g.L.Lane.got start looked left None (subst (λ (o : Option Frame). Picks g.L.Lane.got o start looked) c.in_default-2.is c.in_ok-frame.ensures.picks)
-          c.turn.ensures.hands (but-open looked.outbound c.turn.new.self c.turn.ensures.stands) refl),
-      gives-then g.L.Lane.got g.L.Lane.out_name c.args.self.now start left c.loop.invariant.1 c.look.ensures.gives,
+          (picks-after g.L.Lane.got start looked left None (subst
+          (λ (o : Option Frame). Picks g.L.Lane.got o start looked) c.in_default-2.is
+          c.in_ok-frame.ensures.picks)
+          c.turn.ensures.hands
+          (but-open looked.outbound c.turn.new.self c.turn.ensures.stands) refl),
+      gives-then g.L.Lane.got g.L.Lane.out_name c.args.self.now start left c.loop.invariant.1
+          c.look.ensures.gives,
     )

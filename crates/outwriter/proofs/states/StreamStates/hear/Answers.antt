@@ -2,10 +2,19 @@ use Rattle.outwriter.proofs.StateLemmas.{on-ok, hears-put, over-same, owed-put-s
 use Rattle.outwriter.proofs.states.StreamStates.hear.Goals as goal
 
 pub returns-clause-hears : goal.returns-clause-hears
-returns-clause-hears c = on-ok c.change.result _ _ (λ puts. hears-put c.args.self.now c.change.new.self c.args.id puts.0 c.requires.stream c.change.ensures.connection puts.2) c.change.ensures.puts
+returns-clause-hears c =
+    on-ok c.change.result _ _ (λ puts.
+    hears-put c.args.self.now c.change.new.self c.args.id puts.0 c.requires.stream
+    c.change.ensures.connection puts.2) c.change.ensures.puts
 
 pub returns-clause-over : goal.returns-clause-over
-returns-clause-over c = on-ok c.change.result _ _ (λ puts. over-same c.args.self.now c.change.new.self c.args.id puts.0 c.requires.stream c.change.ensures.connection puts.2 puts.1.0) c.change.ensures.puts
+returns-clause-over c =
+    on-ok c.change.result _ _ (λ puts.
+    over-same c.args.self.now c.change.new.self c.args.id puts.0 c.requires.stream
+    c.change.ensures.connection puts.2 puts.1.0) c.change.ensures.puts
 
 pub returns-clause-owed : goal.returns-clause-owed
-returns-clause-owed c = on-ok c.change.result _ _ (λ puts. owed-put-same c.args.self.now c.change.new.self c.args.id puts.0 c.requires.stream c.change.ensures.connection puts.2 puts.1.1 puts.1.2 puts.1.3 puts.1.4) c.change.ensures.puts
+returns-clause-owed c =
+    on-ok c.change.result _ _ (λ puts.
+    owed-put-same c.args.self.now c.change.new.self c.args.id puts.0 c.requires.stream
+    c.change.ensures.connection puts.2 puts.1.1 puts.1.2 puts.1.3 puts.1.4) c.change.ensures.puts

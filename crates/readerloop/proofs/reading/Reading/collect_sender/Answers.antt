@@ -3,7 +3,8 @@ use Rattle.readerloop.proofs.Collecting.{carried-one, collected-none}
 use Rattle.readerloop.proofs.reading.Reading.collect_sender.Goals as goal
 
 pub returns-in_default : goal.returns-in_default
-returns-in_default g c = collected-none _ _ c.in_default.ensures.taken c.take.ensures.name refl refl refl refl refl
+returns-in_default g c =
+    collected-none _ _ c.in_default.ensures.taken c.take.ensures.name refl refl refl refl refl
 
 pub returns : goal.returns
 returns g c = record {

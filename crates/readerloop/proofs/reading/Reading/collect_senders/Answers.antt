@@ -9,4 +9,5 @@ pub senders-preserved : goal.senders-preserved
 senders-preserved g c = collected-after _ _ _ c.senders.invariant c.collect_sender.ensures
 
 pub returns-then-not-collect_sender : goal.returns-then-not-collect_sender
-returns-then-not-collect_sender g c = collected-after _ _ _ c.senders.invariant c.collect_sender.ensures
+returns-then-not-collect_sender g c =
+    collected-after _ _ _ c.senders.invariant c.collect_sender.ensures

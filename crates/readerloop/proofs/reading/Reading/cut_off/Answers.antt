@@ -18,8 +18,13 @@ returns-clause-decides g c =
     let done = c.reset.ensures in
     let cut : Cut = record { id = id; kind = shut.Reset (error_number Cancel) } in
     let calls = c.args.self.now.calls in
-    some-and c.reset.result.cut cut (λ (found : Cut). DecidesOn g.M.Answering.known g.M.Answering.names (CutOff found.id) c.reset.result c.args.self.now c.args.self.now) done.cut
+    some-and c.reset.result.cut cut (λ (found : Cut).
+    DecidesOn g.M.Answering.known g.M.Answering.names (CutOff found.id) c.reset.result
+    c.args.self.now c.args.self.now) done.cut
     (λ sent told reads.
     decides-cut told (CutOff id) c.reset.result cut c.args.self.now
-    (one-order c.reset.result _ done.order.0 done.order.1 ∙ sym (cut-fed id told (fed-at told (unsettled calls) (accounts_of calls) calls.last c.args.place id (sym c.in_ok-id.ensures) reads.calls))) done.ends done.cut
-    (awaits-cut told (CutOff id) cut c.args.self.now (quiet _ refl refl) (concerns-cut id) (closes-cut id _ refl) reads))
+    (one-order c.reset.result _ done.order.0 done.order.1
+    ∙ sym (cut-fed id told (fed-at told (unsettled calls) (accounts_of calls) calls.last
+    c.args.place id (sym c.in_ok-id.ensures) reads.calls))) done.ends done.cut
+    (awaits-cut told (CutOff id) cut c.args.self.now (quiet _ refl refl) (concerns-cut id)
+    (closes-cut id _ refl) reads))

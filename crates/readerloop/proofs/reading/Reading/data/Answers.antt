@@ -8,26 +8,42 @@ use Rattle.readerloop.proofs.reading.Reading.data.Goals as goal
 
 pub returns-in-Feed-clause-decides : goal.returns-in-Feed-clause-decides
 returns-in-Feed-clause-decides g c = λ counted sent told reads.
-    subst (λ (receipt : Receipt). Decides g.M.Answering.known g.M.Answering.names (carried_in sent) told (Told (events.Data c.args.id c.args.piece counted) (fate_of receipt c.feed.result.order c.feed.result.ends)) c.feed.result c.feed.new.self) (sym c.in-Feed.is)
+    subst (λ (receipt : Receipt).
+    Decides g.M.Answering.known g.M.Answering.names (carried_in sent) told (Told
+    (events.Data c.args.id c.args.piece counted)
+    (fate_of receipt c.feed.result.order c.feed.result.ends)) c.feed.result c.feed.new.self)
+    (sym c.in-Feed.is)
     (c.feed.ensures.decides counted sent told reads)
 
 pub returns-in-Discard-clause-decides : goal.returns-in-Discard-clause-decides
 returns-in-Discard-clause-decides g c = λ counted sent told reads.
-    subst (λ (receipt : Receipt). Decides g.M.Answering.known g.M.Answering.names (carried_in sent) told (Told (events.Data c.args.id c.args.piece counted) (fate_of receipt c.miss.result.order c.miss.result.ends)) c.miss.result c.miss.new.self) (sym c.in-Discard.is)
+    subst (λ (receipt : Receipt).
+    Decides g.M.Answering.known g.M.Answering.names (carried_in sent) told (Told
+    (events.Data c.args.id c.args.piece counted)
+    (fate_of receipt c.miss.result.order c.miss.result.ends)) c.miss.result c.miss.new.self)
+    (sym c.in-Discard.is)
     (c.miss.ensures.decides counted sent told reads)
 
 pub returns-in-Feed-clause-missed : goal.returns-in-Feed-clause-missed
 returns-in-Feed-clause-missed g c = λ sent told reads.
-    subst (λ (receipt : Receipt). MayMiss c.args.id c.args.piece (fate_of receipt c.feed.result.order c.feed.result.ends) told) (sym c.in-Feed.is) (c.feed.ensures.missed sent told reads)
+    subst (λ (receipt : Receipt).
+    MayMiss c.args.id c.args.piece (fate_of receipt c.feed.result.order c.feed.result.ends) told)
+    (sym c.in-Feed.is) (c.feed.ensures.missed sent told reads)
 
 pub returns-in-Discard-clause-missed : goal.returns-in-Discard-clause-missed
 returns-in-Discard-clause-missed g c = λ sent told reads.
-    subst (λ (receipt : Receipt). MayMiss c.args.id c.args.piece (fate_of receipt c.miss.result.order c.miss.result.ends) told) (sym c.in-Discard.is) (tt)
+    subst (λ (receipt : Receipt).
+    MayMiss c.args.id c.args.piece (fate_of receipt c.miss.result.order c.miss.result.ends) told)
+    (sym c.in-Discard.is) (tt)
 
 pub returns-in-CallWindow-clause-missed : goal.returns-in-CallWindow-clause-missed
 returns-in-CallWindow-clause-missed g c = λ sent told reads.
-    subst (λ (receipt : Receipt). MayMiss c.args.id c.args.piece (fate_of receipt c.reset.result.order c.reset.result.ends) told) (sym c.in-CallWindow.is) (tt)
+    subst (λ (receipt : Receipt).
+    MayMiss c.args.id c.args.piece (fate_of receipt c.reset.result.order c.reset.result.ends) told)
+    (sym c.in-CallWindow.is) (tt)
 
 pub returns-in-Overrun-clause-missed : goal.returns-in-Overrun-clause-missed
 returns-in-Overrun-clause-missed g c = λ sent told reads.
-    subst (λ (receipt : Receipt). MayMiss c.args.id c.args.piece (fate_of receipt c.fatal.result.order c.fatal.result.ends) told) (sym c.in-Overrun.is) (tt)
+    subst (λ (receipt : Receipt).
+    MayMiss c.args.id c.args.piece (fate_of receipt c.fatal.result.order c.fatal.result.ends) told)
+    (sym c.in-Overrun.is) (tt)

@@ -16,5 +16,8 @@ returns-clause-decides g c = λ sent told reads.
     let calls = c.args.self.now.calls in
     let last = reads.calls.top in
     decides-now told Drains c.order.result _
-    (one-order c.order.result _ done.0 done.1 ∙ (ap (λ order. order_of order ∷ []) c.goaway.ensures.order ∙ ap (λ (n : ℕ). Goaway n (reason.Code NoError) ∷ []) last))
-    done.3 done.2 (reads-drain told c.args.self.now _ last refl refl refl (λ kept. kept-idle told Drains (unsettled calls) (accounts_of calls) calls.last idle-drains kept) reads)
+    (one-order c.order.result _ done.0 done.1
+    ∙ (ap (λ order. order_of order ∷ []) c.goaway.ensures.order
+    ∙ ap (λ (n : ℕ). Goaway n (reason.Code NoError) ∷ []) last))
+    done.3 done.2 (reads-drain told c.args.self.now _ last refl refl refl (λ kept.
+    kept-idle told Drains (unsettled calls) (accounts_of calls) calls.last idle-drains kept) reads)

@@ -10,7 +10,11 @@ pub returns-clause-ends : goal.returns-clause-ends
 returns-clause-ends g c = λ sent told step begins ends orders.
     let count = c.count-goaway.ensures in
     let last = named_with c.args.id (is_draining told) (named told) in
-    let counts = counts-begun told step c.args.id _ c.args.self.now c.count-goaway.new.self count.counts begins in
-    decides-begun told step c.args.id _ (Goaway last reason.Memory ∷ []) c.args.self.now c.count-goaway.new.self
+    let counts =
+    counts-begun told step c.args.id _ c.args.self.now c.count-goaway.new.self
+    count.counts begins in
+    decides-begun told step c.args.id _ (Goaway last reason.Memory ∷ []) c.args.self.now
+    c.count-goaway.new.self
     (counted _ _ count.rest) count.counts
-    (goaway-order c.goaway.result c.count-goaway.new.self.last last reason.Memory c.goaway.ensures.order counts.0.last_is) orders (sym ends) refl begins
+    (goaway-order c.goaway.result c.count-goaway.new.self.last last reason.Memory
+    c.goaway.ensures.order counts.0.last_is) orders (sym ends) refl begins

@@ -9,7 +9,9 @@ returns-clause-heard g c = λ sent told going kept.
     c.add.ensures.heard sent job.work.request.head told
     (record {
       request = job.work.request;
-      asked = request-again job.number.seen.log number.seen.log job.number.value number.value job.work job.work.request job.stands refl c.again-number.ensures.seen c.again-number.ensures.value;
+      asked =
+          request-again job.number.seen.log number.seen.log job.number.value number.value job.work
+          job.work.request job.stands refl c.again-number.ensures.seen c.again-number.ensures.value;
       same_id = refl;
       same_method = refl;
       same_head = refl;

@@ -14,5 +14,8 @@ returns-clause-decides g c = λ sent told reads.
     let done = c.order.ensures in
     let decided = record c.order.result { ends = Some (ending.ProtocolError c.code.result) } in
     decides-now told (Told (events.Fatal c.args.reason) Plain) decided c.args.self.now
-    (one-order decided _ done.0 done.1 ∙ (ap (λ order. order_of order ∷ []) c.goaway.ensures.order ∙ ap (λ (last : ℕ). Goaway last c.args.reason ∷ []) reads.counts.last_is))
-    (ap (λ (code : ErrorCode). Some (ending.ProtocolError code)) c.code.ensures) done.2 (reads-idle told _ _ (quiet _ refl refl) (idle-fatal c.args.reason) reads)
+    (one-order decided _ done.0 done.1
+    ∙ (ap (λ order. order_of order ∷ []) c.goaway.ensures.order
+    ∙ ap (λ (last : ℕ). Goaway last c.args.reason ∷ []) reads.counts.last_is))
+    (ap (λ (code : ErrorCode). Some (ending.ProtocolError code)) c.code.ensures) done.2
+    (reads-idle told _ _ (quiet _ refl refl) (idle-fatal c.args.reason) reads)

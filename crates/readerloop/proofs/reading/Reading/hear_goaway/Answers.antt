@@ -10,4 +10,6 @@ use Rattle.readerloop.proofs.reading.Reading.hear_goaway.Goals as goal
 pub returns-clause-reads : goal.returns-clause-reads
 returns-clause-reads g c = λ sent told reads.
     let calls = c.args.self.now.calls in
-    reads-goaway told Plain c.args.self.now _ refl refl refl (λ kept. kept-idle told (Told events.PeerGoaway Plain) (unsettled calls) (accounts_of calls) calls.last idle-goaway kept) reads
+    reads-goaway told Plain c.args.self.now _ refl refl refl (λ kept.
+    kept-idle told (Told events.PeerGoaway Plain) (unsettled calls) (accounts_of calls) calls.last
+    idle-goaway kept) reads

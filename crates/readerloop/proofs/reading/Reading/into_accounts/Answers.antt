@@ -12,6 +12,8 @@ pub returns : goal.returns
 returns g c = record {
   accounts = λ sent told reads none.
       let calls = c.args.self.calls in
-      subst (λ (accounts : Accounts). AreAccounts g.M.Answering.known g.M.Answering.names (carried_in sent) told (reported told) (items_of accounts.full accounts.last)) (sym c.into_accounts.ensures)
+      subst (λ (accounts : Accounts).
+      AreAccounts g.M.Answering.known g.M.Answering.names (carried_in sent) told (reported told)
+      (items_of accounts.full accounts.last)) (sym c.into_accounts.ensures)
       (all-accounted told (unsettled calls) (accounts_of calls) calls.last none reads.calls);
 }

@@ -8,16 +8,29 @@ use Rattle.session.specs.declared.event.InEvent.TheVariants as events
 use Rattle.readerloop.specs.Readings.{Decides}
 use Rattle.readerloop.specs.Steps.{Received, Told}
 use Rattle.readerloop.proofs.Heard.{idle-loose}
-use Rattle.readerloop.proofs.ReadingSteps.{decides-now, loose-calm, loose-none, no-order, one-order, quiet, reads-idle}
+use Rattle.readerloop.proofs.ReadingSteps.{
+  decides-now,
+  loose-calm,
+  loose-none,
+  no-order,
+  one-order,
+  quiet,
+  reads-idle,
+}
 use Rattle.readerloop.proofs.reading.Reading.loose.Goals as goal
 
 pub returns-in-Overrun : goal.returns-in-Overrun
 returns-in-Overrun g c = record {
   decides = λ counted sent told reads.
-      subst (λ (receipt : Receipt). Decides g.M.Answering.known g.M.Answering.names (carried_in sent) told (Told (events.Loose counted) (Received receipt)) c.fatal.result c.args.self.now) (sym c.in-Overrun.is)
+      subst (λ (receipt : Receipt).
+      Decides g.M.Answering.known g.M.Answering.names (carried_in sent) told
+      (Told (events.Loose counted) (Received receipt)) c.fatal.result c.args.self.now)
+      (sym c.in-Overrun.is)
       (decides-now told (Told (events.Loose counted) (Received Overrun)) c.fatal.result _
-      (one-order c.fatal.result _ c.fatal.ensures.order.0 c.fatal.ensures.order.1 ∙ ap (λ (last : ℕ). Goaway last reason.Overrun ∷ []) reads.counts.last_is)
-      c.fatal.ensures.ends.1 c.fatal.ensures.ends.0 (reads-idle told _ _ (quiet _ refl refl) (idle-loose counted (Received Overrun)) reads));
+      (one-order c.fatal.result _ c.fatal.ensures.order.0 c.fatal.ensures.order.1
+      ∙ ap (λ (last : ℕ). Goaway last reason.Overrun ∷ []) reads.counts.last_is)
+      c.fatal.ensures.ends.1 c.fatal.ensures.ends.0
+      (reads-idle told _ _ (quiet _ refl refl) (idle-loose counted (Received Overrun)) reads));
 }
 
 pub returns-in_default : goal.returns-in_default
@@ -25,6 +38,9 @@ returns-in_default g c = record {
   decides = λ counted sent told reads.
       let done = c.nothing.ensures in
       decides-now told (Told (events.Loose counted) (Received c.args.receipt)) c.nothing.result _
-      (no-order c.nothing.result done.0 done.1 ∙ sym (loose-none _ c.args.receipt c.in_default.not-Overrun)) (done.3 ∙ sym (loose-calm counted c.args.receipt c.in_default.not-Overrun)) done.2
-      (reads-idle told _ _ (quiet _ refl refl) (idle-loose counted (Received c.args.receipt)) reads);
+      (no-order c.nothing.result done.0 done.1
+      ∙ sym (loose-none _ c.args.receipt c.in_default.not-Overrun))
+      (done.3 ∙ sym (loose-calm counted c.args.receipt c.in_default.not-Overrun)) done.2
+      (reads-idle told _ _ (quiet _ refl refl)
+      (idle-loose counted (Received c.args.receipt)) reads);
 }

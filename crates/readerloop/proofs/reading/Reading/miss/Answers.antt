@@ -7,4 +7,6 @@ use Rattle.readerloop.proofs.reading.Reading.miss.Goals as goal
 pub returns-clause-decides : goal.returns-clause-decides
 returns-clause-decides g c = λ counted sent told reads.
     let done = c.nothing.ensures in
-    decides-now told (Told (events.Data c.args.id c.args.piece.now counted) (Received Discard)) c.nothing.result _ (no-order c.nothing.result done.0 done.1) done.3 done.2 (c.lose_piece.ensures.reads counted sent told reads)
+    decides-now told (Told (events.Data c.args.id c.args.piece.now counted) (Received Discard))
+    c.nothing.result _ (no-order c.nothing.result done.0 done.1) done.3 done.2
+    (c.lose_piece.ensures.reads counted sent told reads)

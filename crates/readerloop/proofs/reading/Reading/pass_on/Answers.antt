@@ -11,5 +11,7 @@ returns g c = record {
   decides = λ sent told reads.
       let done = c.order.ensures in
       decides-now told (Told (events.Control c.args.news) Plain) c.order.result _
-      (one-order c.order.result _ done.0 done.1 ∙ ap (λ (order : Order). order ∷ []) c.order_of_news.ensures) done.3 done.2 (reads-idle told _ _ (quiet _ refl refl) (idle-control c.args.news) reads);
+      (one-order c.order.result _ done.0 done.1
+      ∙ ap (λ (order : Order). order ∷ []) c.order_of_news.ensures) done.3 done.2
+      (reads-idle told _ _ (quiet _ refl refl) (idle-control c.args.news) reads);
 }

@@ -13,4 +13,6 @@ returns-clause-decides g c = λ head named sent told reads.
     (counted _ _ count.rest) count.counts
     (ap (λ found. order_in found) done.1) refl done.3 done.2
     (begins-with told _ c.args.id c.args.self.now _ refl refl refl refl refl
-    (λ kept. c.pass_over.ensures.heard sent head Stopped told named (sym reads.drains ∙ c.requires.next.2) kept) reads)
+    (λ kept.
+    c.pass_over.ensures.heard sent head Stopped told named
+    (sym reads.drains ∙ c.requires.next.2) kept) reads)

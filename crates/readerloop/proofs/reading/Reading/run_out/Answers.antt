@@ -13,5 +13,7 @@ returns-clause-decides g c = λ sent told reads.
     let done = c.order.ensures in
     let decided = record c.order.result { ends = Some ending.OutOfMemory } in
     decides-now told Lacks decided c.args.self.now
-    (one-order decided _ done.0 done.1 ∙ (ap (λ order. order_of order ∷ []) c.goaway.ensures.order ∙ ap (λ (last : ℕ). Goaway last reason.Memory ∷ []) reads.counts.last_is))
+    (one-order decided _ done.0 done.1
+    ∙ (ap (λ order. order_of order ∷ []) c.goaway.ensures.order
+    ∙ ap (λ (last : ℕ). Goaway last reason.Memory ∷ []) reads.counts.last_is))
     refl done.2 (reads-idle told _ _ (quiet _ refl refl) idle-lacks reads)

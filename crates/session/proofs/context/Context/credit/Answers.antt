@@ -10,7 +10,8 @@ returns-in-First c =
     record {
       sound = if_ended _ _ _ c.end.ensures.none c.end.ensures.events (λ e. tt);
       follows = if_ended _ _ _ c.end.ensures.none c.end.ensures.events
-          (λ e entries before leads rest. first_credit c.args.at entries _ rest before _ _ _ _ c.in-First.is leads e);
+          (λ e entries before leads rest.
+          first_credit c.args.at entries _ rest before _ _ _ _ c.in-First.is leads e);
     }
 
 pub returns-in-Inside : goal.returns-in-Inside
@@ -18,10 +19,14 @@ returns-in-Inside c =
     record {
       sound = if_ended _ _ _ c.end-in-Inside.ensures.none c.end-in-Inside.ensures.events (λ e. tt);
       follows = if_ended _ _ _ c.end-in-Inside.ensures.none c.end-in-Inside.ensures.events
-          (λ e entries before leads rest. inner_credit c.args.at _ _ entries _ rest before _ _ _ _ c.in-Inside.is leads e);
+          (λ e entries before leads rest.
+          inner_credit c.args.at _ _ entries _ rest before _ _ _ _ c.in-Inside.is leads e);
     }
 
 pub returns-clause-follows : goal.returns-clause-follows
 returns-clause-follows c entries before leads =
-    credits c.args.at entries _ before _ _ _ _ _ _ _ c.in-Between.is c.in_ok-verdict.ensures.verdict c.in_ok-verdict.ensures.follows (c.in_ok-refuse.ensures ∙ ap (λ (head : FrameHead). c.args.events.now.items ++ refusal c.in_ok-verdict.verdict head) c.credit_head.ensures)
+    credits c.args.at entries _ before _ _ _ _ _ _ _ c.in-Between.is c.in_ok-verdict.ensures.verdict
+    c.in_ok-verdict.ensures.follows (c.in_ok-refuse.ensures
+    ∙ ap (λ (head : FrameHead). c.args.events.now.items ++ refusal c.in_ok-verdict.verdict head)
+    c.credit_head.ensures)
     (c.between.ensures ∙ ap position_behind c.deref.ensures.value) leads

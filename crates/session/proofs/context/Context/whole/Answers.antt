@@ -5,5 +5,6 @@ use Rattle.session.proofs.context.Context.whole.Goals as goal
 
 pub returns-clause-follows : goal.returns-clause-follows
 returns-clause-follows c entries before holds =
-    collected entries before _ _ _ _ _ _ _ _ _ c.args.head.now c.args.block.now refl refl refl c.in_ok-block_events.ensures.ok
+    collected entries before _ _ _ _ _ _ _ _ _ c.args.head.now c.args.block.now refl refl refl
+    c.in_ok-block_events.ensures.ok
     (c.between.ensures ∙ ap position_behind c.deref.ensures.value) holds

@@ -7,7 +7,8 @@ use Rattle.session.proofs.header_block.HeaderBlock.add.Goals as goal
 pub returns-clause-ok : goal.returns-clause-ok
 returns-clause-ok c frames so =
     let short : length c.extend_from_slice.new.self.items ≤ 65536 = grind (arith, common_steps) in
-    let block : c.extend_from_slice.new.self.items ≡ c.args.self.now.block ++ c.args.frame.now.content =
+    let block : c.extend_from_slice.new.self.items ≡ c.args.self.now.block
+    ++ c.args.frame.now.content =
     c.in_ok-extend_from_slice.ensures.items
     ∙ ap (λ (p : Pending). p.block ++ c.as_slice-content.result.now) c.self.view_is
     ∙ ap (λ (b : List ℕ). c.args.self.now.block ++ b) c.as_slice-content.ensures in

@@ -16,5 +16,7 @@ returns-clause-value c before is = record {
 
 pub returns-in_err-take_message-3-clause-refused : goal.returns-in_err-take_message-3-clause-refused
 returns-in_err-take_message-3-clause-refused c =
-    let p = err_from_is_err_and c.from_residual-in_err-take_message-3.result c.from_residual-in_err-take_message-3.ensures.1 in
+    let p =
+    err_from_is_err_and c.from_residual-in_err-take_message-3.result
+    c.from_residual-in_err-take_message-3.ensures.1 in
     rw (p.1, p.2) (λ told. inr (inr (inl (c.in_err-take_message-3.ensures.refused told))))

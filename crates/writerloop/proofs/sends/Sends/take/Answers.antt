@@ -7,7 +7,8 @@ use Rattle.writerloop.proofs.sends.Sends.take.Goals as goal
 pub unreachable-requires : goal.unreachable-requires
 unreachable-requires g c =
     missing-first c.args.id c.args.sender c.args.self.now.calls.items c.requires.whose
-    (subst (λ (place : Option ℕ). IfNone place (HasNone c.args.id c.args.self.now.calls.items)) c.in_default.is c.place_of.ensures.none)
+    (subst (λ (place : Option ℕ). IfNone place (HasNone c.args.id c.args.self.now.calls.items))
+    c.in_default.is c.place_of.ensures.none)
 
 pub returns-clause-home : goal.returns-clause-home
 returns-clause-home g c = record {

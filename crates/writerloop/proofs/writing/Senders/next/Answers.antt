@@ -4,8 +4,12 @@ use Rattle.writerloop.proofs.writing.Senders.next.Goals as goal
 
 pub returns-in-None-clause-some : goal.returns-in-None-clause-some
 returns-in-None-clause-some g c =
-    some-from c.next_in_core.result c.args.self.now c.next_aside.new.self c.next_in_core.new.self c.in-None.ensures.none c.next_aside.ensures.aside c.next_aside.ensures.sends c.next_aside.ensures.core c.next_in_core.ensures.some
+    some-from c.next_in_core.result c.args.self.now c.next_aside.new.self c.next_in_core.new.self
+    c.in-None.ensures.none c.next_aside.ensures.aside c.next_aside.ensures.sends
+    c.next_aside.ensures.core c.next_in_core.ensures.some
 
 pub returns-in-None-clause-none : goal.returns-in-None-clause-none
 returns-in-None-clause-none g c =
-    none-from c.next_in_core.result c.args.self.now c.next_aside.new.self c.in-None.ensures.none c.next_aside.ensures.aside c.next_aside.ensures.sends c.next_aside.ensures.core c.next_in_core.ensures.none
+    none-from c.next_in_core.result c.args.self.now c.next_aside.new.self c.in-None.ensures.none
+    c.next_aside.ensures.aside c.next_aside.ensures.sends c.next_aside.ensures.core
+    c.next_in_core.ensures.none

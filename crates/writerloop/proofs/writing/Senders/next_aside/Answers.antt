@@ -9,4 +9,5 @@ use Rattle.writerloop.proofs.writing.Senders.next_aside.Goals as goal
 pub returns-in-Ok-clause-none : goal.returns-in-Ok-clause-none
 returns-in-Ok-clause-none g c =
     let is : c.args.self.now.aside ≡ Some c.in_ok-order.order = cc in
-    subst (λ aside. opens (order_in aside) ≡ []) (sym is) (opens-none c.in_ok-order.order (as-plain c.in_ok-order.order c.in-Ok._plain (sym c.in-Ok.ensures.same) c.in-Ok.ensures.plain))
+    subst (λ aside. opens (order_in aside) ≡ []) (sym is) (opens-none c.in_ok-order.order
+    (as-plain c.in_ok-order.order c.in-Ok._plain (sym c.in-Ok.ensures.same) c.in-Ok.ensures.plain))

@@ -8,8 +8,13 @@ use Rattle.writerloop.proofs.writing.Writing.say_last.Goals as goal
 pub returns-then-part : goal.returns-then-part
 returns-then-part g c = record {
   stays =
-      stays-by g.W.ConnWrite.contents g.W.ConnWrite.failed c.args.self.now _ refl (λ kept. absurd (true≢false kept)) (record { input = refl; closed = refl; way = refl })
-      (parts-on g.W.ConnWrite.contents g.W.ConnWrite.failed c.args.last c.args.self.now.inbox.has_lost c.args.self.now _
-      (subst (λ (said : Bool). WritesOn got g.W.ConnWrite.contents g.W.ConnWrite.failed (parting c.args.last said) c.args.self.now.frames c.part.new.self) c.if-part.true c.part.ensures.wrote)
-      (ap (λ senders. senders.items) c.part.ensures.senders) (record { numbers = refl; way = refl }) refl (c.part.ensures.dead c.if-part.true).0 (ap (λ w. w.standing) c.part.ensures.rest));
+      stays-by g.W.ConnWrite.contents g.W.ConnWrite.failed c.args.self.now _ refl
+      (λ kept. absurd (true≢false kept)) (record { input = refl; closed = refl; way = refl })
+      (parts-on g.W.ConnWrite.contents g.W.ConnWrite.failed c.args.last
+      c.args.self.now.inbox.has_lost c.args.self.now _
+      (subst (λ (said : Bool).
+      WritesOn got g.W.ConnWrite.contents g.W.ConnWrite.failed (parting c.args.last said)
+      c.args.self.now.frames c.part.new.self) c.if-part.true c.part.ensures.wrote)
+      (ap (λ senders. senders.items) c.part.ensures.senders) (record { numbers = refl; way = refl })
+      refl (c.part.ensures.dead c.if-part.true).0 (ap (λ w. w.standing) c.part.ensures.rest));
 }

@@ -16,5 +16,6 @@ wipe_spans-requires-clause-ends c =
 pub wipe_spans-requires-clause-zeros : goal.wipe_spans-requires-clause-zeros
 wipe_spans-requires-clause-zeros c =
     let s = c.args.self.now in
-    subst (λ (l : List Span). AreZerosOutside l c.wipe_span.new.bytes) (sym c.as_slice.ensures.value)
+    subst (λ (l : List Span). AreZerosOutside l c.wipe_span.new.bytes)
+    (sym c.as_slice.ensures.value)
     (c.wipe_span.ensures.wiped s.earlier.items c.requires.zeros)

@@ -8,10 +8,13 @@ invariant_of-self c =
     let s = c.self.inside in
     let known = c.self.invariant in
     let written = c.overwrite.ensures.items in
-    let long : s.end + length c.args.bytes.now ≤ length c.overwrite.new.out.items = rw written (long_written s.bytes.items c.args.bytes.now s.end known.0) in (
+    let long : s.end + length c.args.bytes.now ≤ length c.overwrite.new.out.items =
+    rw written (long_written s.bytes.items c.args.bytes.now s.end known.0) in (
       long,
       grind arith,
       grind arith,
       c.mark.ensures.ends,
-      subst (AreZerosOutside (spans c.mark.new.self)) (sym written) (written_outside (spans s.marks) (spans c.mark.new.self) s.bytes.items c.args.bytes.now s.end known.0 c.mark.ensures.marked c.mark.ensures.kept known.4),
+      subst (AreZerosOutside (spans c.mark.new.self)) (sym written) (written_outside (spans s.marks)
+          (spans c.mark.new.self) s.bytes.items c.args.bytes.now s.end known.0 c.mark.ensures.marked
+          c.mark.ensures.kept known.4),
     )

@@ -11,5 +11,6 @@ invariant_of-self c =
       omega arith,
       c.self.invariant.2,
       c.wipe.ensures.none 0,
-      wiped_back (spans c.wipe.new.self) s.bytes.items c.wipe.new.bytes s.bytes.len (length c.as_mut_slice.result.now) c.wipe.ensures.wiped long,
+      wiped_back (spans c.wipe.new.self) s.bytes.items c.wipe.new.bytes s.bytes.len
+          (length c.as_mut_slice.result.now) c.wipe.ensures.wiped long,
     )
