@@ -266,6 +266,18 @@ def listen(serve):
     return listener.getsockname()[1]
 
 
+def port_told(name, seconds):
+    """The port of a server that writes where it listens into this file, once the line is there."""
+    end = time.monotonic() + seconds
+    while time.monotonic() < end:
+        with open(name, encoding="utf-8") as file:
+            line = file.readline()
+        if line.endswith("\n"):
+            return int(line.rsplit(":", 1)[1])
+        time.sleep(0.05)
+    raise TimeoutError(f"no server has said within {seconds} s where it listens")
+
+
 def program():
     """The program that is tried: the first argument, or the one that ./interop builds."""
     root = os.path.dirname(os.path.dirname(os.path.dirname(os.path.abspath(__file__))))

@@ -1,5 +1,5 @@
 #!/usr/bin/env python3
-"""wide-lines [--count] [--keep-imports] [CRATE..]: breaks .antt and .rt lines of over 100 columns.
+"""wide_lines [--count] [--keep-imports] [CRATE..]: breaks .antt and .rt lines of over 100 columns.
 
 It runs at the top of the repository, cuts lines between tokens, and has the kit's formatter indent
 what it cut. The formatter also writes the last comma of a list that goes over lines, the last
