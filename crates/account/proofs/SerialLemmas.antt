@@ -57,8 +57,8 @@ use Rattle.account.specs.declared.call.OutItem.{OutItem}
 use Rattle.account.specs.declared.call.OutItem.TheVariants.{Head, Message, Trailers, Left}
 use Rattle.account.specs.declared.call.Shut.{Shut}
 use Rattle.account.specs.declared.call.Shut.TheVariants as shut
-use Rattle.account.specs.declared.call.Told.{Told}
-use Rattle.account.specs.declared.call.Told.TheVariants as told
+use Rattle.account.specs.declared.call.RequestEnd.{RequestEnd}
+use Rattle.account.specs.declared.call.RequestEnd.TheVariants as told
 use Rattle.account.specs.Accounts.{Begins, IsBody, IsResponse, MayTell, IsLawful}
 use Rattle.account.specs.Runs.{telling, after_next, may_follow, last_of, after}
 use Rattle.account.specs.declared.serial.SerialCall.{SerialCall}
@@ -91,7 +91,7 @@ never None s e f = absurd cc
 never (Some x) s e f = absurd cc
 
 -- while the half isn't shut, more bytes leave what was told lawful
-pub MayTell-longer : (t : Option Told) (fed more : List ℕ) (closed : Option Shut)
+pub MayTell-longer : (t : Option RequestEnd) (fed more : List ℕ) (closed : Option Shut)
     (taken : List (List ℕ))
     → is_none closed ≡ true → MayTell t fed closed taken → MayTell t (fed ++ more) closed taken
 MayTell-longer None fed more closed taken e h = tt
@@ -108,7 +108,7 @@ MayTell-longer (Some (told.Fault CutAtEnd)) fed more closed taken e h = never cl
 MayTell-longer (Some (told.Fault OutOfMemory)) fed more closed taken e h = h
 
 -- and so does its shutting
-pub MayTell-shut : (t : Option Told) (fed : List ℕ) (closed other : Option Shut)
+pub MayTell-shut : (t : Option RequestEnd) (fed : List ℕ) (closed other : Option Shut)
     (taken : List (List ℕ))
     → is_none closed ≡ true → MayTell t fed closed taken → MayTell t fed other taken
 MayTell-shut None fed closed other taken e h = tt
@@ -132,7 +132,7 @@ pub slice_get-behind : {A : Type 0} (xs : List A) (y : A) (ys : List A)
 slice_get-behind [] y ys = refl
 slice_get-behind (x ∷ xs) y ys = slice_get-behind xs y ys
 
-pub after-told : (a : Account) (t : Told) → a.told ≡ Some t → after a event.Take ≡ a
+pub after-told : (a : Account) (t : RequestEnd) → a.told ≡ Some t → after a event.Take ≡ a
 unfolding after
 after-told a t e = rw e refl
 
@@ -379,14 +379,14 @@ pub some_then : (o : Option Shut) → is_some o ≡ true → is_none o ≡ false
 some_then None e = absurd cc
 some_then (Some x) e = refl
 
-pub told_none : (o : Option Told) → is_some o ≡ false → o ≡ None
+pub told_none : (o : Option RequestEnd) → is_some o ≡ false → o ≡ None
 told_none None e = refl
 told_none (Some x) e = absurd cc
 
 pub after-told_some : (a : Account) → is_some a.told ≡ true → after a event.Take ≡ a
 after-told_some a e = by_told a.told refl
   where
-    by_told : (t : Option Told) → a.told ≡ t → after a event.Take ≡ a
+    by_told : (t : Option RequestEnd) → a.told ≡ t → after a event.Take ≡ a
     by_told None is = let none = ap is_some is in absurd cc
     by_told (Some t) is = after-told a t is
 

@@ -15,8 +15,8 @@ use Rattle.account.specs.declared.call.OutItem.{OutItem}
 use Rattle.account.specs.declared.call.OutItem.TheVariants.{Head, Message, Trailers, Left}
 use Rattle.account.specs.declared.call.Shut.{Shut}
 use Rattle.account.specs.declared.call.Shut.TheVariants as shut
-use Rattle.account.specs.declared.call.Told.{Told}
-use Rattle.account.specs.declared.call.Told.TheVariants as told
+use Rattle.account.specs.declared.call.RequestEnd.{RequestEnd}
+use Rattle.account.specs.declared.call.RequestEnd.TheVariants as told
 
 -- the first list begins the second
 abbrev pub Begins : {A : Type 0} → List A → List A → Type 0
@@ -52,7 +52,7 @@ MayTellFault OutOfMemory fed closed taken = ⊥
 
 -- The end may be told only where the half was ended and all its bytes were taken; a reset only
 -- where the half was reset and each message that came whole before it was taken.
-abbrev pub MayTell : Option Told → List ℕ → Option Shut → List (List ℕ) → Type 0
+abbrev pub MayTell : Option RequestEnd → List ℕ → Option Shut → List (List ℕ) → Type 0
 MayTell None fed closed taken = Unit {0}
 MayTell (Some told.End) fed closed taken = (closed ≡ Some shut.End) × (fed ≡ frames taken)
 MayTell (Some (told.Reset code)) fed closed taken =

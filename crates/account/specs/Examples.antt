@@ -12,7 +12,7 @@ use Rattle.account.specs.declared.call.CallEvent.{CallEvent}
 use Rattle.account.specs.declared.call.CallEvent.TheVariants as event
 use Rattle.account.specs.declared.call.OutItem.TheVariants.{Head, Message, Trailers, Left}
 use Rattle.account.specs.declared.call.Shut.TheVariants as shut
-use Rattle.account.specs.declared.call.Told.TheVariants as told
+use Rattle.account.specs.declared.call.RequestEnd.TheVariants as told
 use Rattle.account.specs.Accounts.{IsResponse}
 use Rattle.account.specs.Runs.{after, run}
 

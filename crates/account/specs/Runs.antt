@@ -28,15 +28,15 @@ use Rattle.account.specs.declared.call.OutItem.{OutItem}
 use Rattle.account.specs.declared.call.OutItem.TheVariants.{Head, Message, Trailers, Left}
 use Rattle.account.specs.declared.call.Shut.{Shut}
 use Rattle.account.specs.declared.call.Shut.TheVariants as shut
-use Rattle.account.specs.declared.call.Told.{Told}
-use Rattle.account.specs.declared.call.Told.TheVariants as told
+use Rattle.account.specs.declared.call.RequestEnd.{RequestEnd}
+use Rattle.account.specs.declared.call.RequestEnd.TheVariants as told
 
 -- a call that was opened, and to which nothing happened yet
 abbrev pub opened : Account
 opened = record { fed = []; shut = None; taken = []; told = None; given = []; sent = [] }
 
 -- what there is to be told after the last message: the fault of the bytes, or how the half was shut
-abbrev pub telling : Option LpmFault → List ℕ → Option Shut → Option Told
+abbrev pub telling : Option LpmFault → List ℕ → Option Shut → Option RequestEnd
 telling (Some fault) rest closed = Some (told.Fault fault)
 telling None rest None = None
 telling None rest (Some (shut.Reset code)) = Some (told.Reset code)
@@ -48,7 +48,7 @@ abbrev pub after_next : Account → Option (List ℕ) → Account
 after_next a (Some message) = record a { taken = a.taken ++ message ∷ [] }
 after_next a None = record a { told = telling (fault_of a.fed) (rest_of a.fed) a.shut }
 
-abbrev pub after_take : Account → Option Told → Account
+abbrev pub after_take : Account → Option RequestEnd → Account
 after_take a (Some told) = a
 after_take a None = after_next a (slice_get (messages_of a.fed) (length a.taken))
 

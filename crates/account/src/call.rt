@@ -19,7 +19,7 @@ pub enum Shut {
 
 /// What a call's handler was told after the messages.
 #[derive(Clone, Copy, Debug, PartialEq, Eq)]
-pub enum Told {
+pub enum RequestEnd {
     /// There are no more messages.
     End,
     /// The call was reset, with this error code.
@@ -80,7 +80,7 @@ pub struct Account {
     /// The messages that were taken.
     pub taken: Sequence<Bytes>,
     /// What was told after them, if anything was.
-    pub told: Option<Told>,
+    pub told: Option<RequestEnd>,
     /// The items that were given.
     pub given: Sequence<OutItem>,
     /// The items that were sent.

@@ -8,7 +8,7 @@ ghost use Rattle.account.specs.Accounts.{IsLawful};
 ghost use Rattle.account.specs.Runs.{after, may_follow, run};
 ghost use Rattle.account.specs.declared.call.CallEvent.TheVariants as event;
 
-use crate::call::{Account, CallEvent, OutItem, Shut, Told};
+use crate::call::{Account, CallEvent, OutItem, RequestEnd, Shut};
 use crate::ending::told_behind;
 use bytes::Bytes;
 use lists::{Octets, Sequence};
@@ -42,7 +42,7 @@ struct SerialCall {
     splitter: Splitter,
     shut: Option<Shut>,
     taken: Vec<Bytes>,
-    told: Option<Told>,
+    told: Option<RequestEnd>,
     given: Vec<OutItem>,
     sent: Vec<OutItem>,
 }
@@ -129,7 +129,7 @@ impl SerialCall {
             }
             Split::Fault(fault) => match fault {
                 LpmFault::OutOfMemory => return Err(AllocError),
-                _ => self.told = Some(Told::Fault(fault)),
+                _ => self.told = Some(RequestEnd::Fault(fault)),
             },
         }
         Ok(())

@@ -5,7 +5,7 @@ ghost use Rattle.flow.specs.Halves.{IsJudged};
 
 use crate::sizes::{number16, number32};
 use anyhow::Result;
-use flow::{HalfVerdict, Halves};
+use flow::{FrameAction, Halves};
 use h2frame::{Flags, FrameHead, FrameKind, StreamId};
 use std::alloc::{AllocError, Global};
 use std::rt::Clock;
@@ -61,7 +61,7 @@ fn judge(halves: &mut Halves, streams: u16, rounds: u32) -> Result<Count, AllocE
         for index in 0..streams {
             let verdict = halves.on(&data(2 * u32::from(index) + 1))?;
             count.heads = count.heads.wrapping_add(1);
-            if verdict == HalfVerdict::Accept {
+            if verdict == FrameAction::Accept {
                 count.accepted = count.accepted.wrapping_add(1);
             }
         }

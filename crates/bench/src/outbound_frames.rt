@@ -12,7 +12,7 @@ use flow::{INITIAL_WINDOW, MAX_WINDOW};
 use h2frame::{PeerSetting, PeerSettings};
 use lane::RingLane;
 use lists::{Field, Octets, Sequence};
-use outwriter::{Control, Next, OutCore, OutFrame};
+use outwriter::{Next, OutCore, OutFrame, WriterOrder};
 use std::alloc::Global;
 use std::rt::Clock;
 use std::time::{Duration, Instant};
@@ -116,11 +116,11 @@ fn give(giver: &mut Giver<Ring>, reply: Bytes) -> Result<()> {
 fn widen(alloc: Global, core: &mut OutCore<Ring>) -> Result<()> {
     let mut settings = Vec::new(alloc);
     settings.push(PeerSetting::WindowSize(MAX_WINDOW))?;
-    tell(core, Control::Settings(PeerSettings::from(settings)))?;
-    tell(core, Control::Window(0, MAX_WINDOW - INITIAL_WINDOW))
+    tell(core, WriterOrder::Settings(PeerSettings::from(settings)))?;
+    tell(core, WriterOrder::Window(0, MAX_WINDOW - INITIAL_WINDOW))
 }
 
-fn tell(core: &mut OutCore<Ring>, control: Control<Sender<Ring>>) -> Result<()> {
+fn tell(core: &mut OutCore<Ring>, control: WriterOrder<Sender<Ring>>) -> Result<()> {
     core.control(control).ok().context("a control is refused")
 }
 
@@ -173,7 +173,7 @@ fn fill(alloc: Global, core: &mut OutCore<Ring>, calls: Calls) -> Result<()> {
     for index in 0..calls.streams {
         let id = index.wrapping_mul(2).wrapping_add(1);
         let sender = sender(alloc, id, calls.replies, calls.len)?;
-        tell(core, Control::Open(id, sender))?;
+        tell(core, WriterOrder::Open(id, sender))?;
     }
     Ok(())
 }
@@ -251,7 +251,7 @@ fn stand(
 /// Opens a call that gives its head.
 fn opened(alloc: Global, core: &mut OutCore<Ring>, id: u32) -> Result<Giver<Ring>> {
     let (mut giver, sender) = open_response(alloc, id)?;
-    tell(core, Control::Open(id, sender))?;
+    tell(core, WriterOrder::Open(id, sender))?;
     give_head(alloc, &mut giver)?;
     Ok(giver)
 }

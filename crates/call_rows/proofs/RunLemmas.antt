@@ -34,8 +34,8 @@ use Rattle.account.specs.declared.call.OutItem.{OutItem}
 use Rattle.account.specs.declared.call.OutItem.TheVariants.{Head, Message, Trailers}
 use Rattle.account.specs.declared.call.Shut.{Shut}
 use Rattle.account.specs.declared.call.Shut.TheVariants as shut
-use Rattle.account.specs.declared.call.Told.{Told}
-use Rattle.account.specs.declared.call.Told.TheVariants as told
+use Rattle.account.specs.declared.call.RequestEnd.{RequestEnd}
+use Rattle.account.specs.declared.call.RequestEnd.TheVariants as told
 use Rattle.callbox.specs.declared.piece.InPiece.{InPiece}
 use Rattle.callbox.specs.declared.piece.InPiece.TheVariants as piece
 use Rattle.callbox.specs.declared.in_side.InAccount.{InAccount}
@@ -55,19 +55,20 @@ whole_end pieces kind fed (Some closed) messages asked may =
     (cc, ap concat (sym asked.0) ∙ may.1)
 
 pub runs_in : (pieces : List (List ℕ)) (kind : Shut) (fed : List (List ℕ)) (closed : Option Shut)
-    (messages : List (List ℕ)) (said : Option Told) (r : InAccount)
+    (messages : List (List ℕ)) (said : Option RequestEnd) (r : InAccount)
     → IsFed pieces kind fed closed → CountsIn fed closed messages said r
     → RunsIn pieces kind messages r
 runs_in pieces kind fed closed messages said r asked counts =
     let same =
-    subst (λ (s : Option Told). CountsIn fed closed messages s r) (sym counts.told) counts in
+    subst (λ (s : Option RequestEnd). CountsIn fed closed messages s r) (sym counts.told) counts in
     record {
       fed = fed;
       as_asked = subst (IsFed pieces kind fed) (sym counts.shut) asked;
       counts = subst (λ (c : Option Shut). CountsIn fed c messages r.told r) (sym counts.shut) same;
       whole = λ ended.
           whole_end pieces kind fed closed messages asked (subst
-          (λ (t : Option Told). MayTell t (concat fed) closed messages) (sym counts.told ∙ ended)
+          (λ (t : Option RequestEnd). MayTell t (concat fed) closed messages)
+          (sym counts.told ∙ ended)
           counts.lawful.told);
     }
 

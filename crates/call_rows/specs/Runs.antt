@@ -8,7 +8,7 @@ use Rattle.account.specs.declared.call.OutItem.{OutItem}
 use Rattle.account.specs.declared.call.OutItem.TheVariants.{Head, Message, Trailers}
 use Rattle.account.specs.declared.call.Shut.{Shut}
 use Rattle.account.specs.declared.call.Shut.TheVariants as shut
-use Rattle.account.specs.declared.call.Told.TheVariants as told
+use Rattle.account.specs.declared.call.RequestEnd.TheVariants as told
 use Rattle.callbox.specs.declared.in_side.InAccount.{InAccount}
 use Rattle.callbox.specs.InAccounts.{CountsIn}
 

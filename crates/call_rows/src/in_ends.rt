@@ -3,7 +3,7 @@
 ghost use Rattle.std.specs.Prelude.{◌≡◌, IfOk, OnOk};
 ghost use Rattle.lane.specs.End.{of_end};
 
-use account::{CallEvent, OutItem, Shut, Told};
+use account::{CallEvent, OutItem, RequestEnd, Shut};
 use anyhow::{Context, Result, bail, ensure};
 use bytes::Bytes;
 use callbox::{FedShut, Feeder, InAccount, InPiece, Taken, Taker, open_call, settle_in};
@@ -16,11 +16,11 @@ const ROOM: usize = 64;
 
 /// What was fed, taken and told.
 #[derive(Drop)]
-pub struct Heard {
+pub struct InOutcome {
     pub fed: Vec<u8>,
     pub shut: Option<Shut>,
     pub taken: Vec<Bytes>,
-    pub told: Option<Told>,
+    pub told: Option<RequestEnd>,
 }
 
 /// Feeds a piece, where the half isn't shut.
@@ -76,7 +76,7 @@ fn settled<L: Lane<Item = InPiece>>(
     taker: Taker<L>,
     fed: Vec<u8>,
     taken: Vec<Bytes>,
-) -> Result<Heard>
+) -> Result<InOutcome>
     requires { of_end (λ f. L.in_name f.tx) (λ s. L.shut_name s.shut) end ≡ L.out_name taker.rx }
 {
     let account: InAccount = settle_in(end, taker);
@@ -84,7 +84,7 @@ fn settled<L: Lane<Item = InPiece>>(
         account.fed == fed.len() as u64 && account.taken == taken.len() as u64,
         "settled as {account:?}"
     );
-    Ok(Heard {
+    Ok(InOutcome {
         fed,
         shut: account.shut,
         taken,
@@ -93,7 +93,7 @@ fn settled<L: Lane<Item = InPiece>>(
 }
 
 /// Runs the in side's events of a row, in order.
-pub fn run_in<L: Lane<Item = InPiece>>(alloc: Global, events: &[CallEvent]) -> Result<Heard> {
+pub fn run_in<L: Lane<Item = InPiece>>(alloc: Global, events: &[CallEvent]) -> Result<InOutcome> {
     let (feeder, mut taker, _, _) = open_call::<L, RingLane<OutItem>>(alloc, 1, ROOM, 0)?;
     let mut end = End::Open(feeder);
     let mut fed = Vec::new(alloc);

@@ -47,8 +47,8 @@ use Rattle.account.specs.declared.call.Account.{Account}
 use Rattle.account.specs.declared.call.CallEvent.TheVariants as event
 use Rattle.account.specs.declared.call.Shut.{Shut}
 use Rattle.account.specs.declared.call.Shut.TheVariants as shut
-use Rattle.account.specs.declared.call.Told.{Told}
-use Rattle.account.specs.declared.call.Told.TheVariants as told
+use Rattle.account.specs.declared.call.RequestEnd.{RequestEnd}
+use Rattle.account.specs.declared.call.RequestEnd.TheVariants as told
 use Rattle.callbox.specs.declared.piece.InPiece.{InPiece}
 use Rattle.callbox.specs.declared.piece.InPiece.TheVariants as piece
 use Rattle.account.specs.Accounts.{MayTell}
@@ -62,7 +62,7 @@ use Rattle.callbox.specs.InSides.{
   once,
   in_account,
   in_events,
-  Took,
+  TakesMessages,
 }
 use Rattle.account.proofs.SerialLemmas.{
   MayTell-longer,
@@ -223,10 +223,10 @@ cut : (rest : List ℕ) → (rest ≡ [] → ⊥)
 cut [] some = absurd (some refl)
 cut (byte ∷ rest) some = refl
 
-run_told : (said : Option Told) (a : Account) → a.told ≡ None → All IsMessage a.taken
+run_told : (said : Option RequestEnd) (a : Account) → a.told ≡ None → All IsMessage a.taken
     → MayTell said a.fed a.shut a.taken
     → fold after a (once (λ _. event.Take) said) ≡ record a { told = said }
-run_told None a none each may = ap (λ (s : Option Told). record a { told = s }) none
+run_told None a none each may = ap (λ (s : Option RequestEnd). record a { told = s }) none
 run_told (Some told.End) a none each may =
     after-take_more a [] none each (may.1 ∙ sym (append-nil (frames a.taken))) tt
     ∙ ap (λ (s : Option Shut). record a { told = telling None [] s }) may.0
@@ -242,11 +242,11 @@ run_told (Some (told.Fault TooLong)) a none each may =
 run_told (Some (told.Fault CutAtEnd)) a none each may =
     after-take_more a may.1.0 none each may.1.1.whole may.1.1.unfinished
     ∙ ap (λ (s : Option Shut). record a { told = telling None may.1.0 s }) may.0
-    ∙ ap (λ (t : Option Told). record a { told = t }) (cut may.1.0 may.1.2)
+    ∙ ap (λ (t : Option RequestEnd). record a { told = t }) (cut may.1.0 may.1.2)
 run_told (Some (told.Fault OutOfMemory)) a none each may = absurd may
 
 pub run_in : (pieces : List (List ℕ)) (closed : Option Shut) (messages : List (List ℕ))
-    (said : Option Told) (rest : List ℕ)
+    (said : Option RequestEnd) (rest : List ℕ)
     → All IsMessage messages → concat pieces ≡ frames messages ++ rest
     → MayTell said (concat pieces) closed messages
     → in_account pieces closed messages said ≡ run (in_events pieces closed messages said)
@@ -286,7 +286,7 @@ fits_open None e = tt
 fits_open (Some s) e = absurd cc
 
 -- what was told of what was polled may be told of what was put
-pub MayTell-put : (said : Option Told) (got put rest : List InPiece) (closed : Option Shut)
+pub MayTell-put : (said : Option RequestEnd) (got put rest : List InPiece) (closed : Option Shut)
     (messages : List (List ℕ))
     → put ≡ got ++ rest → ends_at_shut put ≡ true → fits_end (shut_of put) closed
     → MayTell said (bytes_of got) (shut_of got) messages
@@ -315,7 +315,8 @@ MayTell-put said got put rest closed messages is last fits may = by_shut (shut_o
 pub counts_in : (got put rest : List InPiece) (progress : Progress) (closed : Option Shut) (fed : ℕ)
     (messages : List (List ℕ))
     → put ≡ got ++ rest → ends_at_shut put ≡ true
-    → fits_end (shut_of put) closed → fed ≡ count_of (bytes_of put) → Took got progress messages
+    → fits_end (shut_of put) closed → fed ≡ count_of (bytes_of put)
+    → TakesMessages got progress messages
     → CountsIn (pieces_of put) closed messages progress.told
     (record { fed = fed; shut = closed; taken = progress.taken; told = progress.told })
 counts_in got put rest progress closed fed messages is last fits counted t =

@@ -36,8 +36,8 @@ use Rattle.lpm.specs.declared.fault.LpmFault.TheVariants.{
 use Rattle.lpm.specs.Messages.{frame, frames, IsMessage, IsUnfinished, IsFaulty}
 use Rattle.lpm.proofs.Readings.{frames-push, IsFaulty-longer}
 use Rattle.account.specs.declared.call.Shut.{Shut}
-use Rattle.account.specs.declared.call.Told.{Told}
-use Rattle.account.specs.declared.call.Told.TheVariants as told
+use Rattle.account.specs.declared.call.RequestEnd.{RequestEnd}
+use Rattle.account.specs.declared.call.RequestEnd.TheVariants as told
 use Rattle.callbox.specs.declared.piece.InPiece.{InPiece}
 use Rattle.callbox.specs.declared.piece.InPiece.TheVariants as piece
 use Rattle.callbox.specs.declared.taker.Progress.{Progress}
@@ -47,7 +47,7 @@ use Rattle.account.specs.Runs as runs
 use Rattle.callbox.specs.InSides.{
   bytes_of,
   shut_of,
-  Took,
+  TakesMessages,
   IsMissing,
   NeedsMore,
   EachNeeded,
@@ -58,17 +58,17 @@ use Rattle.account.proofs.SerialLemmas.{MayTell-fault, MayTell-more}
 use Rattle.callbox.proofs.InLemmas.{bytes_of-bytes, bytes_of-shut, shut_of-push}
 
 -- nothing told is always lawful
-untold : (t : Option Told) (fed : List ℕ) (closed : Option Shut) (messages : List (List ℕ))
+untold : (t : Option RequestEnd) (fed : List ℕ) (closed : Option Shut) (messages : List (List ℕ))
     → t ≡ None → MayTell t fed closed messages
 untold t fed closed messages e =
-    subst (λ (s : Option Told). MayTell s fed closed messages) (sym e) tt
+    subst (λ (s : Option RequestEnd). MayTell s fed closed messages) (sym e) tt
 
 pub took_message : (items : List InPiece) (p q : Progress) (messages : List (List ℕ))
     (message : List ℕ)
-    → Took items p messages
+    → TakesMessages items p messages
     → IsMessage message → p.splitter ≡ frame message ++ q.splitter → q.unread ≡ p.unread
     → q.shut ≡ p.shut → q.told ≡ None → q.taken ≡ min (p.taken + 1) 18446744073709551615
-    → Took items q (messages ++ message ∷ [])
+    → TakesMessages items q (messages ++ message ∷ [])
 took_message items p q messages message t fits front unread closed none count = record {
   missing = t.missing;
   whole = t.whole
@@ -87,10 +87,10 @@ took_message items p q messages message t fits front unread closed none count = 
 
 pub took_fault : (items : List InPiece) (p q : Progress) (messages : List (List ℕ))
     (fault : LpmFault)
-    → Took items p messages
+    → TakesMessages items p messages
     → IsFaulty p.splitter fault → q.splitter ≡ p.splitter → q.unread ≡ p.unread → q.shut ≡ p.shut
     → q.told ≡ Some (told.Fault fault) → q.taken ≡ p.taken
-    → Took items q messages
+    → TakesMessages items q messages
 took_fault items p q messages fault t there splitter unread closed said count = record {
   missing = t.missing;
   whole = t.whole ∙ ap (λ (b : List ℕ). frames messages ++ (b ++ t.missing)) (sym splitter);
@@ -98,17 +98,18 @@ took_fault items p q messages fault t there splitter unread closed said count = 
   unread = subst (λ (b : Bool). IsMissing b items t.missing) (sym unread) t.unread;
   closed = closed ∙ t.closed;
   telling =
-      subst (λ (s : Option Told). MayTell s (bytes_of items) (shut_of items) messages) (sym said)
+      subst (λ (s : Option RequestEnd).
+      MayTell s (bytes_of items) (shut_of items) messages) (sym said)
       (MayTell-fault (bytes_of items) messages (p.splitter ++ t.missing) (shut_of items) fault
       t.whole t.each (IsFaulty-longer p.splitter t.missing fault there));
   count = count ∙ t.count;
 }
 
 pub took_telling : (items : List InPiece) (p q : Progress) (messages : List (List ℕ))
-    → Took items p messages
+    → TakesMessages items p messages
     → IsUnfinished p.splitter → p.unread ≡ false → q.splitter ≡ p.splitter → q.unread ≡ p.unread
     → q.shut ≡ p.shut → q.told ≡ runs.telling None p.splitter p.shut → q.taken ≡ p.taken
-    → Took items q messages
+    → TakesMessages items q messages
 took_telling items p q messages t unfinished read splitter unread closed said count =
     let whole : bytes_of items ≡ frames messages ++ p.splitter =
     t.whole
@@ -122,7 +123,7 @@ took_telling items p q messages t unfinished read splitter unread closed said co
       unread = subst (λ (b : Bool). IsMissing b items t.missing) (sym unread) t.unread;
       closed = closed ∙ t.closed;
       telling =
-          subst (λ (s : Option Told). MayTell s (bytes_of items) (shut_of items) messages)
+          subst (λ (s : Option RequestEnd). MayTell s (bytes_of items) (shut_of items) messages)
           (sym (said ∙ ap (runs.telling None p.splitter) t.closed))
           (MayTell-more (bytes_of items) messages p.splitter (shut_of items) whole
           t.each unfinished);
@@ -131,7 +132,7 @@ took_telling items p q messages t unfinished read splitter unread closed said co
 
 -- where no message is whole, no fault stands and nothing came behind the pieces, more is needed
 pub needs_more : (items : List InPiece) (p : Progress) (messages : List (List ℕ))
-    → Took items p messages → IsUnfinished p.splitter → p.shut ≡ None → p.unread ≡ false
+    → TakesMessages items p messages → IsUnfinished p.splitter → p.shut ≡ None → p.unread ≡ false
     → NeedsMore items messages
 needs_more items p messages t unfinished unshut read =
     let whole : bytes_of items ≡ frames messages ++ p.splitter =
@@ -158,10 +159,10 @@ needed_more got (first ∷ items) now item messages each is more = (
 
 -- the same, with the same told
 pub took_same : (items : List InPiece) (p q : Progress) (messages : List (List ℕ))
-    → Took items p messages
+    → TakesMessages items p messages
     → q.splitter ≡ p.splitter → q.unread ≡ p.unread → q.shut ≡ p.shut → q.told ≡ p.told
     → q.taken ≡ p.taken
-    → Took items q messages
+    → TakesMessages items q messages
 took_same items p q messages t splitter unread closed said count = record {
   missing = t.missing;
   whole = t.whole ∙ ap (λ (b : List ℕ). frames messages ++ (b ++ t.missing)) (sym splitter);
@@ -169,7 +170,7 @@ took_same items p q messages t splitter unread closed said count = record {
   unread = subst (λ (b : Bool). IsMissing b items t.missing) (sym unread) t.unread;
   closed = closed ∙ t.closed;
   telling =
-      subst (λ (s : Option Told). MayTell s (bytes_of items) (shut_of items) messages)
+      subst (λ (s : Option RequestEnd). MayTell s (bytes_of items) (shut_of items) messages)
       (sym said) t.telling;
   count = count ∙ t.count;
 }
@@ -177,11 +178,11 @@ took_same items p q messages t splitter unread closed said count = record {
 -- a piece more, of which some may be missing
 pub took_piece : (items : List InPiece) (item : InPiece) (bytes missing : List ℕ) (p q : Progress)
     (messages : List (List ℕ))
-    → Took items p messages
+    → TakesMessages items p messages
     → item ≡ piece.Bytes bytes → p.unread ≡ false → p.shut ≡ None → p.told ≡ None
     → q.splitter ++ missing ≡ p.splitter ++ bytes → IsMissing q.unread (items ++ item ∷ []) missing
     → q.shut ≡ p.shut → q.told ≡ p.told → q.taken ≡ p.taken
-    → Took (items ++ item ∷ []) q messages
+    → TakesMessages (items ++ item ∷ []) q messages
 took_piece items item bytes missing p q messages t is read unshut none splitter unread
     closed said count =
     let all : bytes_of (items ++ item ∷ []) ≡ bytes_of items ++ bytes =
@@ -211,11 +212,11 @@ took_piece items item bytes missing p q messages t is read unshut none splitter 
 
 pub took_shut : (items : List InPiece) (item : InPiece) (closed : Shut) (p q : Progress)
     (messages : List (List ℕ))
-    → Took items p messages
+    → TakesMessages items p messages
     → item ≡ piece.Shut closed → p.unread ≡ false → p.shut ≡ None → p.told ≡ None
     → q.splitter ≡ p.splitter → q.unread ≡ p.unread → q.shut ≡ Some closed → q.told ≡ p.told
     → q.taken ≡ p.taken
-    → Took (items ++ item ∷ []) q messages
+    → TakesMessages (items ++ item ∷ []) q messages
 took_shut items item closed p q messages t is read unshut none splitter unread now said count =
     let all : bytes_of (items ++ item ∷ []) ≡ bytes_of items =
     ap (λ (x : InPiece). bytes_of (items ++ x ∷ [])) is ∙ bytes_of-shut items closed in
@@ -240,11 +241,11 @@ took_shut items item closed p q messages t is read unshut none splitter unread n
 -- the unread piece is read
 pub took_again : (items : List InPiece) (item : InPiece) (bytes : List ℕ) (p q : Progress)
     (messages : List (List ℕ))
-    → Took items p messages
+    → TakesMessages items p messages
     → last_of items ≡ Some item → item ≡ piece.Bytes bytes → p.unread ≡ true → p.told ≡ None
     → q.splitter ≡ p.splitter ++ bytes → q.unread ≡ false → q.shut ≡ p.shut → q.told ≡ p.told
     → q.taken ≡ p.taken
-    → Took items q messages
+    → TakesMessages items q messages
 took_again items item bytes p q messages t last is unread none splitter read closed said count =
     let missing : last_of items ≡ Some (piece.Bytes t.missing) =
     subst (λ (b : Bool). IsMissing b items t.missing) unread t.unread in
@@ -260,7 +261,7 @@ took_again items item bytes p q messages t last is unread none splitter read clo
       count = count ∙ t.count;
     }
 
-pub tells_fault : (fault : LpmFault) (old : Option Told) → (fault ≡ OutOfMemory → ⊥)
+pub tells_fault : (fault : LpmFault) (old : Option RequestEnd) → (fault ≡ OutOfMemory → ⊥)
     → TellsFault fault old (Some (told.Fault fault))
 tells_fault OutOfMemory old other = absurd (other refl)
 tells_fault Compressed old other = refl

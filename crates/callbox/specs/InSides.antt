@@ -31,12 +31,12 @@ use Rattle.account.specs.declared.call.Account.{Account}
 use Rattle.account.specs.declared.call.CallEvent.{CallEvent}
 use Rattle.account.specs.declared.call.CallEvent.TheVariants as event
 use Rattle.account.specs.declared.call.Shut.{Shut}
-use Rattle.account.specs.declared.call.Told.{Told}
-use Rattle.account.specs.declared.call.Told.TheVariants as told
+use Rattle.account.specs.declared.call.RequestEnd.{RequestEnd}
+use Rattle.account.specs.declared.call.RequestEnd.TheVariants as told
 use Rattle.callbox.specs.declared.piece.InPiece.{InPiece}
 use Rattle.callbox.specs.declared.piece.InPiece.TheVariants as piece
-use Rattle.callbox.specs.declared.taker.Polled.{Polled}
-use Rattle.callbox.specs.declared.taker.Polled.TheVariants as polled
+use Rattle.callbox.specs.declared.taker.PolledItem.{PolledItem}
+use Rattle.callbox.specs.declared.taker.PolledItem.TheVariants as polled
 use Rattle.callbox.specs.declared.taker.Taken.{Taken}
 use Rattle.callbox.specs.declared.taker.Taken.TheVariants as taken
 use Rattle.callbox.specs.declared.taker.Progress.{Progress}
@@ -70,7 +70,7 @@ is_piece (piece.Bytes bytes) = true
 is_piece (piece.Shut closed) = false
 
 -- what a polled item becomes; a piece that can't be shared becomes its length
-abbrev pub IsPolled : InPiece → Polled → Type 0
+abbrev pub IsPolled : InPiece → PolledItem → Type 0
 IsPolled item (polled.Bytes bytes) = item ≡ piece.Bytes bytes
 IsPolled item (polled.Shut closed) = item ≡ piece.Shut closed
 IsPolled item (polled.Unshared len) =
@@ -88,7 +88,7 @@ IsMissing false items missing = missing ≡ []
 
 -- These messages were taken of the items that were polled, and the taker keeps what follows them.
 -- Where the last piece is unread, for want of memory, its bytes are missing from what it keeps.
-pub record Took (items : List InPiece) (progress : Progress)
+pub record TakesMessages (items : List InPiece) (progress : Progress)
     (messages : List (List ℕ)) : Type 0 where
   pub missing : List ℕ
   pub whole : bytes_of items ≡ frames messages ++ (progress.splitter ++ missing)
@@ -119,12 +119,12 @@ grown messages (taken.Reset code) = messages
 grown messages (taken.Fault fault) = messages
 
 -- the answer by which a thing is told
-abbrev pub telling : Told → Taken
+abbrev pub telling : RequestEnd → Taken
 telling told.End = taken.End
 telling (told.Reset code) = taken.Reset code
 telling (told.Fault fault) = taken.Fault fault
 
-abbrev pub TellsFault : LpmFault → Option Told → Option Told → Type 0
+abbrev pub TellsFault : LpmFault → Option RequestEnd → Option RequestEnd → Type 0
 TellsFault Compressed old new = new ≡ Some (told.Fault Compressed)
 TellsFault BadFlag old new = new ≡ Some (told.Fault BadFlag)
 TellsFault TooLong old new = new ≡ Some (told.Fault TooLong)
@@ -132,7 +132,7 @@ TellsFault CutAtEnd old new = new ≡ Some (told.Fault CutAtEnd)
 TellsFault OutOfMemory old new = new ≡ old
 
 -- what was told before and after an answer
-abbrev pub Tells : Taken → Option Told → Option Told → Type 0
+abbrev pub Tells : Taken → Option RequestEnd → Option RequestEnd → Type 0
 Tells (taken.Message message) old new = new ≡ old
 Tells taken.Nothing old new = (old ≡ None) × (new ≡ None)
 Tells taken.End old new = new ≡ Some told.End
@@ -140,7 +140,7 @@ Tells (taken.Reset code) old new = new ≡ Some (told.Reset code)
 Tells (taken.Fault fault) old new = TellsFault fault old new
 
 -- the in side of an account
-abbrev pub in_account : List (List ℕ) → Option Shut → List (List ℕ) → Option Told → Account
+abbrev pub in_account : List (List ℕ) → Option Shut → List (List ℕ) → Option RequestEnd → Account
 in_account pieces closed messages said = record {
   fed = concat pieces;
   shut = closed;
@@ -156,7 +156,8 @@ once event_of None = []
 once event_of (Some x) = event_of x ∷ []
 
 -- pieces, the shut, a Take for each message that was taken and one for what was told
-abbrev pub in_events : List (List ℕ) → Option Shut → List (List ℕ) → Option Told → List CallEvent
+abbrev pub in_events : List (List ℕ) → Option Shut → List (List ℕ)
+    → Option RequestEnd → List CallEvent
 in_events pieces closed messages said =
     map event.Feed pieces
     ++ (once event.Shut closed ++ (map (λ _. event.Take) messages ++ once (λ _. event.Take) said))

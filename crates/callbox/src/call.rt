@@ -1,7 +1,7 @@
 //! Opening a call.
 
 ghost use Rattle.std.specs.Prelude.{◌≡◌, [], None, IfOk};
-ghost use Rattle.callbox.specs.InSides.{Took};
+ghost use Rattle.callbox.specs.InSides.{TakesMessages};
 
 use crate::in_side::open_in;
 use crate::out_side::open_out;
@@ -26,7 +26,7 @@ pub fn open_call<I: Lane<Item = InPiece>, O: Lane<Item = OutItem>>(
     ensures room_in { IfOk result (λ r. I.room_of (I.in_name r.0.tx) ≡ room_in) }
     ensures room_out { IfOk result (λ r. O.room_of (O.in_name r.2.tx) ≡ room_out) }
     ensures unfed { IfOk result (λ r. (I.put_in r.0.tx ≡ []) × (I.got r.1.rx ≡ [])) }
-    ensures took { IfOk result (λ r. Took (I.got r.1.rx) r.1.progress []) }
+    ensures took { IfOk result (λ r. TakesMessages (I.got r.1.rx) r.1.progress []) }
     ensures owed { IfOk result (λ r. r.1.progress.owed ≡ 0) }
     ensures told { IfOk result (λ r. r.1.progress.told ≡ None) }
     ensures ungiven { IfOk result (λ r. (O.put_in r.2.tx ≡ []) × (O.got r.3.rx ≡ [])) }

@@ -2,11 +2,11 @@
 
 ghost use Rattle.std.specs.Prelude.{◌≡◌, ℕ, List, [], Some, None, IfOk};
 ghost use Rattle.lane.specs.End.{of_end};
-ghost use Rattle.callbox.specs.InSides.{Took, pieces_of};
+ghost use Rattle.callbox.specs.InSides.{TakesMessages, pieces_of};
 ghost use Rattle.callbox.specs.InAccounts.{CountsIn};
 
 use crate::{FedShut, Feeder, InPiece, Taker};
-use account::{Shut, Told};
+use account::{RequestEnd, Shut};
 use lane::{End, Lane};
 use std::alloc::{AllocError, Global};
 
@@ -20,7 +20,7 @@ pub struct InAccount {
     /// How many messages were taken.
     pub taken: u64,
     /// What was told after them.
-    pub told: Option<Told>,
+    pub told: Option<RequestEnd>,
 }
 
 /// Brings the two ends of one call's in side together. What was taken of what was fed is a lawful
@@ -32,7 +32,8 @@ pub fn settle_in<L: Lane<Item = InPiece>>(
     requires one_call { of_end (λ f. L.in_name f.tx) (λ s. L.shut_name s.shut) end
         ≡ L.out_name taker.rx }
     // For the messages that were taken.
-    ensures account { (messages : List (List ℕ)) → Took (L.got taker.rx) taker.progress messages
+    ensures account { (messages : List (List ℕ))
+        → TakesMessages (L.got taker.rx) taker.progress messages
         → CountsIn (pieces_of (of_end (λ f. L.put_in f.tx) (λ s. L.put_shut s.shut) end))
         (of_end (λ _. None) (λ s. Some s.kind) end) messages taker.progress.told result }
 {
@@ -44,7 +45,8 @@ pub fn settle_in<L: Lane<Item = InPiece>>(
 
 fn settle_open<L: Lane<Item = InPiece>>(feeder: Feeder<L>, taker: Taker<L>) -> InAccount
     requires one_call { L.in_name feeder.tx ≡ L.out_name taker.rx }
-    ensures account { (messages : List (List ℕ)) → Took (L.got taker.rx) taker.progress messages
+    ensures account { (messages : List (List ℕ))
+        → TakesMessages (L.got taker.rx) taker.progress messages
         → CountsIn (pieces_of (L.put_in feeder.tx)) None messages taker.progress.told result }
 {
     let Taker { rx, progress } = taker;
@@ -60,7 +62,8 @@ fn settle_open<L: Lane<Item = InPiece>>(feeder: Feeder<L>, taker: Taker<L>) -> I
 
 fn settle_shut<L: Lane<Item = InPiece>>(shut: FedShut<L>, taker: Taker<L>) -> InAccount
     requires one_call { L.shut_name shut.shut ≡ L.out_name taker.rx }
-    ensures account { (messages : List (List ℕ)) → Took (L.got taker.rx) taker.progress messages
+    ensures account { (messages : List (List ℕ))
+        → TakesMessages (L.got taker.rx) taker.progress messages
         → CountsIn (pieces_of (L.put_shut shut.shut))
         (Some shut.kind) messages taker.progress.told result }
 {
@@ -84,7 +87,7 @@ pub(crate) fn open_in<L: Lane<Item = InPiece>>(
     ensures room { IfOk result (λ r. L.room_of (L.in_name r.0.tx) ≡ room) }
     ensures unfed { IfOk result (λ r. L.put_in r.0.tx ≡ []) }
     ensures ungot { IfOk result (λ r. L.got r.1.rx ≡ []) }
-    ensures took { IfOk result (λ r. Took (L.got r.1.rx) r.1.progress []) }
+    ensures took { IfOk result (λ r. TakesMessages (L.got r.1.rx) r.1.progress []) }
     ensures owed { IfOk result (λ r. r.1.progress.owed ≡ 0) }
     ensures told { IfOk result (λ r. r.1.progress.told ≡ None) }
 {

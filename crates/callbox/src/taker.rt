@@ -1,7 +1,7 @@
 //! The end of a call that takes its messages.
 //!
 //! The messages that were taken are stored nowhere: `take` speaks of each list of messages that
-//! leads there (`Took`), and `open_in` starts with none.
+//! leads there (`TakesMessages`), and `open_in` starts with none.
 //!
 //! A piece that can't be shared for want of memory stays unread. A lane lends its item until the
 //! next poll, and `Bytes::clone` can be refused. So the taker counts the piece for `credit` once
@@ -38,7 +38,7 @@ ghost use Rattle.lane.specs.Lawful.{last_of};
 ghost use Rattle.callbox.specs.InSides.{
   EachNeeded,
   IsPolled,
-  Took,
+  TakesMessages,
   Tells,
   bytes_of,
   grown,
@@ -49,7 +49,7 @@ ghost use Rattle.callbox.specs.declared.piece.InPiece.{InPiece};
 ghost use Rattle.callbox.specs.declared.taker.Taken.TheVariants as taken;
 
 use crate::InPiece;
-use account::{Shut, Told, told_behind};
+use account::{RequestEnd, Shut, told_behind};
 use bytes::Bytes;
 use lane::Lane;
 use lpm::{LpmFault, Split, Splitter};
@@ -72,7 +72,7 @@ pub enum Taken {
 
 /// What a polled item becomes.
 #[derive(Debug, Drop)]
-pub(crate) enum Polled {
+pub(crate) enum PolledItem {
     Bytes(Bytes),
     Shut(Shut),
     /// A piece that wasn't shared for want of memory, by its length.
@@ -88,7 +88,7 @@ pub(crate) struct Progress {
     /// Whether the piece that was polled last is unread, since memory ran out.
     pub(crate) unread: bool,
     pub(crate) shut: Option<Shut>,
-    pub(crate) told: Option<Told>,
+    pub(crate) told: Option<RequestEnd>,
     /// How many messages were taken, up to the greatest `u64`.
     pub(crate) taken: u64,
     /// How many bytes were polled since the last credit, up to the greatest `u32`.
@@ -97,7 +97,7 @@ pub(crate) struct Progress {
 
 impl Progress {
     pub(crate) fn new(alloc: Global) -> Progress
-        ensures took { Took [] result [] }
+        ensures took { TakesMessages [] result [] }
         ensures owed { result.owed ≡ 0 }
         ensures told { result.told ≡ None }
     {
@@ -115,9 +115,9 @@ impl Progress {
     fn answer(&mut self) -> Option<Taken>
         requires { self.old.told ≡ None }
         ensures took { (items : List InPiece) (messages : List (List ℕ))
-            → Took items self.old messages
-            → MatchOption result (Took items self.new messages)
-            (λ a. Took items self.new (grown messages a)) }
+            → TakesMessages items self.old messages
+            → MatchOption result (TakesMessages items self.new messages)
+            (λ a. TakesMessages items self.new (grown messages a)) }
         ensures tells { IfSome result (λ a. Tells a self.old.told self.new.told) }
         ensures more { IfNone result (IsUnfinished self.new.splitter × (self.new.told ≡ None)
             × (self.new.shut ≡ None) × (self.new.unread ≡ false)) }
@@ -132,7 +132,7 @@ impl Progress {
             Split::Fault(fault) => match fault {
                 LpmFault::OutOfMemory => Some(Taken::Fault(fault)),
                 _ => {
-                    self.told = Some(Told::Fault(fault));
+                    self.told = Some(RequestEnd::Fault(fault));
                     Some(Taken::Fault(fault))
                 }
             },
@@ -145,9 +145,9 @@ impl Progress {
         requires unfinished { IsUnfinished self.old.splitter }
         requires untold { self.old.told ≡ None }
         ensures took { (items : List InPiece) (messages : List (List ℕ))
-            → Took items self.old messages
-            → MatchOption result (Took items self.new messages)
-            (λ a. Took items self.new (grown messages a)) }
+            → TakesMessages items self.old messages
+            → MatchOption result (TakesMessages items self.new messages)
+            (λ a. TakesMessages items self.new (grown messages a)) }
         ensures tells { IfSome result (λ a. Tells a self.old.told self.new.told) }
         ensures more { IfNone result ((self.new ≡ self.old) × (self.new.shut ≡ None)
             × (self.new.unread ≡ false)) }
@@ -163,40 +163,41 @@ impl Progress {
     }
 
     /// Takes in what was polled.
-    pub(crate) fn accept(&mut self, polled: Polled)
+    pub(crate) fn accept(&mut self, polled: PolledItem)
         requires untold { self.old.told ≡ None }
         requires unshut { self.old.shut ≡ None }
         requires read { self.old.unread ≡ false }
         ensures took { (items : List InPiece) (item : InPiece) (messages : List (List ℕ))
-            → Took items self.old messages
-            → IsPolled item polled → Took (items ++ item ∷ []) self.new messages }
+            → TakesMessages items self.old messages
+            → IsPolled item polled → TakesMessages (items ++ item ∷ []) self.new messages }
         ensures told { self.new.told ≡ None }
         ensures owed { (item : InPiece) → IsPolled item polled
             → self.new.owed ≡ min (self.old.owed + length_of item) 4294967295 }
     {
         self.owe(polled.len());
         match polled {
-            Polled::Bytes(bytes) => {
+            PolledItem::Bytes(bytes) => {
                 if self.splitter.push_shared(bytes).is_err() {
                     self.unread = true;
                 }
             }
-            Polled::Unshared(_) => self.unread = true,
-            Polled::Shut(shut) => self.shut = Some(shut),
+            PolledItem::Unshared(_) => self.unread = true,
+            PolledItem::Shut(shut) => self.shut = Some(shut),
         }
     }
 
     /// Takes in the unread piece.
-    pub(crate) fn accept_again(&mut self, polled: Polled)
+    pub(crate) fn accept_again(&mut self, polled: PolledItem)
         requires untold { self.old.told ≡ None }
         requires unread { self.old.unread ≡ true }
         ensures took { (items : List InPiece) (item : InPiece) (messages : List (List ℕ))
-            → Took items self.old messages
-            → last_of items ≡ Some item → IsPolled item polled → Took items self.new messages }
+            → TakesMessages items self.old messages
+            → last_of items ≡ Some item → IsPolled item polled
+            → TakesMessages items self.new messages }
         ensures told { self.new.told ≡ None }
         ensures owed { self.new.owed ≡ self.old.owed }
     {
-        if let Polled::Bytes(bytes) = polled {
+        if let PolledItem::Bytes(bytes) = polled {
             if self.splitter.push_shared(bytes).is_ok() {
                 self.unread = false;
             }
@@ -211,47 +212,47 @@ impl Progress {
     }
 }
 
-impl Polled {
+impl PolledItem {
     /// How many bytes it has.
     fn len(&self) -> u64
         ensures { (item : InPiece) → IsPolled item self.now → result ≡ length_of item }
     {
         match self {
-            Polled::Bytes(bytes) => bytes.len() as u64,
-            Polled::Unshared(len) => *len,
-            Polled::Shut(_) => 0,
+            PolledItem::Bytes(bytes) => bytes.len() as u64,
+            PolledItem::Unshared(len) => *len,
+            PolledItem::Shut(_) => 0,
         }
     }
 }
 
 /// The answer by which a thing is told.
-fn answer_of(told: Told) -> Taken
+fn answer_of(told: RequestEnd) -> Taken
     ensures { result ≡ telling told }
 {
     match told {
-        Told::End => Taken::End,
-        Told::Reset(code) => Taken::Reset(code),
-        Told::Fault(fault) => Taken::Fault(fault),
+        RequestEnd::End => Taken::End,
+        RequestEnd::Reset(code) => Taken::Reset(code),
+        RequestEnd::Fault(fault) => Taken::Fault(fault),
     }
 }
 
 impl InPiece {
     /// The item, with its bytes shared.
-    fn share(&self) -> Polled
+    fn share(&self) -> PolledItem
         ensures { IsPolled self.now result }
     {
         match self {
             InPiece::Bytes(bytes) => match bytes.clone() {
-                Ok(shared) => Polled::Bytes(shared),
-                Err(_) => Polled::Unshared(bytes.len() as u64),
+                Ok(shared) => PolledItem::Bytes(shared),
+                Err(_) => PolledItem::Unshared(bytes.len() as u64),
             },
-            InPiece::Shut(shut) => Polled::Shut(*shut),
+            InPiece::Shut(shut) => PolledItem::Shut(*shut),
         }
     }
 }
 
 /// What the next item of the lane is, if there is one.
-fn poll<L: Lane<Item = InPiece>>(rx: &mut L::Out) -> Option<Polled>
+fn poll<L: Lane<Item = InPiece>>(rx: &mut L::Out) -> Option<PolledItem>
     ensures name { L.out_name rx.new ≡ L.out_name rx.old }
     ensures got { MatchOption result
         ((L.got rx.new ≡ L.got rx.old) × (L.ahead rx.new ≡ []))
@@ -264,7 +265,7 @@ fn poll<L: Lane<Item = InPiece>>(rx: &mut L::Out) -> Option<Polled>
 }
 
 /// Reads the last item that was got once more.
-fn poll_again<L: Lane<Item = InPiece>>(rx: &mut L::Out) -> Option<Polled>
+fn poll_again<L: Lane<Item = InPiece>>(rx: &mut L::Out) -> Option<PolledItem>
     ensures name { L.out_name rx.new ≡ L.out_name rx.old }
     ensures got { L.got rx.new ≡ L.got rx.old }
     ensures item { IfSome result (λ p. (item : InPiece) × (last_of (L.got rx.old) ≡ Some item)
@@ -288,7 +289,7 @@ impl<L: Lane<Item = InPiece>> Taker<L> {
     pub(crate) fn new(alloc: Global, rx: L::Out) -> Taker<L>
         requires { L.got rx ≡ [] }
         ensures rx { result.rx ≡ rx }
-        ensures took { Took [] result.progress [] }
+        ensures took { TakesMessages [] result.progress [] }
         ensures owed { result.progress.owed ≡ 0 }
         ensures told { result.progress.told ≡ None }
     {
@@ -305,8 +306,8 @@ impl<L: Lane<Item = InPiece>> Taker<L> {
         ensures name { L.out_name self.new.rx ≡ L.out_name self.old.rx }
         // For all messages that were taken so far.
         ensures took { (messages : List (List ℕ))
-            → Took (L.got self.old.rx) self.old.progress messages
-            → Took (L.got self.new.rx) self.new.progress (grown messages result) }
+            → TakesMessages (L.got self.old.rx) self.old.progress messages
+            → TakesMessages (L.got self.new.rx) self.new.progress (grown messages result) }
         ensures tells { Tells result self.old.progress.told self.new.progress.told }
         ensures repeats { IfSome self.old.progress.told
             (λ t. (result ≡ telling t) × (self.new.progress ≡ self.old.progress)
@@ -317,7 +318,7 @@ impl<L: Lane<Item = InPiece>> Taker<L> {
         // It polls only where the bytes that it holds make no whole message and no fault, and no
         // shut was polled.
         ensures needed { (messages : List (List ℕ))
-            → Took (L.got self.old.rx) self.old.progress messages
+            → TakesMessages (L.got self.old.rx) self.old.progress messages
             → (items : List InPiece) × (L.got self.new.rx ≡ L.got self.old.rx ++ items)
             × EachNeeded (L.got self.old.rx) items messages }
         ensures owed { (items : List InPiece) × (L.got self.new.rx ≡ L.got self.old.rx ++ items)
@@ -341,8 +342,8 @@ impl<L: Lane<Item = InPiece>> Taker<L> {
         ensures name { L.out_name self.new.rx ≡ L.out_name self.old.rx }
         ensures got { L.got self.new.rx ≡ L.got self.old.rx }
         ensures took { (messages : List (List ℕ))
-            → Took (L.got self.old.rx) self.old.progress messages
-            → Took (L.got self.new.rx) self.new.progress messages }
+            → TakesMessages (L.got self.old.rx) self.old.progress messages
+            → TakesMessages (L.got self.new.rx) self.new.progress messages }
         ensures told { self.new.progress.told ≡ None }
         ensures owed { self.new.progress.owed ≡ self.old.progress.owed }
     {
@@ -356,8 +357,8 @@ impl<L: Lane<Item = InPiece>> Taker<L> {
         requires { self.old.progress.told ≡ None }
         ensures name { L.out_name self.new.rx ≡ L.out_name self.old.rx }
         ensures took { (messages : List (List ℕ))
-            → Took (L.got self.old.rx) self.old.progress messages
-            → Took (L.got self.new.rx) self.new.progress (grown messages result) }
+            → TakesMessages (L.got self.old.rx) self.old.progress messages
+            → TakesMessages (L.got self.new.rx) self.new.progress (grown messages result) }
         ensures tells { Tells result None self.new.progress.told }
         ensures nothing { result ≡ taken.Nothing → IsUnfinished self.new.progress.splitter
             × (self.new.progress.shut ≡ None) × (self.new.progress.unread ≡ false)
@@ -365,7 +366,7 @@ impl<L: Lane<Item = InPiece>> Taker<L> {
         // It polls only where the bytes that it holds make no whole message and no fault, and no
         // shut was polled.
         ensures needed { (messages : List (List ℕ))
-            → Took (L.got self.old.rx) self.old.progress messages
+            → TakesMessages (L.got self.old.rx) self.old.progress messages
             → (items : List InPiece) × (L.got self.new.rx ≡ L.got self.old.rx ++ items)
             × EachNeeded (L.got self.old.rx) items messages }
         ensures owed { (items : List InPiece) × (L.got self.new.rx ≡ L.got self.old.rx ++ items)
@@ -404,7 +405,7 @@ impl<L: Lane<Item = InPiece>> Taker<L> {
     }
 
     /// What was told after them.
-    pub fn told(&self) -> Option<Told>
+    pub fn told(&self) -> Option<RequestEnd>
         ensures { result ≡ self.now.progress.told }
     {
         self.progress.told

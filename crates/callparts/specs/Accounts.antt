@@ -6,13 +6,13 @@ use Rattle.account.specs.Accounts.{IsLawful}
 use Rattle.callbox.specs.InAccounts.{CountsIn}
 use Rattle.callbox.specs.OutAccounts.{CountsOut}
 use Rattle.callhead.specs.declared.head.CallHead.{CallHead}
-use Rattle.handlers.specs.declared.step.Step.{Step}
+use Rattle.handlers.specs.declared.step.MethodStep.{MethodStep}
 use Rattle.callparts.specs.declared.call_account.CallAccount.{CallAccount}
 use Rattle.callparts.specs.Workers.{IsAnswered}
 
 -- The account of a call with this head has the counts of a lawful account: both sides are as that
 -- has them, and what was given is an answer of the call's method.
-pub record StandsOn (answers : ℕ → List (List ℕ) → Bool → Step → Type 0) (head : CallHead)
+pub record StandsOn (answers : ℕ → List (List ℕ) → Bool → MethodStep → Type 0) (head : CallHead)
     (account : Account) (call : CallAccount) : Type 0 where
   pub lawful : IsLawful account
   pub pieces : List (List ℕ)

@@ -6,10 +6,10 @@ use std::marker::Brand;
 /// names it.
 pub trait Answering {
     ghost use Rattle.std.specs.Prelude.{ℕ, List, Bool};
-    ghost use Rattle.handlers.specs.declared.step.Step.{Step};
+    ghost use Rattle.handlers.specs.declared.step.MethodStep.{MethodStep};
 
     // What the method of an index answers to these messages, and to whether they have ended.
-    ghost known: { ℕ → List (List ℕ) → Bool → Step → Type 0 };
+    ghost known: { ℕ → List (List ℕ) → Bool → MethodStep → Type 0 };
 
     // By which path a call names the method of an index.
     ghost names: { List ℕ → ℕ → Type 0 };

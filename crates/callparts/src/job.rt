@@ -22,7 +22,7 @@ pub type Task<J> = Option<Job<J>>;
 
 /// What a worker hands back of a call that is over: the ends of the call of this number.
 #[derive(Drop)]
-pub struct Finished<J: Naming> {
+pub struct FinishedJob<J: Naming> {
     pub number: CallNumber<J>,
     pub taker: Taker<InLane>,
     pub given: GivenShut<OutLane>,

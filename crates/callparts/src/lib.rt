@@ -1,9 +1,10 @@
-//! What a connection's threads hand each other of a call, its number, and the accounts.
+//! What the threads of a connection hand each other for a call. The numbers of calls and their
+//! accounts are here, too.
 //!
 //! A call has lanes of its own, with four ends. The reader makes them, and they come back to it
-//! once the call is over: the `Taker` and the giving end with a `Finished`, from a worker; the
-//! `Sender` with a `Sending`, from the writer. Then the call is settled, and its `CallAccount` is
-//! final.
+//! once the call is over: the `Taker` and the giving end with a `FinishedJob`, from a worker; the
+//! `Sender` with a `SendingEnd`, from the writer. Then the call is settled, and its `CallAccount`
+//! is final.
 //!
 //! - `register`: the numbers of calls, which say of which call an end is that comes back.
 //! - `work`: a call that is to be answered; `job`: what a worker is handed, and hands back; `ways`:
@@ -27,9 +28,9 @@ pub mod work;
 pub use accounts::Accounts;
 pub use answering::Answering;
 pub use call_account::{CallAccount, Traffic};
-pub use job::{Finished, Job, Task};
+pub use job::{FinishedJob, Job, Task};
 pub use line::Line;
-pub use order::{HOME, Opening, Order, Returning, Sending};
+pub use order::{HOME, OpeningCall, Order, ReturningCall, SendingEnd};
 pub use register::{CallNumber, Front, Naming, NewRegister, Register};
 pub use report::{ConnReport, Ending};
 pub use ways::{DoneIn, DoneOut, EachAnswered, EachFresh, PLACES, TasksIn, TasksOut};

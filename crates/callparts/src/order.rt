@@ -8,7 +8,7 @@ use crate::line::Line;
 use crate::register::{CallNumber, Naming};
 use crate::work::OutLane;
 use callbox::Sender;
-use outwriter::Control;
+use outwriter::WriterOrder;
 use std::sync::Arc;
 
 /// How many senders may wait for the reading side to take them back: 64, the most calls that may be
@@ -17,7 +17,7 @@ pub const HOME: usize = 64;
 
 /// The sending end of a call, which goes to the writing side and back in one box.
 #[derive(Drop)]
-pub struct Sending<J: Naming> {
+pub struct SendingEnd<J: Naming> {
     /// The number of the call.
     pub number: CallNumber<J>,
     /// None while the writer's core has it.
@@ -29,8 +29,8 @@ pub struct Sending<J: Naming> {
 
 /// A call that begins. Its sender has got nothing.
 #[derive(Drop)]
-pub struct Opening<J: Naming> {
-    pub sending: Box<Sending<J>>,
+pub struct OpeningCall<J: Naming> {
+    pub sending: Box<SendingEnd<J>>,
     /// The line that wakes its worker.
     pub line: Arc<Line>,
     pub ghost fresh: { option_map (λ s. got s.rx) sending.value.sender ≡ Some [] },
@@ -38,10 +38,10 @@ pub struct Opening<J: Naming> {
 
 /// A call that the writing side hands back, with its sender.
 #[derive(Drop)]
-pub struct Returning<J: Naming> {
-    pub sending: Box<Sending<J>>,
+pub struct ReturningCall<J: Naming> {
+    pub sending: Box<SendingEnd<J>>,
     pub ghost there: { IsSome sending.value.sender },
 }
 
 /// An order to the writing side.
-pub type Order<J> = Control<Opening<J>>;
+pub type Order<J> = WriterOrder<OpeningCall<J>>;

@@ -2,7 +2,7 @@
 //! item that goes through them.
 
 use crate::answering::Answering;
-use crate::job::{Finished, Task};
+use crate::job::{FinishedJob, Task};
 use crate::register::Naming;
 use rtrb::{Consumer, Producer, Protocol, RingBuffer};
 use std::alloc::{AllocError, Global};
@@ -23,7 +23,7 @@ pub struct EachAnswered<M: Answering> {
     known: PhantomData<M>,
 }
 
-impl<J: Naming, M: Answering> Protocol<Finished<J>> for EachAnswered<M> {
+impl<J: Naming, M: Answering> Protocol<FinishedJob<J>> for EachAnswered<M> {
     ghost use Rattle.lane.specs.RingLane.{got, put_shut};
     ghost use Rattle.callparts.specs.Workers.{AnswersAt};
 
@@ -38,10 +38,10 @@ pub type TasksIn<J> = Producer<Task<J>, Global, EachFresh>;
 pub type TasksOut<J> = Consumer<Task<J>, Global, EachFresh>;
 
 /// The putting end of a ring of finished calls.
-pub type DoneIn<J, M> = Producer<Finished<J>, Global, EachAnswered<M>>;
+pub type DoneIn<J, M> = Producer<FinishedJob<J>, Global, EachAnswered<M>>;
 
 /// The taking end of a ring of finished calls.
-pub type DoneOut<J, M> = Consumer<Finished<J>, Global, EachAnswered<M>>;
+pub type DoneOut<J, M> = Consumer<FinishedJob<J>, Global, EachAnswered<M>>;
 
 /// How many places the rings of a worker have. It gets a call only once the call before was taken
 /// back, and at last the word that no more come.

@@ -15,22 +15,22 @@ use Rattle.std.proofs.Common.{
   append-nil,
 }
 use Rattle.account.specs.declared.call.OutItem.{OutItem}
-use Rattle.account.specs.declared.call.Told.{Told}
+use Rattle.account.specs.declared.call.RequestEnd.{RequestEnd}
 use Rattle.callbox.specs.InSides.{Tells, grown}
 use Rattle.callbox.specs.declared.taker.Taken.{Taken}
 use Rattle.handlers.specs.declared.state.MethodState.{MethodState}
-use Rattle.handlers.specs.declared.step.Step.{Step}
+use Rattle.handlers.specs.declared.step.MethodStep.{MethodStep}
 use Rattle.callrun.specs.declared.call.Call.{Call}
 use Rattle.callrun.specs.declared.response.Response.{Response}
 use Rattle.callrun.specs.Runs.{ComesTo, HasCome, HasRun}
-use Rattle.callrun.specs.Sides.{Shown, is_open, shown}
+use Rattle.callrun.specs.Sides.{ResponseView, is_open, shown}
 use Rattle.callrun.proofs.Steps.{live}
 use Rattle.callrun.proofs.Taking.{opened_run}
 
-module _ {answers : List (List ℕ) → Bool → Step → Type 0}
-    {stands : MethodState → List (List ℕ) → Step → Type 0} where
-  pub with_none : (said : Option Told) (messages : List (List ℕ)) (call : Call)
-      (hand : Option Taken) (after : Shown)
+module _ {answers : List (List ℕ) → Bool → MethodStep → Type 0}
+    {stands : MethodState → List (List ℕ) → MethodStep → Type 0} where
+  pub with_none : (said : Option RequestEnd) (messages : List (List ℕ)) (call : Call)
+      (hand : Option Taken) (after : ResponseView)
       → hand ≡ None
       → HasRun answers stands said messages call after
       → HasCome answers stands said messages call hand after
@@ -40,16 +40,17 @@ module _ {answers : List (List ℕ) → Bool → Step → Type 0}
         ComesTo answers stands said messages call after h) (sym is) run;
   }
 
-  pub same_hand : (said : Option Told) (messages : List (List ℕ)) (call : Call)
-      (hand other : Option Taken) (after : Shown)
+  pub same_hand : (said : Option RequestEnd) (messages : List (List ℕ)) (call : Call)
+      (hand other : Option Taken) (after : ResponseView)
       → other ≡ hand
       → HasCome answers stands said messages call hand after
       → HasCome answers stands said messages call other after
   same_hand said messages call hand other after is has =
       subst (λ (h : Option Taken). HasCome answers stands said messages call h after) (sym is) has
 
-  pub kept_come : (Holds : List (List ℕ) → Type 0) (said : Option Told) (messages : List (List ℕ))
-      (call : Call) (hand : Option Taken) (after : Shown)
+  pub kept_come : (Holds : List (List ℕ) → Type 0) (said : Option RequestEnd)
+      (messages : List (List ℕ))
+      (call : Call) (hand : Option Taken) (after : ResponseView)
       → Holds messages
       → HasCome answers stands said messages call hand after
       → (more : List (List ℕ)) × Holds (messages ++ more)
@@ -61,8 +62,9 @@ module _ {answers : List (List ℕ) → Bool → Step → Type 0}
         (sym (append-nil messages)) has,
   )
 
-  pub then_none : (Holds : List (List ℕ) → Type 0) (said : Option Told) (messages : List (List ℕ))
-      (call : Call) (hand : Option Taken) (after : Shown)
+  pub then_none : (Holds : List (List ℕ) → Type 0) (said : Option RequestEnd)
+      (messages : List (List ℕ))
+      (call : Call) (hand : Option Taken) (after : ResponseView)
       → hand ≡ None
       → (more : List (List ℕ)) × Holds (messages ++ more)
       × HasRun answers stands said (messages ++ more) call after
@@ -74,8 +76,8 @@ module _ {answers : List (List ℕ) → Bool → Step → Type 0}
   -- what is in hand goes to the method
   at_hand : {G S : Type 0} (of_open : G → List OutItem) (of_shut : S → List OutItem)
       (was_placed : S → Bool) (r : Response G S) (taken : Taken)
-      (said : Option Told) (messages : List (List ℕ)) (old new : Call) → is_open r ≡ true
-      → ((before : Option Told) (handled : List (List ℕ)) (given : List OutItem)
+      (said : Option RequestEnd) (messages : List (List ℕ)) (old new : Call) → is_open r ≡ true
+      → ((before : Option RequestEnd) (handled : List (List ℕ)) (given : List OutItem)
       → Tells taken before said
       → HasRun answers stands before handled old (live given)
       → HasRun answers stands said (grown handled taken) new (live given))
@@ -90,9 +92,9 @@ module _ {answers : List (List ℕ) → Bool → Step → Type 0}
 
   pub handed : {G S : Type 0} (of_open : G → List OutItem) (of_shut : S → List OutItem)
       (was_placed : S → Bool) (r : Response G S) (taken : Taken)
-      (said : Option Told) (messages : List (List ℕ)) (old new : Call) (hand : Option Taken)
+      (said : Option RequestEnd) (messages : List (List ℕ)) (old new : Call) (hand : Option Taken)
       → is_open r ≡ true → hand ≡ Some taken
-      → ((before : Option Told) (handled : List (List ℕ)) (given : List OutItem)
+      → ((before : Option RequestEnd) (handled : List (List ℕ)) (given : List OutItem)
       → Tells taken before said
       → HasRun answers stands before handled old (live given)
       → HasRun answers stands said (grown handled taken) new (live given))

@@ -29,13 +29,13 @@ use Rattle.std.specs.Prelude.{map}
 use Rattle.std.proofs.lemmas.List.{map-append}
 use Rattle.account.specs.declared.call.OutItem.{OutItem}
 use Rattle.account.specs.declared.call.OutItem.TheVariants.{Trailers}
-use Rattle.account.specs.declared.call.Told.{Told}
+use Rattle.account.specs.declared.call.RequestEnd.{RequestEnd}
 use Rattle.callbox.specs.OutSides.{has_head}
 use Rattle.callhead.specs.declared.head.CallHead.{CallHead}
 use Rattle.lists.specs.declared.field.Field.{Field}
 use Rattle.handlers.specs.declared.reply.Reply.{Reply}
 use Rattle.handlers.specs.declared.status.Status.{Status}
-use Rattle.handlers.specs.declared.step.Step.{Step}
+use Rattle.handlers.specs.declared.step.MethodStep.{MethodStep}
 use Rattle.callrun.specs.declared.call.Call.{Call}
 use Rattle.callrun.specs.declared.ending.Ending.{Ending}
 use Rattle.callrun.specs.declared.ending.Ending.TheVariants as ending
@@ -51,9 +51,9 @@ use Rattle.callrun.specs.Responses.{
 }
 use Rattle.callrun.specs.Outcomes.{IsBegun, IsOutcome}
 use Rattle.callrun.specs.Handlings.{EndsSo, HeadIsDue, LastsLong}
-use Rattle.callrun.specs.Sides.{Shown}
-use Rattle.callrun.specs.declared.giving.Refused.{Refused}
-use Rattle.callrun.specs.declared.giving.Refused.TheVariants as refused
+use Rattle.callrun.specs.Sides.{ResponseView}
+use Rattle.callrun.specs.declared.giving.GiveRefusal.{GiveRefusal}
+use Rattle.callrun.specs.declared.giving.GiveRefusal.TheVariants as refused
 use Rattle.callrun.specs.Giving.{Refuses}
 use Rattle.callrun.specs.Runs.{
   GivesOf,
@@ -95,7 +95,8 @@ one_more head done given reply is =
     ∙ ap (λ (items : List OutItem). head_item head ∷ items)
     (sym (map-append reply_item done (reply ∷ [])))
 
-passed : (answer : Step) (head : CallHead) (overdue : Bool) (said : Option Told) (done : List Reply)
+passed : (answer : MethodStep) (head : CallHead) (overdue : Bool) (said : Option RequestEnd)
+    (done : List Reply)
     (reply : Reply) (rest waiting : List Reply) (way : Option Ending)
     → waiting ≡ reply ∷ rest → EndsSo answer head overdue said done waiting way
     → EndsSo answer head overdue said (done ++ reply ∷ []) rest way
@@ -113,7 +114,7 @@ passed answer head overdue said done reply rest waiting (Some (ending.Cause caus
 abbrev after_reply : Call → List Reply → Call
 after_reply call rest = record call { handling = record call.handling { waiting = rest } }
 
-give_reply : (said : Option Told) (answer : Step) (call : Call) (given : List OutItem)
+give_reply : (said : Option RequestEnd) (answer : MethodStep) (call : Call) (given : List OutItem)
     (reply : Reply) (rest : List Reply)
     → has_head given ≡ true → call.handling.waiting ≡ reply ∷ rest
     → GivesOf said answer call (live given)
@@ -145,7 +146,8 @@ runs_reply old new given reply rest has waits same =
       ends = λ none. none;
     })
 
-give_head : (said : Option Told) (answer : Step) (call : Call) (given : List OutItem) → given ≡ []
+give_head : (said : Option RequestEnd) (answer : MethodStep) (call : Call) (given : List OutItem)
+    → given ≡ []
     → HeadIsDue call.head call.handling
     → GivesOf said answer call (live given)
     → GivesOf said answer call (live (given ++ head_item call.head ∷ []))
@@ -224,7 +226,7 @@ cut_full head done given status fields begun has is =
     ∙ ap (λ (f : List Field). head_item head ∷ (map reply_item done ++ Trailers f ∷ [])) is
 
 -- what the whole call comes to, by how it ends
-whole : (said : Option Told) (answer : Step) (head : CallHead) (overdue : Bool)
+whole : (said : Option RequestEnd) (answer : MethodStep) (head : CallHead) (overdue : Bool)
     (done waiting : List Reply) (way : Option Ending) (given : List OutItem) (flag : Bool)
     (fields : List Field) (code : ℕ)
     → EndsSo answer head overdue said done waiting way → IsBegun head done given
@@ -257,7 +259,8 @@ whole said answer head overdue done waiting (Some (ending.Cause cause)) given fa
     (λ flagged no_reply. absurd (true_false false flagged refl)))
     (ap (λ (n : ℕ). Some n) trailers.1)
 
-shut : (said : Option Told) (answer : Step) (call : Call) (given : List OutItem) (after : Shown)
+shut : (said : Option RequestEnd) (answer : MethodStep) (call : Call) (given : List OutItem)
+    (after : ResponseView)
     (flag : Bool) (fields : List Field) (code : ℕ)
     → EndsWith (live given) (Trailers fields) code after
     → IsEnding call.handling → HasTrailers flag call.head call.handling.ending fields code
@@ -289,7 +292,7 @@ shut said answer call given after flag fields code (over, inr kept) ending trail
     }
 
 -- the trailers were given, or their place was taken
-pub runs_shut : (call : Call) (given : List OutItem) (after : Shown) (flag : Bool)
+pub runs_shut : (call : Call) (given : List OutItem) (after : ResponseView) (flag : Bool)
     (fields : List Field) (code : ℕ)
     → EndsWith (live given) (Trailers fields) code after
     → IsEnding call.handling → HasTrailers flag call.head call.handling.ending fields code
@@ -305,20 +308,20 @@ runs_shut call given after flag fields code ends ending trailers has empty short
 }
 
 -- nothing was given
-kept : (why : Refused) (MayMiss : Type 0) (room seen : ℕ) (given after : List OutItem)
+kept : (why : GiveRefusal) (MayMiss : Type 0) (room seen : ℕ) (given after : List OutItem)
     → Refuses why MayMiss room seen given after → given ≡ after
 kept refused.Full MayMiss room seen given after is = sym is.0
 kept refused.OutOfMemory MayMiss room seen given after is = sym is
 kept refused.NotTaken MayMiss room seen given after is = sym is.0
 
-pub runs_kept : (call : Call) (why : Refused) (MayMiss : Type 0) (room seen : ℕ)
+pub runs_kept : (call : Call) (why : GiveRefusal) (MayMiss : Type 0) (room seen : ℕ)
     (given after : List OutItem)
     → Refuses why MayMiss room seen given after → RunsOn call (live given) call (live after)
 runs_kept call why MayMiss room seen given after is =
     subst (λ (items : List OutItem). RunsOn call (live given) call (live items))
     (kept why MayMiss room seen given after is) (runs_same call (live given))
 
-pub runs_to : (old new : Call) (before : Shown) (given after : List OutItem) → after ≡ given
+pub runs_to : (old new : Call) (before : ResponseView) (given after : List OutItem) → after ≡ given
     → RunsOn old before new (live given) → RunsOn old before new (live after)
 runs_to old new before given after is runs =
     subst (λ (items : List OutItem). RunsOn old before new (live items)) (sym is) runs

@@ -34,14 +34,14 @@ use Rattle.std.specs.List.{AllZip}
 use Rattle.std.proofs.lemmas.List.{nil_from_length}
 use Rattle.std.proofs.lemmas.List.Elements.{All-head, All-rest, All-same}
 use Rattle.account.specs.declared.call.OutItem.{OutItem}
-use Rattle.account.specs.declared.call.Told.{Told}
-use Rattle.callbox.specs.InSides.{Took}
+use Rattle.account.specs.declared.call.RequestEnd.{RequestEnd}
+use Rattle.callbox.specs.InSides.{TakesMessages}
 use Rattle.callbox.specs.declared.piece.InPiece.{InPiece}
 use Rattle.callbox.specs.declared.taker.Progress.{Progress}
 use Rattle.callbox.specs.declared.taker.Taken.{Taken}
 use Rattle.callhead.specs.declared.head.CallHead.{CallHead}
 use Rattle.handlers.specs.declared.state.MethodState.{MethodState}
-use Rattle.handlers.specs.declared.step.Step.{Step}
+use Rattle.handlers.specs.declared.step.MethodStep.{MethodStep}
 use Rattle.callrun.specs.declared.call.Call.{Call}
 use Rattle.callrun.specs.declared.response.Response.{Response}
 use Rattle.callrun.specs.declared.response.Response.TheVariants as response
@@ -99,12 +99,12 @@ live_is_open of_open of_shut was_placed (response.Left giver) = refl
 live_is_open of_open of_shut was_placed (response.Shut end code) = refl
 live_is_open of_open of_shut was_placed response.Gone = refl
 
-module _ {answers : List (List ℕ) → Bool → Step → Type 0}
-    {stands : MethodState → List (List ℕ) → Step → Type 0} where
+module _ {answers : List (List ℕ) → Bool → MethodStep → Type 0}
+    {stands : MethodState → List (List ℕ) → MethodStep → Type 0} where
   -- of a call that gives nothing more nothing is in hand
   pub closed_run : {G S : Type 0} (of_open : G → List OutItem) (of_shut : S → List OutItem)
       (was_placed : S → Bool) (r : Response G S)
-      (said : Option Told) (messages : List (List ℕ)) (call : Call) (hand : Option Taken)
+      (said : Option RequestEnd) (messages : List (List ℕ)) (call : Call) (hand : Option Taken)
       → is_open r ≡ false
       → HasCome answers stands said messages call hand (shown of_open of_shut was_placed r)
       → HasRun answers stands said messages call (shown of_open of_shut was_placed r)
@@ -137,7 +137,7 @@ some_later None latest later after come = come
 some_later (Some moment) latest later after come = omega arith
 
 -- what was so is so at a later moment
-pub still_run : (answers : List (List ℕ) → Bool → Step → Type 0) (head : CallHead)
+pub still_run : (answers : List (List ℕ) → Bool → MethodStep → Type 0) (head : CallHead)
     (opened latest later : ℕ) (got : List InPiece) (progress : Progress)
     (given : List OutItem) (code : Option ℕ)
     → latest ≤ later → WasRun answers head opened latest got progress given code
@@ -175,29 +175,29 @@ late_so before after last deadline due latest early same kept late is =
 
 -- from a call of which nothing was taken yet to its ends
 pub run_whole : {A G S : Type 0} (found found_then found_last : Option A)
-    (answers : A → List (List ℕ) → Bool → Step → Type 0)
-    (stands : A → MethodState → List (List ℕ) → Step → Type 0)
+    (answers : A → List (List ℕ) → Bool → MethodStep → Type 0)
+    (stands : A → MethodState → List (List ℕ) → MethodStep → Type 0)
     (of_open : G → List OutItem) (of_shut : S → List OutItem) (was_placed : S → Bool)
     (got got_then got_last : List InPiece) (first then last : Progress) (put : List OutItem)
     (call call_then call_last : Call) (hand hand_then hand_last : Option Taken)
     (r r_then r_last : Response G S)
-    (said : Option Told) (head : CallHead) (opened latest : ℕ)
+    (said : Option RequestEnd) (head : CallHead) (opened latest : ℕ)
     (given : List OutItem) (code : Option ℕ)
     → found_then ≡ found → found_last ≡ found → got_last ≡ got_then → last ≡ then
     → IsUntouched got first put → said ≡ None → hand ≡ None → is_open r_last ≡ false
     → call_last.head ≡ head
     → (call_last.overdue ≡ true
     → IsSomeAnd (deadline_of head.timeout opened) (λ deadline. deadline ≤ latest))
-    → ((answer : Step)
+    → ((answer : MethodStep)
     → GivesOf last.told answer call_last (shown of_open of_shut was_placed r_last)
     → IsOutcome call_last.head call_last.overdue last.told answer given code)
     → IfSome found (λ m.
     said ≡ None → put ≡ []
     → HasRun (answers m) (stands m) None [] call (shown of_open of_shut was_placed r))
     → IfSome found_then (λ m.
-    (ms : List (List ℕ)) → Took got first ms
+    (ms : List (List ℕ)) → TakesMessages got first ms
     → HasCome (answers m) (stands m) first.told ms call hand (shown of_open of_shut was_placed r)
-    → (more : List (List ℕ)) × Took got_then
+    → (more : List (List ℕ)) × TakesMessages got_then
     then (ms ++ more)
     × HasCome (answers m) (stands m) then.told (ms ++ more) call_then hand_then
     (shown of_open of_shut was_placed r_then))
@@ -217,16 +217,16 @@ run_whole {A} (Some m) found_then found_last answers stands of_open of_shut was_
     said head opened latest given code same_then same_last same_got same_progress untouched untold
     empty closed same_head late ends fresh turned left =
     let begun =
-    subst (λ (t : Option Told).
+    subst (λ (t : Option RequestEnd).
     HasRun (answers m) (stands m) t [] call (shown of_open of_shut was_placed r)) (sym untouched.1)
     (fresh untold untouched.2) in
     let came = with_none first.told [] call hand (shown of_open of_shut was_placed r) empty begun in
     let turns =
     subst (λ (found : Option A).
     IfSome found (λ m.
-    (ms : List (List ℕ)) → Took got first ms
+    (ms : List (List ℕ)) → TakesMessages got first ms
     → HasCome (answers m) (stands m) first.told ms call hand (shown of_open of_shut was_placed r)
-    → (more : List (List ℕ)) × Took got_then
+    → (more : List (List ℕ)) × TakesMessages got_then
     then (ms ++ more)
     × HasCome (answers m) (stands m) then.told (ms ++ more) call_then hand_then
     (shown of_open of_shut was_placed r_then))) same_then turned in
@@ -246,8 +246,9 @@ run_whole {A} (Some m) found_then found_last answers stands of_open of_shut was_
       messages = [] ++ all.0;
       overdue = call_last.overdue;
       took =
-          subst (λ (items : List InPiece). Took items last ([] ++ all.0)) (sym same_got)
-          (subst (λ (p : Progress). Took got_then p ([] ++ all.0)) (sym same_progress) all.1);
+          subst (λ (items : List InPiece). TakesMessages items last ([] ++ all.0)) (sym same_got)
+          (subst (λ (p : Progress). TakesMessages got_then p ([] ++ all.0))
+          (sym same_progress) all.1);
       late = late;
       outcome = λ answer is.
           subst (λ (h : CallHead). IsOutcome h call_last.overdue last.told answer given code)

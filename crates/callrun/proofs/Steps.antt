@@ -18,10 +18,10 @@ use Rattle.std.proofs.Common.{
 }
 use Rattle.account.specs.Accounts.{Begins}
 use Rattle.account.specs.declared.call.OutItem.{OutItem}
-use Rattle.account.specs.declared.call.Told.{Told}
+use Rattle.account.specs.declared.call.RequestEnd.{RequestEnd}
 use Rattle.callhead.specs.declared.head.CallHead.{CallHead}
 use Rattle.handlers.specs.declared.reply.Reply.{Reply}
-use Rattle.handlers.specs.declared.step.Step.{Step}
+use Rattle.handlers.specs.declared.step.MethodStep.{MethodStep}
 use Rattle.callrun.specs.declared.call.Call.{Call}
 use Rattle.callrun.specs.declared.cause.Cause.{Cause}
 use Rattle.callrun.specs.declared.cause.Cause.TheVariants.{
@@ -40,7 +40,7 @@ use Rattle.callrun.specs.declared.handling.Handling.{Handling}
 use Rattle.callrun.specs.Responses.{response}
 use Rattle.callrun.specs.Outcomes.{Stood, IsBegun, IsOutcome}
 use Rattle.callrun.specs.Handlings.{EndsSo, LastsLong, EndsBy}
-use Rattle.callrun.specs.Sides.{IsOpenTo, Shown, if_placed, left, shown}
+use Rattle.callrun.specs.Sides.{IsOpenTo, ResponseView, if_placed, left, shown}
 use Rattle.callrun.specs.declared.response.Response.{Response}
 use Rattle.callrun.specs.declared.response.Response.TheVariants.{Open, Left, Shut, Gone}
 use Rattle.callrun.specs.Runs.{IsGoing, GivesOf, RunsOn, Leaves}
@@ -54,7 +54,7 @@ some_way way e is none = let both = sym is ∙ none in cc
 
 -- ---- what was given begins the answer
 
-pub front_of : (answer : Step) (head : CallHead) (overdue : Bool) (said : Option Told)
+pub front_of : (answer : MethodStep) (head : CallHead) (overdue : Bool) (said : Option RequestEnd)
     (done waiting : List Reply) (way : Option Ending)
     → EndsSo answer head overdue said done waiting way → Begins done answer.replies
 front_of answer head overdue said done waiting None at = (waiting, at.0)
@@ -62,11 +62,11 @@ front_of answer head overdue said done waiting (Some (ending.Method status)) at 
 front_of answer head overdue said done waiting (Some (ending.Cause cause)) at = at.2
 
 -- what a live call shows
-abbrev pub live : List OutItem → Shown
+abbrev pub live : List OutItem → ResponseView
 live given = record { is_live = true; given = given; code = None }
 
 -- as long as more may be given, what was given is an outcome without trailers
-pub reached : (said : Option Told) (answer : Step) (call : Call) (given : List OutItem)
+pub reached : (said : Option RequestEnd) (answer : MethodStep) (call : Call) (given : List OutItem)
     → IsGoing answer call.head call.overdue said call.handling given
     → GivesOf said answer call (live given)
 reached said answer call given going = record {
@@ -79,7 +79,7 @@ reached said answer call given going = record {
 -- ---- a cause
 
 -- what stood stands still
-still : (cause : Cause) (head : CallHead) (overdue later : Bool) (said : Option Told)
+still : (cause : Cause) (head : CallHead) (overdue later : Bool) (said : Option RequestEnd)
     → (overdue ≡ true → later ≡ true) → Stood cause head overdue said → Stood cause head later said
 still Cancelled head overdue later said stays stood = stood
 still DeadlineExceeded head overdue later said stays stood = stays stood
@@ -90,7 +90,8 @@ still CompressedWithoutEncoding head overdue later said stays stood = stood
 still BadFlag head overdue later said stays stood = stood
 still CutAtEnd head overdue later said stays stood = stood
 
-later_outcome : (head : CallHead) (overdue later : Bool) (said : Option Told) (answer : Step)
+later_outcome : (head : CallHead) (overdue later : Bool) (said : Option RequestEnd)
+    (answer : MethodStep)
     (given : List OutItem) (code : Option ℕ)
     → (overdue ≡ true → later ≡ true)
     → IsOutcome head overdue said answer given code → IsOutcome head later said answer given code
@@ -109,8 +110,8 @@ later_outcome head overdue later said answer given code stays
     IsOutcome.Unended replies begins begun code_is
 
 -- the call ends by a cause: what waits is dropped
-pub going_cut : (cause : Cause) (answer : Step) (head : CallHead) (later : Bool)
-    (next : Option Told) (new : Handling) (done : List Reply) (given : List OutItem)
+pub going_cut : (cause : Cause) (answer : MethodStep) (head : CallHead) (later : Bool)
+    (next : Option RequestEnd) (new : Handling) (done : List Reply) (given : List OutItem)
     → Stood cause head later next → Begins done answer.replies → IsBegun head done given
     → new.waiting ≡ [] → new.ending ≡ Some (ending.Cause cause)
     → IsGoing answer head later next new given
@@ -123,7 +124,8 @@ going_cut cause answer head later next new done given stood begins begun none en
   due = λ no_reply some. inr (subst (λ (way : Option Ending). LastsLong head way) (sym ends) tt);
 }
 
-cut : (cause : Cause) (said : Option Told) (answer : Step) (old new : Call) (before : Shown)
+cut : (cause : Cause) (said : Option RequestEnd) (answer : MethodStep) (old new : Call)
+    (before : ResponseView)
     → old.head ≡ new.head → (old.overdue ≡ true → new.overdue ≡ true)
     → Stood cause new.head new.overdue said → EndsBy cause old.handling new.handling
     → GivesOf said answer old before → GivesOf said answer new before
@@ -140,9 +142,9 @@ cut cause said answer old new before same stays stood ends gives = record {
       same gives.outcome);
 }
 
-pub runs_cut : (cause : Cause) (old new : Call) (before : Shown)
+pub runs_cut : (cause : Cause) (old new : Call) (before : ResponseView)
     → old.head ≡ new.head → (old.overdue ≡ true → new.overdue ≡ true)
-    → ((said : Option Told) → Stood cause new.head new.overdue said)
+    → ((said : Option RequestEnd) → Stood cause new.head new.overdue said)
     → EndsBy cause old.handling new.handling
     → RunsOn old before new before
 runs_cut cause old new before same stays stood ends = record {
@@ -154,11 +156,11 @@ runs_cut cause old new before same stays stood ends = record {
 
 -- ---- nothing changes, or nothing more is given
 
-pub runs_same : (call : Call) (before : Shown) → RunsOn call before call before
+pub runs_same : (call : Call) (before : ResponseView) → RunsOn call before call before
 runs_same call before =
     record { gives = λ said answer gives. gives; state = refl; ends = λ none. none }
 
-leave : (said : Option Told) (answer : Step) (call : Call) (before after : Shown)
+leave : (said : Option RequestEnd) (answer : MethodStep) (call : Call) (before after : ResponseView)
     → Leaves before after → GivesOf said answer call before → GivesOf said answer call after
 leave said answer call before after leaves gives = record {
   going = λ is. absurd (true_false after.is_live is leaves.0);
@@ -170,7 +172,7 @@ leave said answer call before after leaves gives = record {
       (sym leaves.1) gives.outcome);
 }
 
-pub runs_leave : (call : Call) (before after : Shown) → Leaves before after
+pub runs_leave : (call : Call) (before after : ResponseView) → Leaves before after
     → RunsOn call before call after
 runs_leave call before after leaves = record {
   gives = λ said answer gives. leave said answer call before after leaves gives;
@@ -178,7 +180,8 @@ runs_leave call before after leaves = record {
   ends = λ none. none;
 }
 
-pub runs_on : (a b c : Call) (x y z : Shown) → RunsOn a x b y → RunsOn b y c z → RunsOn a x c z
+pub runs_on : (a b c : Call) (x y z : ResponseView) → RunsOn a x b y
+    → RunsOn b y c z → RunsOn a x c z
 runs_on a b c x y z first second = record {
   gives = λ said answer gives. second.gives said answer (first.gives said answer gives);
   state = second.state ∙ first.state;
@@ -218,7 +221,7 @@ module _ {G S : Type 0} where
 
   -- what an open response shows
   pub open_runs : (of_open : G → List OutItem) (of_shut : S → List OutItem) (was_placed : S → Bool)
-      (old new : Call) (response : Response G S) (giver : G) (after : Shown)
+      (old new : Call) (response : Response G S) (giver : G) (after : ResponseView)
       → response ≡ Open giver
       → RunsOn old (live (of_open giver)) new after
       → RunsOn old (shown of_open of_shut was_placed response) new after
@@ -232,7 +235,7 @@ module _ {G S : Type 0} where
 
   -- what an end shows
   pub gives_at : (of_open : G → List OutItem) (of_shut : S → List OutItem) (was_placed : S → Bool)
-      (said : Option Told) (answer : Step) (call : Call) (response other : Response G S)
+      (said : Option RequestEnd) (answer : MethodStep) (call : Call) (response other : Response G S)
       → response ≡ other
       → GivesOf said answer call (shown of_open of_shut was_placed response)
       → GivesOf said answer call (shown of_open of_shut was_placed other)
@@ -241,7 +244,8 @@ module _ {G S : Type 0} where
       GivesOf said answer call (shown of_open of_shut was_placed r)) same gives
 
 -- the status of trailers that were given
-pub placed_outcome : (head : CallHead) (overdue : Bool) (said : Option Told) (answer : Step)
+pub placed_outcome : (head : CallHead) (overdue : Bool) (said : Option RequestEnd)
+    (answer : MethodStep)
     (given : List OutItem) (placed : Bool) (number : ℕ) (code : Option ℕ)
     → code ≡ if_placed placed number
     → IsOutcome head overdue said answer given (if_placed placed number)

@@ -33,8 +33,8 @@ use Rattle.callbox.specs.InSides.{Tells, TellsFault, grown}
 use Rattle.callbox.specs.declared.taker.Taken.{Taken}
 use Rattle.callbox.specs.declared.taker.Taken.TheVariants as taken_as
 use Rattle.account.specs.declared.call.OutItem.{OutItem}
-use Rattle.account.specs.declared.call.Told.{Told}
-use Rattle.account.specs.declared.call.Told.TheVariants as told
+use Rattle.account.specs.declared.call.RequestEnd.{RequestEnd}
+use Rattle.account.specs.declared.call.RequestEnd.TheVariants as told
 use Rattle.callhead.specs.declared.head.CallHead.{CallHead}
 use Rattle.callhead.specs.declared.head.Encoding.{Encoding}
 use Rattle.callhead.specs.declared.head.Encoding.TheVariants.{Identity, Other}
@@ -42,7 +42,7 @@ use Rattle.handlers.specs.declared.fault.MethodFault.{MethodFault}
 use Rattle.handlers.specs.declared.reply.Reply.{Reply}
 use Rattle.handlers.specs.declared.state.MethodState.{MethodState}
 use Rattle.handlers.specs.declared.status.Status.{Status}
-use Rattle.handlers.specs.declared.step.Step.{Step}
+use Rattle.handlers.specs.declared.step.MethodStep.{MethodStep}
 use Rattle.handlers.specs.Steps.{joined, first_status, nothing}
 use Rattle.callrun.specs.declared.call.Call.{Call}
 use Rattle.callrun.specs.declared.cause.Cause.{Cause}
@@ -63,7 +63,7 @@ use Rattle.callrun.specs.Handlings.{
   EndsBy,
   method_ending,
 }
-use Rattle.callrun.specs.Sides.{Shown, is_open, shown}
+use Rattle.callrun.specs.Sides.{ResponseView, is_open, shown}
 use Rattle.callrun.specs.declared.response.Response.{Response}
 use Rattle.callrun.specs.declared.response.Response.TheVariants as response
 use Rattle.callrun.specs.Runs.{HasRun, RunsOn}
@@ -86,23 +86,28 @@ no_method (Some status) is = absurd (cc)
 -- ---- a step of the method
 
 -- what was answered by then, and what a step gave
-joined_so : (answer answered step : Step) (head : CallHead) (overdue : Bool) (said : Option Told)
+joined_so : (answer answered step : MethodStep) (head : CallHead) (overdue : Bool)
+    (said : Option RequestEnd)
     (waiting : List Reply) (ends : Option Status)
     → answer ≡ joined answered step → answered.ends ≡ None → step.ends ≡ ends
     → waiting ≡ step.replies
     → EndsSo answer head overdue said answered.replies waiting (method_ending ends)
 joined_so answer answered step head overdue said waiting None same goes is waits = (
-  ap (λ (s : Step). s.replies) same ∙ ap (λ (r : List Reply). answered.replies ++ r) (sym waits),
-  ap (λ (s : Step). s.ends) same ∙ ap (λ (e : Option Status). first_status e step.ends) goes ∙ is,
+  ap (λ (s : MethodStep). s.replies) same
+      ∙ ap (λ (r : List Reply). answered.replies ++ r) (sym waits),
+  ap (λ (s : MethodStep). s.ends) same
+      ∙ ap (λ (e : Option Status). first_status e step.ends) goes ∙ is,
 )
 joined_so answer answered step head overdue said waiting (Some status) same goes is waits = (
-  ap (λ (s : Step). s.replies) same ∙ ap (λ (r : List Reply). answered.replies ++ r) (sym waits),
-  ap (λ (s : Step). s.ends) same ∙ ap (λ (e : Option Status). first_status e step.ends) goes ∙ is,
+  ap (λ (s : MethodStep). s.replies) same
+      ∙ ap (λ (r : List Reply). answered.replies ++ r) (sym waits),
+  ap (λ (s : MethodStep). s.ends) same
+      ∙ ap (λ (e : Option Status). first_status e step.ends) goes ∙ is,
 )
 
 -- a step that failed ends the call, and what was given begins whatever is answered
-failed_so : (answer answered : Step) (head : CallHead) (overdue : Bool)
-    (said : Option Told) (new : Handling)
+failed_so : (answer answered : MethodStep) (head : CallHead) (overdue : Bool)
+    (said : Option RequestEnd) (new : Handling)
     → (rest : List Reply) × (answer.replies ≡ answered.replies ++ rest)
     → new.waiting ≡ [] → new.ending ≡ Some (ending.Cause OutOfMemory)
     → EndsSo answer head overdue said answered.replies new.waiting new.ending
@@ -111,7 +116,7 @@ failed_so answer answered head overdue said new begins none ends =
     (λ (way : Option Ending). EndsSo answer head overdue said answered.replies new.waiting way)
     (sym ends) (tt, none, begins)
 
-some_end : (answered step : Step) → answered.ends ≡ None → IsSome (joined answered step).ends
+some_end : (answered step : MethodStep) → answered.ends ≡ None → IsSome (joined answered step).ends
     → method_ending step.ends ≡ None → ⊥
 some_end answered step goes some none =
     let ends : (joined answered step).ends ≡ None =
@@ -120,7 +125,7 @@ some_end answered step goes some none =
     cc
 
 -- all that was answered was given
-all_given : (answered : Step) (head : CallHead) (overdue : Bool) (said : Option Told)
+all_given : (answered : MethodStep) (head : CallHead) (overdue : Bool) (said : Option RequestEnd)
     (done waiting : List Reply) (way : Option Ending)
     → waiting ≡ [] → way ≡ None
     → EndsSo answered head overdue said done waiting way → answered.replies ≡ done
@@ -129,16 +134,16 @@ all_given answered head overdue said done waiting None none goes at =
 all_given answered head overdue said done waiting (Some way) none goes at =
     absurd (no_way way (Some way) refl goes)
 
-module _ {answers : List (List ℕ) → Bool → Step → Type 0}
-    {stands : MethodState → List (List ℕ) → Step → Type 0} where
+module _ {answers : List (List ℕ) → Bool → MethodStep → Type 0}
+    {stands : MethodState → List (List ℕ) → MethodStep → Type 0} where
   -- what a message or the end was answered with, behind what was answered before
-  step_each : (messages all : List (List ℕ)) (next : Option Told) (state : MethodState)
-      (new : Handling) (step : Step)
+  step_each : (messages all : List (List ℕ)) (next : Option RequestEnd) (state : MethodState)
+      (new : Handling) (step : MethodStep)
       → IsLawful answers
       → (standing : IsStanding answers stands None messages state)
       → answers all (is_end next) (joined standing.answered step)
       → new.waiting ≡ step.replies → new.ending ≡ method_ending step.ends
-      → (answered answer : Step) → answers messages false answered
+      → (answered answer : MethodStep) → answers messages false answered
       → answers all (is_end next) answer
       → (head : CallHead) (overdue : Bool)
       → EndsSo answer head overdue next answered.replies new.waiting new.ending
@@ -148,21 +153,21 @@ module _ {answers : List (List ℕ) → Bool → Step → Type 0}
       let before = lawful.one messages false answered standing.answered was standing.answer in
       subst (λ (way : Option Ending).
       EndsSo answer head overdue next answered.replies new.waiting way) (sym ends)
-      (subst (λ (s : Step).
+      (subst (λ (s : MethodStep).
       EndsSo answer head overdue next s.replies new.waiting (method_ending step.ends)) (sym before)
       (joined_so answer standing.answered step head overdue next new.waiting step.ends same
       standing.unended refl waits))
 
   -- a message
   pub message_answers : (messages : List (List ℕ)) (message : List ℕ) (old : MethodState)
-      (mid new : Handling) (step : Result Step MethodFault)
+      (mid new : Handling) (step : Result MethodStep MethodFault)
       → IsLawful answers
       → IsStanding answers stands None messages old
       → IfOk step (λ s.
-      (ms : List (List ℕ)) (given : Step) → stands old ms given
+      (ms : List (List ℕ)) (given : MethodStep) → stands old ms given
       → stands mid.state (ms ++ message ∷ []) (joined given s))
       → IfOk step (λ s.
-      (ms : List (List ℕ)) (given : Step) → stands old ms given
+      (ms : List (List ℕ)) (given : MethodStep) → stands old ms given
       → answers (ms ++ message ∷ []) false (joined given s))
       → Accepts step mid new → Answers answers stands None messages (messages ++ message ∷ []) new
   message_answers messages message old mid new (Ok step) lawful standing stays joins
@@ -193,11 +198,12 @@ module _ {answers : List (List ℕ) → Bool → Step → Type 0}
 
   -- the end
   pub end_answers : (messages : List (List ℕ)) (old : MethodState) (mid new : Handling)
-      (step : Result Step MethodFault)
+      (step : Result MethodStep MethodFault)
       → IsLawful answers
       → IsStanding answers stands None messages old
       → IfOk step (λ s.
-      (ms : List (List ℕ)) (given : Step) → stands old ms given → answers ms true (joined given s))
+      (ms : List (List ℕ)) (given : MethodStep) → stands old ms given
+      → answers ms true (joined given s))
       → Accepts step mid new → Answers answers stands (Some told.End) messages messages new
   end_answers messages old mid new (Ok step) lawful standing joins accepts =
       let whole = joins messages standing.answered standing.standing in
@@ -221,7 +227,7 @@ module _ {answers : List (List ℕ) → Bool → Step → Type 0}
   -- ---- the whole call
 
   -- the method answered
-  answer_run : (next : Option Told) (messages all : List (List ℕ)) (old new : Call)
+  answer_run : (next : Option RequestEnd) (messages all : List (List ℕ)) (old new : Call)
       (given : List OutItem)
       → IsReady old.handling → new.head ≡ old.head → new.overdue ≡ old.overdue
       → Answers answers stands next messages all new.handling
@@ -250,7 +256,7 @@ module _ {answers : List (List ℕ) → Bool → Step → Type 0}
         standing = made.standing;
       }
 
-  pub message_run : (said next : Option Told) (messages all : List (List ℕ)) (old new : Call)
+  pub message_run : (said next : Option RequestEnd) (messages all : List (List ℕ)) (old new : Call)
       (given : List OutItem)
       → next ≡ said → IsReady old.handling → new.head ≡ old.head → new.overdue ≡ old.overdue
       → (IsLawful answers → IsStanding answers stands None messages old.handling.state
@@ -260,13 +266,14 @@ module _ {answers : List (List ℕ) → Bool → Step → Type 0}
   message_run said next messages all old new given same ready same_head same_overdue made run =
       let untold = (run.standing ready.1).untold in
       let before =
-      subst (λ (t : Option Told). HasRun answers stands t messages old (live given)) untold run in
-      subst (λ (t : Option Told). HasRun answers stands t all new (live given))
+      subst (λ (t : Option RequestEnd).
+      HasRun answers stands t messages old (live given)) untold run in
+      subst (λ (t : Option RequestEnd). HasRun answers stands t all new (live given))
       (sym (same ∙ untold))
       (answer_run None messages all old new given ready same_head same_overdue
       (made run.lawful (before.standing ready.1)) before)
 
-  pub end_run : (said next : Option Told) (messages : List (List ℕ)) (old new : Call)
+  pub end_run : (said next : Option RequestEnd) (messages : List (List ℕ)) (old new : Call)
       (given : List OutItem)
       → next ≡ Some told.End → IsReady old.handling → new.head ≡ old.head
       → new.overdue ≡ old.overdue
@@ -277,13 +284,15 @@ module _ {answers : List (List ℕ) → Bool → Step → Type 0}
   end_run said next messages old new given same ready same_head same_overdue made run =
       let untold = (run.standing ready.1).untold in
       let before =
-      subst (λ (t : Option Told). HasRun answers stands t messages old (live given)) untold run in
-      subst (λ (t : Option Told). HasRun answers stands t messages new (live given)) (sym same)
+      subst (λ (t : Option RequestEnd).
+      HasRun answers stands t messages old (live given)) untold run in
+      subst (λ (t : Option RequestEnd).
+      HasRun answers stands t messages new (live given)) (sym same)
       (answer_run (Some told.End) messages messages old new given ready same_head same_overdue
       (made run.lawful (before.standing ready.1)) before)
 
   -- what was told ends the call
-  pub cut_run : (cause : Cause) (said next : Option Told) (messages : List (List ℕ))
+  pub cut_run : (cause : Cause) (said next : Option RequestEnd) (messages : List (List ℕ))
       (old new : Call) (given : List OutItem)
       → IsReady old.handling → new.head ≡ old.head → new.overdue ≡ old.overdue
       → EndsBy cause old.handling new.handling
@@ -308,18 +317,18 @@ module _ {answers : List (List ℕ) → Bool → Step → Type 0}
       }
 
   -- nothing was told
-  pub same_run : (said next : Option Told) (messages : List (List ℕ)) (call : Call)
+  pub same_run : (said next : Option RequestEnd) (messages : List (List ℕ)) (call : Call)
       (given : List OutItem)
       → (said ≡ None) × (next ≡ None)
       → HasRun answers stands said messages call (live given)
       → HasRun answers stands next messages call (live given)
   same_run said next messages call given same run =
-      subst (λ (t : Option Told). HasRun answers stands t messages call (live given))
+      subst (λ (t : Option RequestEnd). HasRun answers stands t messages call (live given))
       (same.0 ∙ sym same.1) run
 
   -- a step in which nothing is taken
-  pub step_run : (said : Option Told) (messages : List (List ℕ)) (old new : Call)
-      (before after : Shown)
+  pub step_run : (said : Option RequestEnd) (messages : List (List ℕ)) (old new : Call)
+      (before after : ResponseView)
       → RunsOn old before new after
       → HasRun answers stands said messages old before
       → HasRun answers stands said messages new after
@@ -331,18 +340,18 @@ module _ {answers : List (List ℕ) → Bool → Step → Type 0}
         (run.standing (step.ends none));
   }
 
-not_end : (said next : Option Told) (f : LpmFault) → said ≡ None → next ≡ Some (told.Fault f)
+not_end : (said next : Option RequestEnd) (f : LpmFault) → said ≡ None → next ≡ Some (told.Fault f)
     → is_end next ≡ is_end said
 not_end said next f none is = ap is_end is ∙ sym (ap is_end none)
 
-pub reset_stood : (code : ℕ) (head : CallHead) (overdue : Bool) (said next : Option Told)
+pub reset_stood : (code : ℕ) (head : CallHead) (overdue : Bool) (said next : Option RequestEnd)
     → next ≡ Some (told.Reset code) → said ≡ None
     → ((c : ℕ) × (next ≡ Some (told.Reset c))) × (is_end next ≡ is_end said)
 reset_stood code head overdue said next is none = ((code, is), ap is_end is ∙ sym (ap is_end none))
 
 -- the cause of a fault that was told stood
 pub fault_stood : (f : LpmFault) (head : CallHead) (encoding : Encoding) (overdue : Bool)
-    (said next : Option Told)
+    (said next : Option RequestEnd)
     → head.encoding ≡ encoding → TellsFault f said next → said ≡ None
     → Stood (cause_of f encoding) head overdue next × (is_end next ≡ is_end said)
 fault_stood fault.Compressed head Other overdue said next by tells none =
@@ -359,9 +368,10 @@ fault_stood fault.OutOfMemory head encoding overdue said next by tells none = (t
 
 -- ---- by what was taken
 
-module _ (answers : List (List ℕ) → Bool → Step → Type 0)
-    (stands : MethodState → List (List ℕ) → Step → Type 0) where
-  pub by_message : (taken : Taken) (message : List ℕ) (old new : Call) (said next : Option Told)
+module _ (answers : List (List ℕ) → Bool → MethodStep → Type 0)
+    (stands : MethodState → List (List ℕ) → MethodStep → Type 0) where
+  pub by_message : (taken : Taken) (message : List ℕ) (old new : Call)
+      (said next : Option RequestEnd)
       (messages : List (List ℕ)) (given : List OutItem)
       → taken ≡ taken_as.Message message
       → IsReady old.handling → new.head ≡ old.head → new.overdue ≡ old.overdue
@@ -375,7 +385,8 @@ module _ (answers : List (List ℕ) → Bool → Step → Type 0)
       (message_run said next messages (messages ++ message ∷ []) old new given
       (subst (λ (t : Taken). Tells t said next) is tells) ready same_head same_overdue made run)
 
-  pub by_end : (taken : Taken) (old new : Call) (said next : Option Told) (messages : List (List ℕ))
+  pub by_end : (taken : Taken) (old new : Call) (said next : Option RequestEnd)
+      (messages : List (List ℕ))
       (given : List OutItem)
       → taken ≡ taken_as.End
       → IsReady old.handling → new.head ≡ old.head → new.overdue ≡ old.overdue
@@ -388,7 +399,7 @@ module _ (answers : List (List ℕ) → Bool → Step → Type 0)
       (end_run said next messages old new given (subst (λ (t : Taken). Tells t said next) is tells)
       ready same_head same_overdue made run)
 
-  pub by_nothing : (taken : Taken) (call : Call) (said next : Option Told)
+  pub by_nothing : (taken : Taken) (call : Call) (said next : Option RequestEnd)
       (messages : List (List ℕ)) (given : List OutItem)
       → taken ≡ taken_as.Nothing
       → Tells taken said next → HasRun answers stands said messages call (live given)
@@ -399,7 +410,7 @@ module _ (answers : List (List ℕ) → Bool → Step → Type 0)
       (same_run said next messages call given
       (subst (λ (t : Taken). Tells t said next) is tells) run)
 
-  pub by_reset : (taken : Taken) (code : ℕ) (old new : Call) (said next : Option Told)
+  pub by_reset : (taken : Taken) (code : ℕ) (old new : Call) (said next : Option RequestEnd)
       (messages : List (List ℕ)) (given : List OutItem)
       → taken ≡ taken_as.Reset code
       → IsReady old.handling → new.head ≡ old.head → new.overdue ≡ old.overdue
@@ -413,7 +424,7 @@ module _ (answers : List (List ℕ) → Bool → Step → Type 0)
       (reset_stood code new.head new.overdue said next
       (subst (λ (t : Taken). Tells t said next) is tells)) run)
 
-  pub by_fault : (taken : Taken) (f : LpmFault) (old new : Call) (said next : Option Told)
+  pub by_fault : (taken : Taken) (f : LpmFault) (old new : Call) (said next : Option RequestEnd)
       (messages : List (List ℕ)) (given : List OutItem)
       → taken ≡ taken_as.Fault f
       → IsReady old.handling → new.head ≡ old.head → new.overdue ≡ old.overdue
@@ -430,7 +441,7 @@ module _ (answers : List (List ℕ) → Bool → Step → Type 0)
   -- ---- a call whose response is open
 
   pub opened_run : {G S : Type 0} (of_open : G → List OutItem) (of_shut : S → List OutItem)
-      (was_placed : S → Bool) (r : Response G S) (said next : Option Told)
+      (was_placed : S → Bool) (r : Response G S) (said next : Option RequestEnd)
       (messages all : List (List ℕ)) (old new : Call)
       → is_open r ≡ true
       → ((given : List OutItem) → HasRun answers stands said messages old (live given)
@@ -459,8 +470,11 @@ module _ (answers : List (List ℕ) → Bool → Step → Type 0)
           done = [];
           at =
               subst (λ (way : Option Ending).
-              EndsSo answer call.head call.overdue None [] call.handling.waiting way) (sym ready.1)
-              (ap (λ (s : Step). s.replies) same ∙ sym ready.0, ap (λ (s : Step). s.ends) same);
+              EndsSo answer call.head call.overdue None [] call.handling.waiting
+              way) (sym ready.1) (
+                ap (λ (s : MethodStep). s.replies) same ∙ sym ready.0,
+                ap (λ (s : MethodStep). s.ends) same,
+              );
           begun = inl (refl, empty);
           due = λ no_reply some. absurd (some empty);
         });
@@ -499,10 +513,10 @@ pub if_is : {A : Type 0} (found : Option A) (x : A) (Q : A → Type 0) → Some 
 if_is found x Q is holds = subst (λ o. IfSome o Q) is holds
 
 -- what a turn takes
-module _ {answers : List (List ℕ) → Bool → Step → Type 0}
-    {stands : MethodState → List (List ℕ) → Step → Type 0} where
-  pub taken_run : (Holds : List (List ℕ) → Type 0) (taken : Taken) (next : Option Told)
-      (messages : List (List ℕ)) (call : Call) (after : Shown)
+module _ {answers : List (List ℕ) → Bool → MethodStep → Type 0}
+    {stands : MethodState → List (List ℕ) → MethodStep → Type 0} where
+  pub taken_run : (Holds : List (List ℕ) → Type 0) (taken : Taken) (next : Option RequestEnd)
+      (messages : List (List ℕ)) (call : Call) (after : ResponseView)
       → Holds (grown messages taken)
       → HasRun answers stands next (grown messages taken) call after
       → (more : List (List ℕ)) × Holds (messages ++ more)
@@ -514,8 +528,9 @@ module _ {answers : List (List ℕ) → Bool → Step → Type 0}
         (grown_more taken messages) run,
   )
 
-  pub kept_run : (Holds : List (List ℕ) → Type 0) (next : Option Told) (messages : List (List ℕ))
-      (call : Call) (after : Shown)
+  pub kept_run : (Holds : List (List ℕ) → Type 0) (next : Option RequestEnd)
+      (messages : List (List ℕ))
+      (call : Call) (after : ResponseView)
       → Holds messages
       → HasRun answers stands next messages call after
       → (more : List (List ℕ)) × Holds (messages ++ more)

@@ -16,9 +16,9 @@ use Rattle.std.specs.Prelude.{
 }
 use Rattle.std.proofs.Common.{inl}
 use Rattle.account.specs.declared.call.OutItem.TheVariants.{Head, Trailers}
-use Rattle.account.specs.declared.call.Told.{Told}
+use Rattle.account.specs.declared.call.RequestEnd.{RequestEnd}
 use Rattle.account.specs.declared.call.OutItem.{OutItem}
-use Rattle.callbox.specs.InSides.{Took}
+use Rattle.callbox.specs.InSides.{TakesMessages}
 use Rattle.callbox.specs.declared.piece.InPiece.{InPiece}
 use Rattle.callbox.specs.declared.taker.Progress.{Progress}
 use Rattle.callhead.specs.declared.head.CallHead.{CallHead}
@@ -26,7 +26,7 @@ use Rattle.callhead.specs.declared.head.Encoding.TheVariants.{Identity}
 use Rattle.callhead.specs.StatusFields.{response_fields, status_fields, trailers_only}
 use Rattle.handlers.specs.declared.reply.Reply.TheVariants.{Zeros}
 use Rattle.handlers.specs.Statuses.{ok_status}
-use Rattle.handlers.specs.declared.step.Step.{Step}
+use Rattle.handlers.specs.declared.step.MethodStep.{MethodStep}
 use Rattle.callrun.specs.declared.cause.Cause.TheVariants.{Cancelled, DeadlineExceeded}
 use Rattle.callrun.specs.Listings.{WasRun}
 use Rattle.callrun.specs.Outcomes.{IsOutcome, Stood}
@@ -76,12 +76,12 @@ five_milliseconds : deadline_of (Some 5000000) 1000 ≡ Some 5001000
 five_milliseconds = refl
 
 -- before the deadline no call ends by it
-not_before : (said : Option Told) → Stood DeadlineExceeded plain false said → false ≡ true
+not_before : (said : Option RequestEnd) → Stood DeadlineExceeded plain false said → false ≡ true
 not_before said stood = stood
 
 -- a call that was left before its first turn was given nothing
-left_at_once : (answers : List (List ℕ) → Bool → Step → Type 0) (progress : Progress)
-    → Took [] progress [] → WasRun answers plain 0 0 [] progress [] None
+left_at_once : (answers : List (List ℕ) → Bool → MethodStep → Type 0) (progress : Progress)
+    → TakesMessages [] progress [] → WasRun answers plain 0 0 [] progress [] None
 left_at_once answers progress took = record {
   messages = [];
   overdue = false;
@@ -91,7 +91,7 @@ left_at_once answers progress took = record {
 }
 
 -- the deadline of a call without a timeout never comes
-never_late : (answers : List (List ℕ) → Bool → Step → Type 0) (opened latest : ℕ)
+never_late : (answers : List (List ℕ) → Bool → MethodStep → Type 0) (opened latest : ℕ)
     (got : List InPiece) (progress : Progress) (given : List OutItem) (code : Option ℕ)
     → (run : WasRun answers plain opened latest got progress given code) → run.overdue ≡ true → ⊥
 never_late answers opened latest got progress given code run = run.late

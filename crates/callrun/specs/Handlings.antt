@@ -18,13 +18,13 @@ use Rattle.std.specs.Prelude.{
   Err,
 }
 use Rattle.account.specs.Accounts.{Begins}
-use Rattle.account.specs.declared.call.Told.{Told}
+use Rattle.account.specs.declared.call.RequestEnd.{RequestEnd}
 use Rattle.callhead.specs.declared.head.CallHead.{CallHead}
 use Rattle.handlers.specs.declared.fault.MethodFault.{MethodFault}
 use Rattle.handlers.specs.declared.reply.Reply.{Reply}
 use Rattle.handlers.specs.declared.state.MethodState.{MethodState}
 use Rattle.handlers.specs.declared.status.Status.{Status}
-use Rattle.handlers.specs.declared.step.Step.{Step}
+use Rattle.handlers.specs.declared.step.MethodStep.{MethodStep}
 use Rattle.callrun.specs.declared.cause.Cause.{Cause}
 use Rattle.callrun.specs.declared.cause.Cause.TheVariants.{
   Cancelled,
@@ -55,7 +55,7 @@ is_memory CutAtEnd = false
 -- ---- what is left of an answer
 
 -- These replies of the method's answer were given, and these wait, as the call's end has it.
-abbrev pub EndsSo : Step → CallHead → Bool → Option Told → List Reply → List Reply
+abbrev pub EndsSo : MethodStep → CallHead → Bool → Option RequestEnd → List Reply → List Reply
     → Option Ending → Type 0
 EndsSo answer head overdue said done waiting None =
     (answer.replies ≡ done ++ waiting) × (answer.ends ≡ None)
@@ -82,10 +82,10 @@ lacks_memory (Some (ending.Cause cause)) = is_memory cause
 -- ---- what the method's state stands for
 
 -- The call goes on: the state stands for the messages that were taken, and nothing was told.
-pub record IsStanding (answers : List (List ℕ) → Bool → Step → Type 0)
-    (stands : MethodState → List (List ℕ) → Step → Type 0)
-    (said : Option Told) (messages : List (List ℕ)) (state : MethodState) : Type 0 where
-  pub answered : Step
+pub record IsStanding (answers : List (List ℕ) → Bool → MethodStep → Type 0)
+    (stands : MethodState → List (List ℕ) → MethodStep → Type 0)
+    (said : Option RequestEnd) (messages : List (List ℕ)) (state : MethodState) : Type 0 where
+  pub answered : MethodStep
   pub standing : stands state messages answered
   pub answer : answers messages false answered
   pub unended : answered.ends ≡ None
@@ -107,17 +107,17 @@ EndsBy cause old new =
     (new.state ≡ old.state) × (new.waiting ≡ []) × (new.ending ≡ Some (ending.Cause cause))
 
 -- what a step gave waits, and the call ends as it says
-abbrev pub Accepts : Result Step MethodFault → Handling → Handling → Type 0
+abbrev pub Accepts : Result MethodStep MethodFault → Handling → Handling → Type 0
 Accepts (Ok step) old new =
     (new.state ≡ old.state) × (new.waiting ≡ step.replies) × (new.ending ≡ method_ending step.ends)
 Accepts (Err fault) old new = EndsBy OutOfMemory old new
 
 -- A method answers a message, or the end: what it answered before was given, and the whole answer
 -- now begins with that.
-pub record Answers (answers : List (List ℕ) → Bool → Step → Type 0)
-    (stands : MethodState → List (List ℕ) → Step → Type 0)
-    (next : Option Told) (messages all : List (List ℕ)) (new : Handling) : Type 0 where
-  pub each : (answered answer : Step) → answers messages false answered
+pub record Answers (answers : List (List ℕ) → Bool → MethodStep → Type 0)
+    (stands : MethodState → List (List ℕ) → MethodStep → Type 0)
+    (next : Option RequestEnd) (messages all : List (List ℕ)) (new : Handling) : Type 0 where
+  pub each : (answered answer : MethodStep) → answers messages false answered
       → answers all (is_end next) answer
       → (head : CallHead) (overdue : Bool)
       → EndsSo answer head overdue next answered.replies new.waiting new.ending

@@ -18,14 +18,14 @@ use Rattle.std.specs.Prelude.{
 use Rattle.lpm.specs.declared.fault.LpmFault.TheVariants as fault
 use Rattle.account.specs.Accounts.{Begins}
 use Rattle.account.specs.declared.call.OutItem.{OutItem}
-use Rattle.account.specs.declared.call.Told.{Told}
-use Rattle.account.specs.declared.call.Told.TheVariants as told
+use Rattle.account.specs.declared.call.RequestEnd.{RequestEnd}
+use Rattle.account.specs.declared.call.RequestEnd.TheVariants as told
 use Rattle.callhead.specs.declared.head.CallHead.{CallHead}
 use Rattle.callhead.specs.declared.head.Encoding.TheVariants.{Identity, Other}
 use Rattle.grpc_status.specs.StatusCode.{status_number}
 use Rattle.handlers.specs.declared.reply.Reply.{Reply}
 use Rattle.handlers.specs.declared.status.Status.{Status}
-use Rattle.handlers.specs.declared.step.Step.{Step}
+use Rattle.handlers.specs.declared.step.MethodStep.{MethodStep}
 use Rattle.callrun.specs.declared.cause.Cause.{Cause}
 use Rattle.callrun.specs.declared.cause.Cause.TheVariants.{
   Cancelled,
@@ -41,7 +41,7 @@ use Rattle.callrun.specs.Statuses.{status_of}
 use Rattle.callrun.specs.Responses.{head_item, reply_item, full_response, response}
 
 -- whether the end was told
-abbrev pub is_end : Option Told → Bool
+abbrev pub is_end : Option RequestEnd → Bool
 is_end None = false
 is_end (Some told.End) = true
 is_end (Some (told.Reset code)) = false
@@ -49,7 +49,7 @@ is_end (Some (told.Fault fault)) = false
 
 -- A cause for which the server ends a call is there: in what was told, or because the deadline has
 -- come. Want of memory leaves no trace.
-abbrev pub Stood : Cause → CallHead → Bool → Option Told → Type 0
+abbrev pub Stood : Cause → CallHead → Bool → Option RequestEnd → Type 0
 Stood Cancelled head overdue said = (code : ℕ) × (said ≡ Some (told.Reset code))
 Stood DeadlineExceeded head overdue said = overdue ≡ true
 Stood MessageTooLong head overdue said = said ≡ Some (told.Fault fault.TooLong)
@@ -67,7 +67,8 @@ IsBegun head replies given =
     ((replies ≡ []) × (given ≡ [])) ⊎ (given ≡ head_item head ∷ map reply_item replies)
 
 -- The items that were given, and the status of their trailers.
-pub data IsOutcome (head : CallHead) (overdue : Bool) (said : Option Told) (answer : Step)
+pub data IsOutcome (head : CallHead) (overdue : Bool) (said : Option RequestEnd)
+    (answer : MethodStep)
     (given : List OutItem) (code : Option ℕ) : Type 0 where
   -- the whole answer of the method
   Whole : (status : Status) → answer.ends ≡ Some status

@@ -20,12 +20,12 @@ use Rattle.std.specs.Prelude.{
   ◌+◌,
 }
 use Rattle.account.specs.declared.call.OutItem.{OutItem}
-use Rattle.account.specs.declared.call.Told.{Told}
+use Rattle.account.specs.declared.call.RequestEnd.{RequestEnd}
 use Rattle.grpc_status.specs.StatusCode.{status_number}
 use Rattle.handlers.specs.declared.reply.Reply.{Reply}
 use Rattle.handlers.specs.declared.state.MethodState.{MethodState}
 use Rattle.handlers.specs.declared.status.Status.{Status}
-use Rattle.handlers.specs.declared.step.Step.{Step}
+use Rattle.handlers.specs.declared.step.MethodStep.{MethodStep}
 use Rattle.lists.specs.declared.field.Field.{Field}
 use Rattle.callhead.specs.StatusFields.{response_fields}
 use Rattle.callrun.specs.declared.ending.Ending.{Ending}
@@ -40,10 +40,11 @@ use Rattle.callbox.specs.declared.taker.Taken.{Taken}
 use Rattle.callbox.specs.declared.taker.Taken.TheVariants as taken_as
 use Rattle.callrun.specs.Handlings.{EndsSo, HeadIsDue, IsReady, IsStanding, lacks_memory}
 use Rattle.callrun.specs.Outcomes.{IsBegun, IsOutcome, is_end}
-use Rattle.callrun.specs.Sides.{Shown}
+use Rattle.callrun.specs.Sides.{ResponseView}
 
 -- More may be given: these replies of the method's answer were given, after a head.
-pub record IsGoing (answer : Step) (head : CallHead) (overdue : Bool) (said : Option Told)
+pub record IsGoing (answer : MethodStep) (head : CallHead) (overdue : Bool)
+    (said : Option RequestEnd)
     (handling : Handling) (given : List OutItem) : Type 0 where
   pub done : List Reply
   pub at : EndsSo answer head overdue said done handling.waiting handling.ending
@@ -51,49 +52,51 @@ pub record IsGoing (answer : Step) (head : CallHead) (overdue : Bool) (said : Op
   pub due : done ≡ [] → given ≢ [] → HeadIsDue head handling
 
 -- What was given is an outcome of the method's answer.
-pub record GivesOf (said : Option Told) (answer : Step) (call : Call) (shown : Shown) : Type 0 where
+pub record GivesOf (said : Option RequestEnd) (answer : MethodStep) (call : Call)
+    (shown : ResponseView) : Type 0 where
   pub going : shown.is_live ≡ true
       → IsGoing answer call.head call.overdue said call.handling shown.given
   pub outcome : IsOutcome call.head call.overdue said answer shown.given shown.code
 
 -- To the messages that were taken these items were given: an outcome of what the method answers,
 -- whatever that is. As long as no end is due, the method's state stands for the messages.
-pub record HasRun (answers : List (List ℕ) → Bool → Step → Type 0)
-    (stands : MethodState → List (List ℕ) → Step → Type 0)
-    (said : Option Told) (messages : List (List ℕ)) (call : Call) (shown : Shown) : Type 0 where
+pub record HasRun (answers : List (List ℕ) → Bool → MethodStep → Type 0)
+    (stands : MethodState → List (List ℕ) → MethodStep → Type 0)
+    (said : Option RequestEnd) (messages : List (List ℕ)) (call : Call)
+    (shown : ResponseView) : Type 0 where
   pub lawful : IsLawful answers
-  pub each : (answer : Step) → answers messages (is_end said) answer
+  pub each : (answer : MethodStep) → answers messages (is_end said) answer
       → GivesOf said answer call shown
   pub standing : call.handling.ending ≡ None
       → IsStanding answers stands said messages call.handling.state
 
 -- what was given answers the messages without the one in hand
-abbrev pub ComesTo : (List (List ℕ) → Bool → Step → Type 0)
-    → (MethodState → List (List ℕ) → Step → Type 0)
-    → Option Told → List (List ℕ) → Call → Shown → Option Taken → Type 0
+abbrev pub ComesTo : (List (List ℕ) → Bool → MethodStep → Type 0)
+    → (MethodState → List (List ℕ) → MethodStep → Type 0)
+    → Option RequestEnd → List (List ℕ) → Call → ResponseView → Option Taken → Type 0
 ComesTo answers stands said messages call shown None =
     HasRun answers stands said messages call shown
 ComesTo answers stands said messages call shown (Some taken) =
-    (before : Option Told) × (handled : List (List ℕ)) × Tells taken before said
+    (before : Option RequestEnd) × (handled : List (List ℕ)) × Tells taken before said
     × (messages ≡ grown handled taken)
     × IsReady call.handling × (shown.is_live ≡ true)
     × HasRun answers stands before handled call shown
 
 -- These messages lead to the call. The last thing that was taken may be in hand: the method hasn't
 -- got it yet.
-pub record HasCome (answers : List (List ℕ) → Bool → Step → Type 0)
-    (stands : MethodState → List (List ℕ) → Step → Type 0)
-    (said : Option Told) (messages : List (List ℕ)) (call : Call) (hand : Option Taken)
-    (shown : Shown) : Type 0 where
+pub record HasCome (answers : List (List ℕ) → Bool → MethodStep → Type 0)
+    (stands : MethodState → List (List ℕ) → MethodStep → Type 0)
+    (said : Option RequestEnd) (messages : List (List ℕ)) (call : Call) (hand : Option Taken)
+    (shown : ResponseView) : Type 0 where
   pub come : ComesTo answers stands said messages call shown hand
 
 -- Nothing is in hand, and what comes next may be taken.
-abbrev pub MayTake : Option Taken → Call → Shown → Type 0
+abbrev pub MayTake : Option Taken → Call → ResponseView → Type 0
 MayTake hand call shown = (hand ≡ None) × IsReady call.handling × (shown.is_live ≡ true)
 
 -- A look at a call takes nothing, or one thing, which is in hand then.
-abbrev pub TakesAhead : (List (List ℕ) → Type 0) → List (List ℕ) → Option Taken → Option Told
-    → Option Taken → Option Told → Type 0
+abbrev pub TakesAhead : (List (List ℕ) → Type 0) → List (List ℕ) → Option Taken → Option RequestEnd
+    → Option Taken → Option RequestEnd → Type 0
 TakesAhead Holds messages old_hand old_said new_hand new_said =
     ((new_hand ≡ old_hand) × (new_said ≡ old_said) × Holds messages)
     ⊎ ((taken : Taken) × (new_hand ≡ Some taken) × Tells taken old_said new_said
@@ -101,12 +104,12 @@ TakesAhead Holds messages old_hand old_said new_hand new_said =
 
 -- what a turn that did something did
 -- one item was given
-abbrev pub GivesOne : Shown → Shown → Type 0
+abbrev pub GivesOne : ResponseView → ResponseView → Type 0
 GivesOne before after = (item : OutItem) × (after.given ≡ before.given ++ item ∷ [])
 
 -- one thing was taken
-abbrev pub TakesOne : (List (List ℕ) → Type 0) → (List (List ℕ) → Type 0) → Option Told
-    → Option Told → Type 0
+abbrev pub TakesOne : (List (List ℕ) → Type 0) → (List (List ℕ) → Type 0) → Option RequestEnd
+    → Option RequestEnd → Type 0
 TakesOne Held Holds old_said new_said =
     (taken : Taken) × (taken ≢ taken_as.Nothing) × Tells taken old_said new_said
     × ((messages : List (List ℕ)) → Held messages → Holds (grown messages taken))
@@ -117,20 +120,21 @@ RunsOut old new = (lacks_memory new.handling.ending ≡ true)
     × ((lacks_memory old.handling.ending ≡ false) ⊎ ((old.overdue ≡ false) × (new.overdue ≡ true)))
 
 -- a step that takes nothing, so the method's answer stays
-pub record RunsOn (old : Call) (before : Shown) (new : Call) (after : Shown) : Type 0 where
-  pub gives : (said : Option Told) (answer : Step) → GivesOf said answer old before
+pub record RunsOn (old : Call) (before : ResponseView) (new : Call)
+    (after : ResponseView) : Type 0 where
+  pub gives : (said : Option RequestEnd) (answer : MethodStep) → GivesOf said answer old before
       → GivesOf said answer new after
   pub state : new.handling.state ≡ old.handling.state
   pub ends : new.handling.ending ≡ None → old.handling.ending ≡ None
 
 -- the trailers were given, or their place was taken
-abbrev pub EndsWith : Shown → OutItem → ℕ → Shown → Type 0
+abbrev pub EndsWith : ResponseView → OutItem → ℕ → ResponseView → Type 0
 EndsWith before item code after = (after.is_live ≡ false)
     × (((after.given ≡ before.given ++ item ∷ []) × (after.code ≡ Some code))
     ⊎ ((after.given ≡ before.given) × (after.code ≡ None)))
 
 -- nothing more is given
-abbrev pub Leaves : Shown → Shown → Type 0
+abbrev pub Leaves : ResponseView → ResponseView → Type 0
 Leaves before after =
     (after.is_live ≡ false) × (after.given ≡ before.given) × (after.code ≡ before.code)
 

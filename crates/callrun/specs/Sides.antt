@@ -9,7 +9,7 @@ use Rattle.callrun.specs.declared.response.Response.{Response}
 use Rattle.callrun.specs.declared.response.Response.TheVariants.{Open, Left, Shut, Gone}
 
 -- whether more may be given, what was given, and the status of the trailers among it
-pub record Shown : Type 0 where
+pub record ResponseView : Type 0 where
   pub is_live : Bool
   pub given : List OutItem
   pub code : Option ℕ
@@ -53,7 +53,8 @@ module _ {G S : Type 0} where
   left (Shut end code) = Shut end code
   left Gone = Gone
 
-  abbrev pub shown : (G → List OutItem) → (S → List OutItem) → (S → Bool) → Response G S → Shown
+  abbrev pub shown : (G → List OutItem) → (S → List OutItem) → (S → Bool)
+      → Response G S → ResponseView
   shown of_open of_shut was_placed (Open giver) =
       record { is_live = true; given = of_open giver; code = None }
   shown of_open of_shut was_placed (Left giver) =
@@ -78,7 +79,8 @@ module _ {G S : Type 0} where
 
 module _ {L In Out Shut : Type 0} {lane : Ghosts L OutItem In Out Shut} where
   -- what was given over the lane, and the status of the trailers, if they had their place
-  abbrev pub given_over : Response (Giver L In Out Shut lane) (GivenShut L In Out Shut lane) → Shown
+  abbrev pub given_over : Response (Giver L In Out Shut lane) (GivenShut L In Out Shut lane)
+      → ResponseView
   given_over response =
       shown (λ g. lane.put_in g.tx) (λ s. lane.put_shut s.shut)
       (λ s. lane.was_placed s.shut) response

@@ -20,11 +20,11 @@ ghost use Rattle.std.specs.Prelude.{
 };
 ghost use Rattle.callbox.specs.InSides.{Tells, grown};
 ghost use Rattle.account.specs.declared.call.OutItem.{OutItem as Item};
-ghost use Rattle.account.specs.declared.call.Told.{Told as ToldOf};
+ghost use Rattle.account.specs.declared.call.RequestEnd.{RequestEnd as ToldOf};
 ghost use Rattle.handlers.specs.declared.reply.Reply.{Reply as ReplyOf};
 
 use crate::cause::Cause;
-use crate::giving::{Refused, give_head, give_reply};
+use crate::giving::{GiveRefusal, give_head, give_reply};
 use crate::handling::Handling;
 use crate::response::Response;
 use crate::shutting::shut;
@@ -63,7 +63,7 @@ pub(crate) struct Call {
 
 impl Call {
     ghost use Rattle.callrun.specs.declared.call.Turn.TheVariants as turn;
-    ghost use Rattle.callrun.specs.declared.giving.Refused.TheVariants as refused_kind;
+    ghost use Rattle.callrun.specs.declared.giving.GiveRefusal.TheVariants as refused_kind;
     ghost use Rattle.callrun.specs.Handlings.{HeadIsDue, IsReady, lacks_memory};
     ghost use Rattle.callrun.specs.Runs.{
       GivesOne,
@@ -80,7 +80,7 @@ impl Call {
     ghost use Rattle.callrun.specs.Sides.{
       HasNoRoom,
       IsOpenTo,
-      Shown,
+      ResponseView,
       given_over,
       is_gone,
       is_left,
@@ -92,7 +92,7 @@ impl Call {
 
     /// Ends the call if the deadline has come.
     pub(crate) fn look_at(&mut self, now: u64)
-        ensures run { (before : Shown) → RunsOn self.old before self.new before }
+        ensures run { (before : ResponseView) → RunsOn self.old before self.new before }
         ensures overdue { self.new.overdue ≡ true
             → (self.old.overdue ≡ true) ⊎ IsSomeAnd self.old.deadline (λ deadline. deadline ≤ now) }
         ensures late { IsSomeAnd self.old.deadline (λ deadline. deadline ≤ now)
@@ -229,7 +229,11 @@ impl Call {
     }
 
     /// What a turn answers in which an item was refused.
-    fn refused<G: Drop, S: Drop>(&mut self, response: &mut Response<G, S>, refused: Refused) -> Turn
+    fn refused<G: Drop, S: Drop>(
+        &mut self,
+        response: &mut Response<G, S>,
+        refused: GiveRefusal,
+    ) -> Turn
         ensures run { (of_open : G → List Item) (of_shut : S → List Item) (was_placed : S → Bool)
             → RunsOn self.old (shown of_open of_shut was_placed response.old) self.new
             (shown of_open of_shut was_placed response.new) }
@@ -244,9 +248,9 @@ impl Call {
             ⊎ (lacks_memory self.new.handling.ending ≡ true) ⊎ (refused ≡ refused_kind.NotTaken) }
     {
         match refused {
-            Refused::Full => Turn::Full,
-            Refused::OutOfMemory => self.run_out(response),
-            Refused::NotTaken => {
+            GiveRefusal::Full => Turn::Full,
+            GiveRefusal::OutOfMemory => self.run_out(response),
+            GiveRefusal::NotTaken => {
                 response.leave();
                 Turn::Over
             }

@@ -28,8 +28,8 @@ ghost use Rattle.std.specs.Prelude.{
 ghost use Rattle.std.specs.Option.{option_map};
 ghost use Rattle.lane.specs.End.{of_end};
 ghost use Rattle.lpm.specs.Messages.{IsUnfinished};
-ghost use Rattle.callbox.specs.InSides.{Took};
-ghost use Rattle.handlers.specs.declared.step.Step.{Step};
+ghost use Rattle.callbox.specs.InSides.{TakesMessages};
+ghost use Rattle.handlers.specs.declared.step.MethodStep.{MethodStep};
 ghost use Rattle.handlers.specs.Listed.{listed};
 ghost use Rattle.callrun.specs.declared.call.Turn.TheVariants as turn;
 ghost use Rattle.callrun.specs.Outcomes.{IsOutcome};
@@ -139,12 +139,13 @@ impl<I: Lane<Item = InPiece>, O: Lane<Item = OutItem>> CallRun<I, O> {
         // after.
         ensures run { IfSome (slice_get (listed methods.now) self.old.index)
             (λ method. (messages : List (List ℕ))
-            → Took (I.got self.old.taker.rx) self.old.taker.progress messages
+            → TakesMessages (I.got self.old.taker.rx) self.old.taker.progress messages
             → HasCome ((⟦<dyn Method as Method>⟧ method.vtable).answers method.value)
             ((⟦<dyn Method as Method>⟧ method.vtable).stands method.value)
             self.old.taker.progress.told messages self.old.call self.old.in_hand
             (given_over self.old.response)
-            → (more : List (List ℕ)) × Took (I.got self.new.taker.rx) self.new.taker.progress
+            → (more : List (List ℕ))
+            × TakesMessages (I.got self.new.taker.rx) self.new.taker.progress
             (messages ++ more)
             × HasCome ((⟦<dyn Method as Method>⟧ method.vtable).answers method.value)
             ((⟦<dyn Method as Method>⟧ method.vtable).stands method.value)
@@ -174,8 +175,8 @@ impl<I: Lane<Item = InPiece>, O: Lane<Item = OutItem>> CallRun<I, O> {
         // of memory.
         ensures went { result ≡ turn.Went
             → GivesOne (given_over self.old.response) (given_over self.new.response)
-            ⊎ TakesOne (λ all. Took (I.got self.old.taker.rx) self.old.taker.progress all)
-            (λ all. Took (I.got self.new.taker.rx) self.new.taker.progress all)
+            ⊎ TakesOne (λ all. TakesMessages (I.got self.old.taker.rx) self.old.taker.progress all)
+            (λ all. TakesMessages (I.got self.new.taker.rx) self.new.taker.progress all)
             self.old.taker.progress.told self.new.taker.progress.told
             ⊎ RunsOut self.old.call self.new.call }
         // There was nothing to take.
@@ -208,8 +209,9 @@ impl<I: Lane<Item = InPiece>, O: Lane<Item = OutItem>> CallRun<I, O> {
     pub fn is_ready(&mut self) -> bool
         ensures ready { IsTrue result ↔ IsSome self.new.in_hand }
         ensures ahead { (messages : List (List ℕ))
-            → Took (I.got self.old.taker.rx) self.old.taker.progress messages
-            → TakesAhead (λ all. Took (I.got self.new.taker.rx) self.new.taker.progress all)
+            → TakesMessages (I.got self.old.taker.rx) self.old.taker.progress messages
+            → TakesAhead
+            (λ all. TakesMessages (I.got self.new.taker.rx) self.new.taker.progress all)
             messages
             self.old.in_hand self.old.taker.progress.told self.new.in_hand
             self.new.taker.progress.told }
@@ -229,8 +231,9 @@ impl<I: Lane<Item = InPiece>, O: Lane<Item = OutItem>> CallRun<I, O> {
     fn look_ahead(&mut self)
         requires { self.old.in_hand ≡ None }
         ensures ahead { (messages : List (List ℕ))
-            → Took (I.got self.old.taker.rx) self.old.taker.progress messages
-            → TakesAhead (λ all. Took (I.got self.new.taker.rx) self.new.taker.progress all)
+            → TakesMessages (I.got self.old.taker.rx) self.old.taker.progress messages
+            → TakesAhead
+            (λ all. TakesMessages (I.got self.new.taker.rx) self.new.taker.progress all)
             messages
             self.old.in_hand self.old.taker.progress.told self.new.in_hand
             self.new.taker.progress.told }
@@ -316,7 +319,7 @@ impl<I: Lane<Item = InPiece>, O: Lane<Item = OutItem>> CallRun<I, O> {
     /// The two ends of the call, and the status of the trailers that were given.
     pub fn into_ends(self) -> (Taker<I>, End<Giver<O>, GivenShut<O>>, Option<u32>)
         // What was given is an outcome of what the method answers.
-        ensures outcome { (answer : Step)
+        ensures outcome { (answer : MethodStep)
             → GivesOf self.taker.progress.told answer self.call (given_over self.response)
             → IsOutcome self.call.head self.call.overdue self.taker.progress.told answer
             (of_end (λ g. O.put_in g.tx) (λ s. O.put_shut s.shut) result.1) result.2 }
@@ -346,10 +349,11 @@ impl<I: Lane<Item = InPiece>, O: Lane<Item = OutItem>> CallRun<I, O> {
         requires ready { IsReady self.old.call.handling }
         requires open { is_open self.old.response ≡ true }
         ensures run { (messages : List (List ℕ))
-            → Took (I.got self.old.taker.rx) self.old.taker.progress messages
+            → TakesMessages (I.got self.old.taker.rx) self.old.taker.progress messages
             → HasRun (answers method.now) (stands method.now) self.old.taker.progress.told messages
             self.old.call (given_over self.old.response)
-            → (more : List (List ℕ)) × Took (I.got self.new.taker.rx) self.new.taker.progress
+            → (more : List (List ℕ))
+            × TakesMessages (I.got self.new.taker.rx) self.new.taker.progress
             (messages ++ more)
             × HasRun (answers method.now) (stands method.now) self.new.taker.progress.told
             (messages ++ more) self.new.call (given_over self.new.response) }
@@ -358,8 +362,8 @@ impl<I: Lane<Item = InPiece>, O: Lane<Item = OutItem>> CallRun<I, O> {
             × (self.new.response ≡ self.old.response) × SameCall self.old.call self.new.call }
         ensures turn { (result ≡ turn.Went) ⊎ (result ≡ turn.Nothing) }
         ensures went { result ≡ turn.Went
-            → TakesOne (λ all. Took (I.got self.old.taker.rx) self.old.taker.progress all)
-            (λ all. Took (I.got self.new.taker.rx) self.new.taker.progress all)
+            → TakesOne (λ all. TakesMessages (I.got self.old.taker.rx) self.old.taker.progress all)
+            (λ all. TakesMessages (I.got self.new.taker.rx) self.new.taker.progress all)
             self.old.taker.progress.told self.new.taker.progress.told }
         ensures nothing { result ≡ turn.Nothing → IsUnfinished self.new.taker.progress.splitter
             × (self.new.taker.progress.shut ≡ None) × (self.new.taker.progress.unread ≡ false)

@@ -33,7 +33,7 @@ use std::alloc::Global;
 
 /// Why an item was not given.
 #[derive(Clone, Copy, Debug, PartialEq, Eq)]
-pub(crate) enum Refused {
+pub(crate) enum GiveRefusal {
     /// There is no room for it now.
     Full,
     /// Memory for it was wanting.
@@ -43,14 +43,14 @@ pub(crate) enum Refused {
 }
 
 /// The result without the item that was handed back.
-fn without_item<T: Drop>(given: Result<(), GiveFault<T>>) -> Result<(), Refused>
+fn without_item<T: Drop>(given: Result<(), GiveFault<T>>) -> Result<(), GiveRefusal>
     ensures { result ≡ without_item given }
 {
     match given {
         Ok(()) => Ok(()),
-        Err(PutFault::Full { .. }) => Err(Refused::Full),
-        Err(PutFault::OutOfMemory(_)) => Err(Refused::OutOfMemory),
-        Err(PutFault::NotTaken(_)) => Err(Refused::NotTaken),
+        Err(PutFault::Full { .. }) => Err(GiveRefusal::Full),
+        Err(PutFault::OutOfMemory(_)) => Err(GiveRefusal::OutOfMemory),
+        Err(PutFault::NotTaken(_)) => Err(GiveRefusal::NotTaken),
     }
 }
 
@@ -59,7 +59,7 @@ pub(crate) fn give_head<O: Lane<Item = OutItem>>(
     giver: &mut Giver<O>,
     alloc: Global,
     head: &CallHead,
-) -> Result<(), Refused>
+) -> Result<(), GiveRefusal>
     requires { O.put_in giver.old.tx ≡ [] }
     ensures name { O.in_name giver.new.tx ≡ O.in_name giver.old.tx }
     ensures gives { Gives result O.MayMiss (O.room_of (O.in_name giver.old.tx))
@@ -67,10 +67,10 @@ pub(crate) fn give_head<O: Lane<Item = OutItem>>(
         (O.put_in giver.new.tx) }
 {
     if let Err(_waiting) = giver.check_room() {
-        return Err(Refused::Full);
+        return Err(GiveRefusal::Full);
     }
     let Ok(fields) = response_fields(alloc, &head.echo_initial) else {
-        return Err(Refused::OutOfMemory);
+        return Err(GiveRefusal::OutOfMemory);
     };
     without_item(giver.head(Sequence::from(fields)))
 }
@@ -81,7 +81,7 @@ pub(crate) fn give_reply<O: Lane<Item = OutItem>>(
     giver: &mut Giver<O>,
     alloc: Global,
     reply: Reply,
-) -> Result<(), Refused>
+) -> Result<(), GiveRefusal>
     requires { has_head (O.put_in giver.old.tx) ≡ true }
     ensures name { O.in_name giver.new.tx ≡ O.in_name giver.old.tx }
     ensures gives { Gives result O.MayMiss (O.room_of (O.in_name giver.old.tx))
@@ -89,14 +89,14 @@ pub(crate) fn give_reply<O: Lane<Item = OutItem>>(
         (O.put_in giver.new.tx) }
 {
     if let Err(_waiting) = giver.check_room() {
-        return Err(Refused::Full);
+        return Err(GiveRefusal::Full);
     }
     let Ok(message) = framed(alloc, reply) else {
-        return Err(Refused::OutOfMemory);
+        return Err(GiveRefusal::OutOfMemory);
     };
     match giver.give_framed(message) {
         Ok(()) => Ok(()),
         Err(FramedFault::Refused(fault)) => without_item(Err(fault)),
-        Err(FramedFault::NotAFrame(_)) => Err(Refused::OutOfMemory),
+        Err(FramedFault::NotAFrame(_)) => Err(GiveRefusal::OutOfMemory),
     }
 }

@@ -1,21 +1,21 @@
 //! What the method of a call has answered to what was taken.
 
 ghost use Rattle.std.specs.Prelude.{◌≡◌, ◌↔◌, IsTrue, ◌++◌, ◌∷◌, [], List, ℕ, false, None, Some};
-ghost use Rattle.account.specs.declared.call.Told.TheVariants as told_kind;
+ghost use Rattle.account.specs.declared.call.RequestEnd.TheVariants as told_kind;
 ghost use Rattle.handlers.specs.Answers.{IsLawful};
 ghost use Rattle.handlers.specs.Steps.{nothing};
 
 use crate::cause::Cause;
 use crate::ending::Ending;
-use crate::waiting::Waiting;
-use handlers::{Method, MethodFault, MethodState, Replies, Step};
+use crate::waiting::WaitingReplies;
+use handlers::{Method, MethodFault, MethodState, MethodStep, Replies};
 use std::alloc::Global;
 
 /// The state of a call's method, and the answers that were not given yet.
 #[derive(Debug, Drop)]
 pub(crate) struct Handling {
     pub(crate) state: MethodState,
-    pub(crate) waiting: Waiting,
+    pub(crate) waiting: WaitingReplies,
     /// How the call ends, after the replies that wait.
     pub(crate) ending: Option<Ending>,
 }
@@ -40,7 +40,7 @@ impl Handling {
     {
         Handling {
             state: method.first(),
-            waiting: Waiting::none(alloc),
+            waiting: WaitingReplies::none(alloc),
             ending: None,
         }
     }
@@ -68,11 +68,11 @@ impl Handling {
     }
 
     /// Adds what a step gave to what is to be given, or ends the call if the step failed.
-    fn accept(&mut self, alloc: Global, step: Result<Step, MethodFault>)
+    fn accept(&mut self, alloc: Global, step: Result<MethodStep, MethodFault>)
         ensures { Accepts step self.old self.new }
     {
         match step {
-            Ok(Step { replies, ends }) => {
+            Ok(MethodStep { replies, ends }) => {
                 self.waiting.set(replies);
                 self.ending = match ends {
                     Some(status) => Some(Ending::Method(status)),

@@ -30,4 +30,4 @@ mod waiting;
 pub use call::Turn;
 pub use call_run::CallRun;
 pub use cause::Cause;
-pub use uses::call_list::{Ended, Opened, Pace, Why, run_call, run_list};
+pub use uses::call_list::{EndedCall, OpenedCall, Pace, Why, run_call, run_list};

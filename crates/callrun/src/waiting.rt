@@ -9,7 +9,7 @@ use std::marker::Model;
 
 /// Replies in order. In a contract they are their list.
 #[derive(Debug, Drop)]
-pub(crate) struct Waiting {
+pub(crate) struct WaitingReplies {
     replies: Replies,
     /// How many replies of the call were given in all.
     passed: u64,
@@ -17,7 +17,7 @@ pub(crate) struct Waiting {
     bytes: u64,
 }
 
-impl Model for Waiting {
+impl Model for WaitingReplies {
     ghost use Rattle.std.specs.Prelude.{List};
     ghost use Rattle.handlers.specs.declared.reply.Reply.{Reply};
 
@@ -26,11 +26,11 @@ impl Model for Waiting {
     ghost view = { λ waiting. waiting.replies };
 }
 
-impl Waiting {
-    pub(crate) fn none(alloc: Global) -> Waiting
+impl WaitingReplies {
+    pub(crate) fn none(alloc: Global) -> WaitingReplies
         ensures { result ≡ [] }
     {
-        Waiting {
+        WaitingReplies {
             replies: Replies::new(alloc),
             passed: 0,
             bytes: 0,

@@ -28,14 +28,14 @@ use Rattle.std.specs.Prelude.{IfSome, IsSome, IsSomeAnd, option_map, slice_get}
 use Rattle.lane.specs.RingLane.{got, out_name, put_in, put_shut}
 use Rattle.account.specs.declared.call.OutItem.{OutItem}
 use Rattle.account.specs.declared.call.OutItem.TheVariants.{Left}
-use Rattle.account.specs.declared.call.Told.{Told}
-use Rattle.callbox.specs.InSides.{Took}
+use Rattle.account.specs.declared.call.RequestEnd.{RequestEnd}
+use Rattle.callbox.specs.InSides.{TakesMessages}
 use Rattle.callbox.specs.declared.piece.InPiece.{InPiece}
 use Rattle.callbox.specs.declared.taker.Progress.{Progress}
 use Rattle.callbox.specs.declared.taker.Taken.{Taken}
 use Rattle.callhead.specs.declared.head.CallHead.{CallHead}
 use Rattle.handlers.specs.declared.state.MethodState.{MethodState}
-use Rattle.handlers.specs.declared.step.Step.{Step}
+use Rattle.handlers.specs.declared.step.MethodStep.{MethodStep}
 use Rattle.callrun.specs.declared.call.Call.{Call}
 use Rattle.callrun.specs.declared.response.Response.{Response}
 use Rattle.callrun.specs.Outcomes.{IsOutcome, is_end}
@@ -59,9 +59,9 @@ use Rattle.callworker.specs.Runs.{
 }
 
 owes_less : (items : List InPiece) (p q : Progress) (messages : List (List ℕ))
-    → q ≡ record p { owed = 0 } → Took items p messages → Took items q messages
+    → q ≡ record p { owed = 0 } → TakesMessages items p messages → TakesMessages items q messages
 owes_less items p q messages less took =
-    subst (λ (r : Progress). Took items r messages) (sym less) (record {
+    subst (λ (r : Progress). TakesMessages items r messages) (sym less) (record {
       missing = took.missing;
       whole = took.whole;
       each = took.each;
@@ -139,13 +139,13 @@ one_call_left a b name same = (
 
 -- ---- what leads to it
 
-module _ {A : Type 0} (answers : A → List (List ℕ) → Bool → Step → Type 0)
-    (stands : A → MethodState → List (List ℕ) → Step → Type 0) (methods : List A) where
+module _ {A : Type 0} (answers : A → List (List ℕ) → Bool → MethodStep → Type 0)
+    (stands : A → MethodState → List (List ℕ) → MethodStep → Type 0) (methods : List A) where
   stays : (found : Option A) (a : LaneRun) → IfSome found (λ m. LeadsOn (answers m) (stands m) a a)
   stays None a = tt
   stays (Some m) a = λ messages took come. (
     [],
-    subst (λ (ms : List (List ℕ)). Took (got a.taker.rx) a.taker.progress ms)
+    subst (λ (ms : List (List ℕ)). TakesMessages (got a.taker.rx) a.taker.progress ms)
         (sym (append-nil messages)) took,
     subst (λ (ms : List (List ℕ)).
         HasCome (answers m) (stands m) a.taker.progress.told ms a.call a.in_hand (shows a))
@@ -167,7 +167,7 @@ module _ {A : Type 0} (answers : A → List (List ℕ) → Bool → Step → Typ
       IfSome found (λ n. LeadsOn (answers n) (stands n) b c)) same second in
       let two = then_so (messages ++ one.0) one.1 one.2 in (
         one.0 ++ two.0,
-        subst (λ (ms : List (List ℕ)). Took (got c.taker.rx) c.taker.progress ms)
+        subst (λ (ms : List (List ℕ)). TakesMessages (got c.taker.rx) c.taker.progress ms)
             (append_assoc messages one.0 two.0) two.1,
         subst (λ (ms : List (List ℕ)).
             HasCome (answers m) (stands m) c.taker.progress.told ms c.call c.in_hand (shows c))
@@ -188,15 +188,17 @@ module _ {A : Type 0} (answers : A → List (List ℕ) → Bool → Step → Typ
   credited None a b rx less same = tt
   credited (Some m) a b rx less same = λ messages took come. (
     [],
-    subst (λ (ms : List (List ℕ)). Took (got b.taker.rx) b.taker.progress ms)
+    subst (λ (ms : List (List ℕ)). TakesMessages (got b.taker.rx) b.taker.progress ms)
         (sym (append-nil messages))
-        (subst (λ (items : List InPiece). Took items b.taker.progress messages) (sym (ap got rx))
+        (subst (λ (items : List InPiece).
+        TakesMessages items b.taker.progress messages) (sym (ap got rx))
         (owes_less (got a.taker.rx) a.taker.progress b.taker.progress messages less took)),
     subst (λ (ms : List (List ℕ)).
         HasCome (answers m) (stands m) b.taker.progress.told ms b.call b.in_hand (shows b))
         (sym (append-nil messages))
         (subst
-        (λ (t : Option Told). HasCome (answers m) (stands m) t messages b.call b.in_hand (shows b))
+        (λ (t : Option RequestEnd).
+        HasCome (answers m) (stands m) t messages b.call b.in_hand (shows b))
         (sym (ap (λ (p : Progress). p.told) less))
         (subst (λ (call : Call).
         HasCome (answers m) (stands m) a.taker.progress.told messages call b.in_hand
@@ -226,9 +228,9 @@ module _ {A : Type 0} (answers : A → List (List ℕ) → Bool → Step → Typ
   leaves None a b same left = tt
   leaves (Some m) a b same left = λ messages took come. (
     [],
-    subst (λ (ms : List (List ℕ)). Took (got b.taker.rx) b.taker.progress ms)
+    subst (λ (ms : List (List ℕ)). TakesMessages (got b.taker.rx) b.taker.progress ms)
         (sym (append-nil messages))
-        (subst (λ t. Took (got t.rx) t.progress messages) (sym same) took),
+        (subst (λ t. TakesMessages (got t.rx) t.progress messages) (sym same) took),
     subst (λ (ms : List (List ℕ)).
         HasCome (answers m) (stands m) b.taker.progress.told ms b.call b.in_hand (shows b))
         (sym (append-nil messages)) (left messages come),
@@ -245,19 +247,21 @@ module _ {A : Type 0} (answers : A → List (List ℕ) → Bool → Step → Typ
 
   -- ---- all of it
 
-  all_of : (found after : Option A) (a b : LaneRun) (said : Option Told) (put : List OutItem)
-      → after ≡ found → Took (got a.taker.rx) a.taker.progress [] → a.taker.progress.told ≡ None
+  all_of : (found after : Option A) (a b : LaneRun) (said : Option RequestEnd) (put : List OutItem)
+      → after ≡ found → TakesMessages (got a.taker.rx) a.taker.progress []
+      → a.taker.progress.told ≡ None
       → said ≡ None → put ≡ [] → a.in_hand ≡ None → is_open b.response ≡ false
       → IfSome found
       (λ m. said ≡ None → put ≡ [] → HasRun (answers m) (stands m) None [] a.call (shows a))
       → IfSome after (λ m. LeadsOn (answers m) (stands m) a b)
       → IfSome found (λ m.
-      (messages : List (List ℕ)) × Took (got b.taker.rx) b.taker.progress messages
+      (messages : List (List ℕ)) × TakesMessages (got b.taker.rx) b.taker.progress messages
       × HasRun (answers m) (stands m) b.taker.progress.told messages b.call (shows b))
   all_of None after a b said put same took untold unsaid unput empty closed fresh goes = tt
   all_of (Some m) after a b said put same took untold unsaid unput empty closed fresh goes =
       let begun =
-      subst (λ (t : Option Told). HasRun (answers m) (stands m) t [] a.call (shows a)) (sym untold)
+      subst (λ (t : Option RequestEnd).
+      HasRun (answers m) (stands m) t [] a.call (shows a)) (sym untold)
       (fresh unsaid unput) in
       let come = with_none a.taker.progress.told [] a.call a.in_hand (shows a) empty begun in
       let leads =
@@ -272,14 +276,15 @@ module _ {A : Type 0} (answers : A → List (List ℕ) → Bool → Step → Typ
 
   -- from a call of which nothing was taken yet to one that gives nothing more: the messages that
   -- were taken, and what stands of them
-  pub run_all : (index : ℕ) (a b : LaneRun) (said : Option Told) (put : List OutItem)
-      → a.index ≡ index → Took (got a.taker.rx) a.taker.progress [] → a.taker.progress.told ≡ None
+  pub run_all : (index : ℕ) (a b : LaneRun) (said : Option RequestEnd) (put : List OutItem)
+      → a.index ≡ index → TakesMessages (got a.taker.rx) a.taker.progress []
+      → a.taker.progress.told ≡ None
       → said ≡ None → put ≡ [] → a.in_hand ≡ None → is_open b.response ≡ false
       → IfSome (slice_get methods index)
       (λ m. said ≡ None → put ≡ [] → HasRun (answers m) (stands m) None [] a.call (shows a))
       → GoesOn answers stands methods a b
       → IfSome (slice_get methods index) (λ m.
-      (messages : List (List ℕ)) × Took (got b.taker.rx) b.taker.progress messages
+      (messages : List (List ℕ)) × TakesMessages (got b.taker.rx) b.taker.progress messages
       × HasRun (answers m) (stands m) b.taker.progress.told messages b.call (shows b))
   run_all index a b said put same took untold unsaid unput empty closed fresh goes =
       all_of (slice_get methods index) (slice_get methods a.index) a b said put
@@ -308,15 +313,15 @@ overdue_timed a b head opened early due one late = elim (one.5 late) [
 -- ---- what was answered
 
 -- what stands of a call whose method is there
-pub call_answers : {A : Type 0} (answers : A → List (List ℕ) → Bool → Step → Type 0)
-    (stands : A → MethodState → List (List ℕ) → Step → Type 0)
+pub call_answers : {A : Type 0} (answers : A → List (List ℕ) → Bool → MethodStep → Type 0)
+    (stands : A → MethodState → List (List ℕ) → MethodStep → Type 0)
     (methods : List A) (found : Option A) (request : Request) (run : LaneRun) (items : List InPiece)
     (p : Progress) (given : List OutItem) (status : Option ℕ)
     → found ≡ slice_get methods request.index → (found ≡ None → ⊥) → run.call.head ≡ request.head
     → items ≡ got run.taker.rx → p ≡ record run.taker.progress { owed = 0 }
     → (run.call.overdue ≡ true → IsSome request.head.timeout)
     → IfSome found (λ m.
-    (messages : List (List ℕ)) × Took (got run.taker.rx) run.taker.progress messages
+    (messages : List (List ℕ)) × TakesMessages (got run.taker.rx) run.taker.progress messages
     × HasRun (answers m) (stands m) run.taker.progress.told messages run.call (shows run))
     → EndsAs run given status
     → Answers (answers_by answers methods) request items p given status
@@ -328,10 +333,10 @@ call_answers {A} answers stands methods (Some m) request run items p given statu
     record {
       messages = has.0;
       took =
-          subst (λ (xs : List InPiece). Took xs p has.0) (sym same_got)
+          subst (λ (xs : List InPiece). TakesMessages xs p has.0) (sym same_got)
           (owes_less (got run.taker.rx) run.taker.progress p has.0 less has.1);
       answered =
-          subst (λ (said : Option Told).
+          subst (λ (said : Option RequestEnd).
           IsAnswered (answers_by answers methods request.index) request.head has.0 said given
           status) (sym told) (record {
             overdue = run.call.overdue;
@@ -350,10 +355,10 @@ call_answers {A} answers stands methods (Some m) request run items p given statu
     }
 
 -- of a call whose method isn't there
-pub none_answers : {A : Type 0} (answers : A → List (List ℕ) → Bool → Step → Type 0)
+pub none_answers : {A : Type 0} (answers : A → List (List ℕ) → Bool → MethodStep → Type 0)
     (methods : List A) (request : Request) (items : List InPiece) (p : Progress)
     (given : List OutItem)
-    → slice_get methods request.index ≡ None → Took items p [] → IsGivenAs [] given
+    → slice_get methods request.index ≡ None → TakesMessages items p [] → IsGivenAs [] given
     → Answers (answers_by answers methods) request items p given None
 none_answers {A} answers methods request items p given none took nothing = record {
   messages = [];
@@ -370,7 +375,7 @@ none_answers {A} answers methods request items p given none took nothing = recor
 }
 
 -- what is so of more answers is so of these
-pub of_fewer : (wide narrow : ℕ → List (List ℕ) → Bool → Step → Type 0) (request : Request)
+pub of_fewer : (wide narrow : ℕ → List (List ℕ) → Bool → MethodStep → Type 0) (request : Request)
     (items : List InPiece) (p : Progress) (given : List OutItem) (status : Option ℕ)
     → IsWithin narrow wide → Answers wide request items p given status
     → Answers narrow request items p given status
@@ -392,21 +397,21 @@ pub same_ends : (a b : LaneRun) (items given : List OutItem) (status : Option �
     → b.taker.progress ≡ record a.taker.progress { owed = 0 }
     → (b.index ≡ a.index) × (b.call ≡ a.call) × (b.in_hand ≡ a.in_hand) × (b.response ≡ a.response)
     → IsGivenAs items given
-    → ((answer : Step) → GivesOf b.taker.progress.told answer b.call (shows b)
+    → ((answer : MethodStep) → GivesOf b.taker.progress.told answer b.call (shows b)
     → IsOutcome b.call.head b.call.overdue b.taker.progress.told answer items status)
     → EndsAs a given status
 same_ends a b items given status less same ends outcome = (
   items,
   ends,
-  subst (λ (t : Option Told).
-      (answer : Step) → GivesOf t answer a.call (shows a)
+  subst (λ (t : Option RequestEnd).
+      (answer : MethodStep) → GivesOf t answer a.call (shows a)
       → IsOutcome a.call.head a.call.overdue t answer items status)
       (ap (λ (p : Progress). p.told) less)
       (subst (λ (c : Call).
-      (answer : Step) → GivesOf b.taker.progress.told answer c (shows a)
+      (answer : MethodStep) → GivesOf b.taker.progress.told answer c (shows a)
       → IsOutcome c.head c.overdue b.taker.progress.told answer items status) same.1
       (subst (λ (r : Response OutGiver OutGiven).
-      (answer : Step) → GivesOf b.taker.progress.told answer b.call (shown_by r)
+      (answer : MethodStep) → GivesOf b.taker.progress.told answer b.call (shown_by r)
       → IsOutcome b.call.head b.call.overdue b.taker.progress.told answer items
       status) same.3 outcome)),
 )
@@ -418,7 +423,8 @@ left_as items given is = inr is
 -- ---- the call of a number
 
 -- what stands of a call stands of the number at which it is
-pub answers_at : (known : ℕ → List (List ℕ) → Bool → Step → Type 0) (log : List Work) (number : ℕ)
+pub answers_at : (known : ℕ → List (List ℕ) → Bool → MethodStep → Type 0)
+    (log : List Work) (number : ℕ)
     (work : Work) (items : List InPiece) (p : Progress) (given : List OutItem) (status : Option ℕ)
     → slice_get log number ≡ Some work → Answers known work.request items p given status
     → AnswersAt known log number items p given status

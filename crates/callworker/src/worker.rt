@@ -25,11 +25,11 @@ ghost use Rattle.callworker.specs.Works.{HasHandedBack, IsUnused};
 use crate::gate::Gate;
 use crate::jobs::next_job;
 use crate::pace::{Pace, STEP, limit};
-use crate::shared::Shared;
+use crate::shared_conn::SharedConn;
 use crate::ways::Ways;
 use callbox::{GivenShut, Giver, Taker};
 use callparts::{
-    Answering, DoneIn, Finished, InLane, Job, Line, Naming, OutLane, Request, Traffic, Work,
+    Answering, DoneIn, FinishedJob, InLane, Job, Line, Naming, OutLane, Request, Traffic, Work,
 };
 use callrun::{CallRun, Turn};
 use h2frame::StreamId;
@@ -47,7 +47,7 @@ pub struct Worker<A: Ledger, B: Ledger, C: Ledger, G: Drop> {
     pub alloc: Global,
     /// The line that wakes it.
     pub line: Arc<Line>,
-    pub shared: Arc<Shared<A, B, C>>,
+    pub shared: Arc<SharedConn<A, B, C>>,
     pub gate: Arc<G>,
     /// When the connection began; nothing where the clock didn't tell.
     pub start: Option<Instant>,
@@ -55,7 +55,7 @@ pub struct Worker<A: Ledger, B: Ledger, C: Ledger, G: Drop> {
 
 /// What is left of a call that was answered.
 #[derive(Drop)]
-struct Served {
+struct AnsweredCall {
     taker: Taker<InLane>,
     given: GivenShut<OutLane>,
     status: Option<u32>,
@@ -95,7 +95,7 @@ impl<A: Ledger, B: Ledger, C: Ledger, G: Gate + Drop> Worker<A, B, C, G> {
         &self,
         rt: &impl Wait,
         done: &mut DoneIn<J, M>,
-        finished: Finished<J>,
+        finished: FinishedJob<J>,
     )
         requires answers { AnswersAt M.known finished.number.seen.log finished.number.value
             (got finished.taker.rx) finished.taker.progress (put_shut finished.given.shut)
@@ -122,7 +122,7 @@ impl<A: Ledger, B: Ledger, C: Ledger, G: Gate + Drop> Worker<A, B, C, G> {
     }
 
     /// Answers a call.
-    fn answer<J, M, R>(&self, rt: &R, methods: &Methods, job: Job<J>) -> Finished<J>
+    fn answer<J, M, R>(&self, rt: &R, methods: &Methods, job: Job<J>) -> FinishedJob<J>
     where
         J: Naming,
         M: Answering,
@@ -135,13 +135,13 @@ impl<A: Ledger, B: Ledger, C: Ledger, G: Gate + Drop> Worker<A, B, C, G> {
             result.status }
     {
         let Job { work, number } = job;
-        let Served {
+        let AnsweredCall {
             taker,
             given,
             status,
             traffic,
         } = self.serve(rt, methods, work);
-        Finished {
+        FinishedJob {
             number,
             taker,
             given,
@@ -151,7 +151,7 @@ impl<A: Ledger, B: Ledger, C: Ledger, G: Gate + Drop> Worker<A, B, C, G> {
     }
 
     /// Answers a call, without its number.
-    fn serve<R: Wait + Clock>(&self, rt: &R, methods: &Methods, work: Work) -> Served
+    fn serve<R: Wait + Clock>(&self, rt: &R, methods: &Methods, work: Work) -> AnsweredCall
         requires fresh { IsFreshWork work }
         ensures in_name { out_name result.taker.rx ≡ out_name work.taker.rx }
         ensures name { shut_name result.given.shut ≡ in_name work.giver.tx }
@@ -187,7 +187,7 @@ impl<A: Ledger, B: Ledger, C: Ledger, G: Gate + Drop> Worker<A, B, C, G> {
         id: StreamId,
         taker: Taker<InLane>,
         giver: Giver<OutLane>,
-    ) -> Served
+    ) -> AnsweredCall
         ensures taker { result.taker ≡ taker }
         ensures name { shut_name result.given.shut ≡ in_name giver.tx }
         ensures given { IsGivenAs (put_in giver.tx) (put_shut result.given.shut) }
@@ -195,7 +195,7 @@ impl<A: Ledger, B: Ledger, C: Ledger, G: Gate + Drop> Worker<A, B, C, G> {
     {
         let given = giver.leave();
         self.settle(rt, id, 0, false);
-        Served {
+        AnsweredCall {
             taker,
             given,
             status: None,
@@ -323,7 +323,7 @@ impl<A: Ledger, B: Ledger, C: Ledger, G: Gate + Drop> Worker<A, B, C, G> {
             let mut book = self.shared.book.lock(rt);
             if credit > 0 {
                 // The bytes of a call that is no longer live were returned already.
-                let _ = book.give_back(id, credit);
+                let _ = book.return_credit(id, credit);
             }
             book.is_live(id)
         };
@@ -363,7 +363,13 @@ impl<A: Ledger, B: Ledger, C: Ledger, G: Gate + Drop> Worker<A, B, C, G> {
     }
 
     /// Ends a call that is over, by its last item, and hands back its ends.
-    fn end(&self, rt: &impl Wait, id: StreamId, run: CallRun<InLane, OutLane>, pace: Pace) -> Served
+    fn end(
+        &self,
+        rt: &impl Wait,
+        id: StreamId,
+        run: CallRun<InLane, OutLane>,
+        pace: Pace,
+    ) -> AnsweredCall
         ensures rx { result.taker.rx ≡ run.taker.rx }
         ensures progress { result.taker.progress ≡ record run.taker.progress { owed = 0 } }
         ensures name { Some (shut_name result.given.shut) ≡ giver_name run.response }
@@ -377,7 +383,7 @@ impl<A: Ledger, B: Ledger, C: Ledger, G: Gate + Drop> Worker<A, B, C, G> {
         let (taker, end, status) = run.into_ends();
         let given = shut_of(end);
         self.settle(rt, id, credit, status.is_some());
-        Served {
+        AnsweredCall {
             taker,
             given,
             status,
@@ -394,7 +400,7 @@ impl<A: Ledger, B: Ledger, C: Ledger, G: Gate + Drop> Worker<A, B, C, G> {
     fn settle(&self, rt: &impl Wait, id: StreamId, credit: u32, has_trailers: bool) {
         let mut book = self.shared.book.lock(rt);
         if credit > 0 {
-            let _ = book.give_back(id, credit);
+            let _ = book.return_credit(id, credit);
         }
         if !has_trailers {
             book.cut(id);

@@ -14,8 +14,8 @@ use Rattle.cases.specs.declared.method.Method.TheVariants.{
   UnimplementedCall,
   UnimplementedService,
 }
-use Rattle.cases.specs.declared.method.Asked.{Asked}
-use Rattle.cases.specs.declared.method.Asked.TheVariants.{
+use Rattle.cases.specs.declared.method.HeadExtra.{HeadExtra}
+use Rattle.cases.specs.declared.method.HeadExtra.TheVariants.{
   Nothing,
   Echoes,
   OneMillisecond,
@@ -32,7 +32,7 @@ path_of FullDuplexCall = codes "/grpc.testing.TestService/FullDuplexCall"
 path_of UnimplementedCall = codes "/grpc.testing.TestService/UnimplementedCall"
 path_of UnimplementedService = codes "/grpc.testing.UnimplementedService/UnimplementedCall"
 
-abbrev pub fields_of : Method → Asked → List Field
+abbrev pub fields_of : Method → HeadExtra → List Field
 fields_of method Nothing = request_fields (path_of method) None [] []
 fields_of method Echoes =
     request_fields (path_of method) None (codes "test_initial_metadata_value" ∷ [])

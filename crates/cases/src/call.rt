@@ -5,7 +5,7 @@ ghost use Rattle.std.specs.Prelude.{◌<◌, ◌^◌};
 use crate::connection::{Arrival, CANCEL, Connection, Content};
 use crate::fault::Fault;
 use crate::line::Line;
-use crate::method::{Asked, Method};
+use crate::method::{HeadExtra, Method};
 use crate::mismatch::ReplyFault;
 use bytes::Bytes;
 use h2frame::StreamId;
@@ -47,7 +47,7 @@ impl Call {
         connection: &mut Connection<S>,
         stream: StreamId,
         method: Method,
-        asked: Asked,
+        asked: HeadExtra,
     ) -> Result<Call, Fault>
         requires some { 0 < stream }
         requires within { stream < 2 ^ 31 }

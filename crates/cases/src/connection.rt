@@ -12,7 +12,7 @@ use crate::line::Line;
 use crate::outgoing::Outgoing;
 use crate::pings::Pings;
 use crate::response::Phase;
-use crate::silence::{Awaited, Silence, SilenceFault};
+use crate::silence::{Silence, SilenceFault, WaitGoal};
 use crate::streams::Streams;
 use crate::violation::Violation;
 use bytes::Bytes;
@@ -79,7 +79,7 @@ pub struct Connection<S> {
     frames: u64,
     last: Option<FrameHead>,
     /// What is waited for.
-    awaited: Awaited,
+    awaited: WaitGoal,
 }
 
 impl<S: Line> Connection<S> {
@@ -102,7 +102,7 @@ impl<S: Line> Connection<S> {
             has_informed: false,
             frames: 0,
             last: None,
-            awaited: Awaited::Settings,
+            awaited: WaitGoal::Settings,
         }
     }
 
@@ -171,7 +171,7 @@ impl<S: Line> Connection<S> {
         let mut rest = bytes;
         while !rest.is_empty() {
             let sent = bytes.len().saturating_sub(rest.len());
-            self.awaited = Awaited::Window {
+            self.awaited = WaitGoal::Window {
                 sent,
                 of: bytes.len(),
             };
@@ -254,7 +254,7 @@ impl<S: Line> Connection<S> {
 
     /// Waits until no PING is unanswered.
     fn wait_for_answer(&mut self) -> Result<(), Fault> {
-        self.awaited = Awaited::Ping;
+        self.awaited = WaitGoal::Ping;
         for _ in 0..u64::MAX {
             if !self.pings.is_open() {
                 return Ok(());
@@ -300,11 +300,11 @@ impl<S: Line> Connection<S> {
     }
 
     /// What a stream's response lacks.
-    fn awaited_on(&self, stream: StreamId) -> Awaited {
+    fn awaited_on(&self, stream: StreamId) -> WaitGoal {
         match self.streams.find(stream) {
-            Some((Phase::Answering, bytes)) => Awaited::Trailers(stream, bytes),
-            _ if self.has_informed => Awaited::FinalHead(stream),
-            _ => Awaited::Head(stream),
+            Some((Phase::Answering, bytes)) => WaitGoal::Trailers(stream, bytes),
+            _ if self.has_informed => WaitGoal::FinalHead(stream),
+            _ => WaitGoal::Head(stream),
         }
     }
 
@@ -433,13 +433,13 @@ impl<S: Line> Connection<S> {
 
     /// What is missing. That SETTINGS never came, or that a PING isn't acknowledged, goes before
     /// what a response lacks.
-    fn missing(&self, how: Silence) -> Awaited {
+    fn missing(&self, how: Silence) -> WaitGoal {
         match self.awaited {
-            Awaited::Head(_) | Awaited::Trailers(_, _) | Awaited::Ping if !self.has_begun => {
-                Awaited::Settings
+            WaitGoal::Head(_) | WaitGoal::Trailers(_, _) | WaitGoal::Ping if !self.has_begun => {
+                WaitGoal::Settings
             }
-            Awaited::Head(_) | Awaited::Trailers(_, _)
-                if how == Silence::Stalled && self.pings.is_open() => { Awaited::Ping }
+            WaitGoal::Head(_) | WaitGoal::Trailers(_, _)
+                if how == Silence::Stalled && self.pings.is_open() => { WaitGoal::Ping }
             awaited => awaited,
         }
     }
@@ -458,7 +458,7 @@ impl<S: Line> Connection<S> {
     }
 
     /// Sets what is waited for, and answers what was.
-    pub(crate) fn await_next(&mut self, awaited: Awaited) -> Awaited {
+    pub(crate) fn await_next(&mut self, awaited: WaitGoal) -> WaitGoal {
         let before = self.awaited;
         self.awaited = awaited;
         before

@@ -16,7 +16,7 @@ ghost use Rattle.std.specs.Prelude.{◌≡◌, ◌<◌, ◌≤◌, IsSome, OnOk,
 ghost use Rattle.flow.specs.Books.{call_at, window_of};
 ghost use Rattle.cases.specs.Windows.{IsPast};
 
-use figures::{ByteCount, Grouped};
+use figures::{ByteCount, GroupedNumber};
 use flow::{Book, BookFault};
 use h2frame::{MAX_PAYLOAD, StreamId};
 use std::alloc::Global;
@@ -62,7 +62,7 @@ pub enum Windows {
 
 /// What is to be done next.
 #[derive(Clone, Copy)]
-pub enum Step {
+pub enum CreditStep {
     Nothing,
     /// The server is asked whether it stops.
     Ask,
@@ -173,21 +173,21 @@ impl Credit {
 
     /// DATA came on a stream. Where windows are held, the server is to be asked if it stops once
     /// its largest frame might not fit them; else they are opened while they are half full.
-    pub fn came(&mut self, stream: StreamId) -> Step {
+    pub fn came(&mut self, stream: StreamId) -> CreditStep {
         if self.windows == Windows::Open {
             return if self.left(stream) < LOW {
-                Step::OpenBoth(stream)
+                CreditStep::OpenBoth(stream)
             } else {
-                Step::Nothing
+                CreditStep::Nothing
             };
         }
         if let Some(question) = &mut self.question {
             question.stream = stream;
             question.has_gone_on = true;
-            return Step::Nothing;
+            return CreditStep::Nothing;
         }
         if self.left(stream) >= MAX_PAYLOAD {
-            return Step::Nothing;
+            return CreditStep::Nothing;
         }
         self.question = Some(Question {
             stream,
@@ -195,13 +195,13 @@ impl Credit {
             is_half_open: false,
             is_asked_twice: false,
         });
-        Step::Ask
+        CreditStep::Ask
     }
 
     /// The server has acknowledged the PING by which it was asked.
-    pub fn answered(&mut self) -> Step {
+    pub fn answered(&mut self) -> CreditStep {
         let Some(question) = self.question.take() else {
-            return Step::Nothing;
+            return CreditStep::Nothing;
         };
         let stream = question.stream;
         if question.has_gone_on && self.left(stream) > 0 {
@@ -210,7 +210,7 @@ impl Credit {
                 is_asked_twice: true,
                 ..question
             });
-            return Step::Ask;
+            return CreditStep::Ask;
         }
         // The acknowledgement of a PING may overtake DATA (RFC 9113, section 6.7): a second PING's
         // then comes after them.
@@ -220,10 +220,10 @@ impl Credit {
                 is_asked_twice: true,
                 ..question
             });
-            return Step::Ask;
+            return CreditStep::Ask;
         }
         if question.is_half_open || self.book.due(0) == 0 || self.book.due(stream) == 0 {
-            return Step::OpenBoth(stream);
+            return CreditStep::OpenBoth(stream);
         }
         self.question = Some(Question {
             has_gone_on: false,
@@ -232,12 +232,12 @@ impl Credit {
         });
         let first = if self.stream_first { stream } else { 0 };
         self.stream_first = !self.stream_first;
-        Step::OpenOne(first)
+        CreditStep::OpenOne(first)
     }
 
     /// Opens the window of a stream, or that of the connection where it is 0, and answers by how
     /// much: the increment of the WINDOW_UPDATE that is due.
-    pub fn announce(&mut self, stream: StreamId) -> u32 {
+    pub fn take_due_credit(&mut self, stream: StreamId) -> u32 {
         self.book.announce(stream)
     }
 }
@@ -250,28 +250,34 @@ impl fmt::Display for WindowViolation {
                 length,
                 window,
             } => {
-                let (length, window) = (ByteCount(u64::from(length)), Grouped(u64::from(window)));
+                let (length, window) = (
+                    ByteCount(u64::from(length)),
+                    GroupedNumber(u64::from(window)),
+                );
                 write!(
                     f,
                     "DATA of {length} on stream {stream} exceeds its window of {window} (RFC 9113, 6.9.1)"
                 )
             }
             WindowViolation::Connection { length, window } => {
-                let (length, window) = (ByteCount(u64::from(length)), Grouped(u64::from(window)));
+                let (length, window) = (
+                    ByteCount(u64::from(length)),
+                    GroupedNumber(u64::from(window)),
+                );
                 write!(
                     f,
                     "DATA of {length} exceeds the connection's window of {window} (RFC 9113, 6.9.1)"
                 )
             }
             WindowViolation::Overflow { stream, increment } => {
-                let increment = Grouped(u64::from(increment));
+                let increment = GroupedNumber(u64::from(increment));
                 write!(
                     f,
                     "WINDOW_UPDATE of {increment} on stream {stream} takes its window past 2,147,483,647 (RFC 9113, 6.9.1)"
                 )
             }
             WindowViolation::InitialOverflow { size } => {
-                let size = Grouped(u64::from(size));
+                let size = GroupedNumber(u64::from(size));
                 write!(
                     f,
                     "SETTINGS_INITIAL_WINDOW_SIZE of {size} takes a window past 2,147,483,647 (RFC 9113, 6.9.2)"

@@ -3,7 +3,7 @@
 use crate::call::Call;
 use crate::fault::Fault;
 use crate::method::{INITIAL_VALUE, TRAILING_VALUE};
-use crate::mismatch::{EchoFault, ReplyFault, StatusFault, Wanted};
+use crate::mismatch::{EchoFault, ReplyFault, StatusFault, WantedStatus};
 use bytes::Bytes;
 use callhead::{first_value, read_bin_values, read_status};
 use figures::shown;
@@ -12,7 +12,7 @@ use std::alloc::{AllocError, Global};
 use testproto::{Message, ProtoFault, SimpleResponse, StreamingInputCallResponse};
 
 /// The call ended with this status.
-pub fn expect_status(alloc: Global, call: &Call, wanted: Wanted) -> Result<(), Fault> {
+pub fn expect_status(alloc: Global, call: &Call, wanted: WantedStatus) -> Result<(), Fault> {
     if let Some(reset) = call.reset {
         return Err(Fault::Status(StatusFault::Reset(reset, wanted)));
     }

@@ -19,7 +19,7 @@ pub struct Failure {
 
 /// What a failure's note says.
 #[derive(Clone, Copy)]
-pub struct Said<'a> {
+pub struct FailureNote<'a> {
     /// What came.
     pub came: &'a str,
     /// What was wanted, where it says that.
@@ -30,10 +30,10 @@ pub struct Said<'a> {
 
 impl Failure {
     /// The parts of the note.
-    pub fn said(&self) -> Said<'_> {
+    pub fn said(&self) -> FailureNote<'_> {
         let (told, rule) = rule_of(self.note.as_str());
         let (came, wanted) = told.split_once(", wanted ").unwrap_or((told, ""));
-        Said { came, wanted, rule }
+        FailureNote { came, wanted, rule }
     }
 
     /// That there is no connection, for this reason.

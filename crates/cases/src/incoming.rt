@@ -4,14 +4,14 @@ ghost use Rattle.std.specs.Prelude.{◌≡◌, ◌<◌, ◌^◌, length};
 ghost use Rattle.h2frame.specs.declared.kind.FrameKind.TheVariants.{Headers};
 
 use crate::connection::{Arrival, Connection, Content};
-use crate::credit::{Step, WindowViolation};
+use crate::credit::{CreditStep, WindowViolation};
 use crate::fault::{Fault, OwnBound};
 use crate::fields::{FieldFault, ResponseHead, judge_head, judge_trailers};
 use crate::line::Line;
 use crate::outgoing::Outgoing;
 use crate::response::Phase;
 use crate::settings::read_setting;
-use crate::silence::Awaited;
+use crate::silence::WaitGoal;
 use crate::violation::{BlockViolation, Violation};
 use bytes::Bytes;
 use figures::shown;
@@ -85,7 +85,7 @@ impl<S: Line> Connection<S> {
         }
         match self.credit.came(head.stream) {
             // A PING that is still unanswered asks this already.
-            Step::Ask if self.pings.is_open() => Ok(()),
+            CreditStep::Ask if self.pings.is_open() => Ok(()),
             step => self.take_step(step),
         }
     }
@@ -152,7 +152,7 @@ impl<S: Line> Connection<S> {
             return Err(Fault::OwnBound(OwnBound::Block(stream)));
         }
         let mut block = HeaderBlock::begin(self.alloc, frame)?;
-        let before = self.await_next(Awaited::Block(stream));
+        let before = self.await_next(WaitGoal::Block(stream));
         for _ in 0..u64::MAX {
             if block.is_whole() {
                 let _block = self.await_next(before);
@@ -243,15 +243,15 @@ impl<S: Line> Connection<S> {
     }
 
     /// Does what is to be done of the windows.
-    fn take_step(&mut self, step: Step) -> Result<(), Fault> {
+    fn take_step(&mut self, step: CreditStep) -> Result<(), Fault> {
         match step {
-            Step::Nothing => Ok(()),
-            Step::Ask => self.ask(),
-            Step::OpenOne(stream) => {
+            CreditStep::Nothing => Ok(()),
+            CreditStep::Ask => self.ask(),
+            CreditStep::OpenOne(stream) => {
                 self.give_credit(stream)?;
                 self.ask()
             }
-            Step::OpenBoth(stream) => {
+            CreditStep::OpenBoth(stream) => {
                 self.give_credit(stream)?;
                 self.give_credit(0)
             }
@@ -260,7 +260,7 @@ impl<S: Line> Connection<S> {
 
     /// Gives the credit that is due on a stream, or on the connection where it is 0.
     fn give_credit(&mut self, stream: StreamId) -> Result<(), Fault> {
-        let increment = self.credit.announce(stream);
+        let increment = self.credit.take_due_credit(stream);
         if increment == 0 || stream >= 0x8000_0000 {
             return Ok(());
         }

@@ -6,7 +6,8 @@
 //! the server's side of the connection breaks a rule of HTTP/2 (RFC 9113, RFC 7541) or of gRPC over
 //! HTTP/2 that a client can see. Its `Failure` then has one line: what came with its figures, what
 //! was wanted, and the section of the standard. A rule is one that binds a server by a MUST, or by
-//! a grammar. A `Channel` makes the calls of a soak. Each run ends once its time is over (`Timed`).
+//! a grammar. A `Channel` makes the calls of a soak. Each run ends once its time is over
+//! (`TimedConn`).
 //!
 //! Read `fault` for the numbers of faults, and what follows each; `method` and `request` for what
 //! is asked. The client's side of HTTP/2, each rule with its enum and its text: `input` and
@@ -48,9 +49,9 @@ mod violation;
 
 pub use case::Case;
 pub use credit::Windows;
-pub use failure::{Failure, Said};
+pub use failure::{Failure, FailureNote};
 pub use fault::CaseFault;
-pub use line::{Limit, Line, Pace, TICK, Timed};
+pub use line::{Limit, Line, Pace, TICK, TimedConn};
 pub use report::{Outcome, ReportFault, have_passed, print_line, push_line, run_all};
 pub use runs::run_case;
 pub use soak::{Channel, Soak, SoakSizes};

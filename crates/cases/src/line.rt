@@ -76,7 +76,7 @@ impl Limit {
 
 /// A connection and the time that it has.
 #[derive(Drop)]
-pub struct Timed<C, T> {
+pub struct TimedConn<C, T> {
     clock: C,
     socket: T,
     limit: Limit,
@@ -89,11 +89,11 @@ pub struct Timed<C, T> {
     has_failed: bool,
 }
 
-impl<C: Clock, T> Timed<C, T> {
+impl<C: Clock, T> TimedConn<C, T> {
     /// A connection that was just made.
-    pub fn new(clock: C, socket: T, limit: Limit) -> Timed<C, T> {
+    pub fn new(clock: C, socket: T, limit: Limit) -> TimedConn<C, T> {
         let heard = limit.spent(&clock);
-        Timed {
+        TimedConn {
             clock,
             socket,
             limit,
@@ -137,7 +137,7 @@ fn milliseconds(time: Duration) -> u64 {
     u64::try_from(time.as_millis()).unwrap_or(u64::MAX)
 }
 
-impl<C: Clock, T: Read> ConnRead for Timed<C, T> {
+impl<C: Clock, T: Read> ConnRead for TimedConn<C, T> {
     ghost remaining = { λ _. None };
 
     ghost failed = { λ timed. timed.has_failed };
@@ -168,7 +168,7 @@ impl<C: Clock, T: Read> ConnRead for Timed<C, T> {
     }
 }
 
-impl<C: Clock, T: Write> ConnWrite for Timed<C, T> {
+impl<C: Clock, T: Write> ConnWrite for TimedConn<C, T> {
     ghost contents = { λ _. None };
 
     ghost failed = { λ timed. timed.has_failed };
@@ -198,7 +198,7 @@ impl<C: Clock, T: Write> ConnWrite for Timed<C, T> {
     }
 }
 
-impl<C: Clock, T: Read + Write> Line for Timed<C, T> {
+impl<C: Clock, T: Read + Write> Line for TimedConn<C, T> {
     fn pace(&self) -> Pace {
         let spent = self.limit.spent(&self.clock);
         Pace {

@@ -31,7 +31,7 @@ pub enum Method {
 
 /// What a call's head asks for beside its method.
 #[derive(Clone, Copy, Debug, PartialEq, Eq)]
-pub enum Asked {
+pub enum HeadExtra {
     Nothing,
     /// One value back in the head of the response, and one in the trailers.
     Echoes,
@@ -62,17 +62,17 @@ impl Method {
     }
 
     /// The fields that open a call.
-    pub fn fields(self, alloc: Global, asked: Asked) -> Result<Vec<Field>, AllocError>
+    pub fn fields(self, alloc: Global, asked: HeadExtra) -> Result<Vec<Field>, AllocError>
         ensures { IfOk result (λ fields. fields.items ≡ fields_of self asked) }
     {
         let path = self.path();
         match asked {
-            Asked::Nothing => request_fields(alloc, path, None, &[], &[]),
-            Asked::Echoes => {
+            HeadExtra::Nothing => request_fields(alloc, path, None, &[], &[]),
+            HeadExtra::Echoes => {
                 request_fields(alloc, path, None, &[INITIAL_VALUE], &[TRAILING_VALUE])
             }
-            Asked::OneMillisecond => request_fields(alloc, path, Some("1m"), &[], &[]),
-            Asked::UserAddress => {
+            HeadExtra::OneMillisecond => request_fields(alloc, path, Some("1m"), &[], &[]),
+            HeadExtra::UserAddress => {
                 let mut fields = request_fields(alloc, path, None, &[], &[])?;
                 fields.push(Field {
                     name: Octets::fixed(b"x-user-ip"),

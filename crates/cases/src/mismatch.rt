@@ -1,14 +1,14 @@
 //! How what came of a call differs from what was wanted.
 
 use crate::method::INITIAL_VALUE;
-use figures::{ErrorName, Grouped, byte_count};
+use figures::{ErrorName, GroupedNumber, byte_count};
 use lpm::LpmFault;
 use std::fmt;
 use testproto::ProtoFault;
 
 /// A status that a call has to end with. No text is wanted where none is given.
 #[derive(Clone, Copy)]
-pub struct Wanted {
+pub struct WantedStatus {
     pub code: u32,
     pub text: Option<&'static str>,
 }
@@ -17,15 +17,15 @@ pub struct Wanted {
 #[derive(Drop)]
 pub enum StatusFault {
     /// RST_STREAM with this code ended the call.
-    Reset(u32, Wanted),
+    Reset(u32, WantedStatus),
     /// The stream ended without trailers.
-    NoTrailers(Wanted),
+    NoTrailers(WantedStatus),
     /// The trailers have no `grpc-status`.
-    NoStatus(Wanted),
+    NoStatus(WantedStatus),
     /// `grpc-status` has this value.
-    NotStatus(String, Wanted),
+    NotStatus(String, WantedStatus),
     /// Another status, with this text.
-    Other(u32, String, Wanted),
+    Other(u32, String, WantedStatus),
 }
 
 /// Why the replies of a call are not those that were wanted.
@@ -108,7 +108,7 @@ impl ReplyFault {
     }
 }
 
-impl fmt::Display for Wanted {
+impl fmt::Display for WantedStatus {
     fn fmt<W: fmt::Write>(&self, f: &mut fmt::Formatter<W>) -> fmt::Result {
         let code = self.code;
         match self.text {
@@ -155,11 +155,11 @@ impl fmt::Display for ReplyFault {
                 came,
                 wanted,
             } => {
-                let (came, wanted) = (byte_count(came), Grouped(wanted as u64));
+                let (came, wanted) = (byte_count(came), GroupedNumber(wanted as u64));
                 write!(f, "reply {reply}: a body of {came}, wanted {wanted}")
             }
             ReplyFault::Byte { reply, at, byte } => {
-                let at = Grouped(at as u64);
+                let at = GroupedNumber(at as u64);
                 write!(
                     f,
                     "reply {reply}: byte {at} of the body is {byte:02x}, wanted 00"
@@ -171,8 +171,8 @@ impl fmt::Display for ReplyFault {
             }
             ReplyFault::Sum { came, wanted } => {
                 let sign = if came < 0 { "-" } else { "" };
-                let came = Grouped(u64::from(came.unsigned_abs()));
-                let wanted = Grouped(u64::from(wanted.unsigned_abs()));
+                let came = GroupedNumber(u64::from(came.unsigned_abs()));
+                let wanted = GroupedNumber(u64::from(wanted.unsigned_abs()));
                 write!(f, "the sum is {sign}{came}, wanted {wanted}")
             }
             ReplyFault::NoMessage {
@@ -191,7 +191,7 @@ impl fmt::Display for ReplyFault {
                 write!(f, "reply {reply}: its prefix says over 4,194,304 bytes")
             }
             ReplyFault::Cut { reply, came } => {
-                let came = Grouped(came as u64);
+                let came = GroupedNumber(came as u64);
                 write!(
                     f,
                     "reply {reply}: the stream ended after {came} of its bytes, prefix included (gRPC over HTTP/2, Length-Prefixed-Message)"

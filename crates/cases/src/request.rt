@@ -1,7 +1,7 @@
 //! The messages that are sent. All bodies are zero bytes, but for that of cacheable_unary.
 
 use crate::fault::Fault;
-use crate::mismatch::Wanted;
+use crate::mismatch::WantedStatus;
 use std::alloc::{AllocError, Global};
 use testproto::{
     ByteList, EchoStatus, Message, ParameterList, Payload, ResponseParameters, SimpleRequest,
@@ -17,8 +17,8 @@ pub struct AskedStatus {
 
 impl AskedStatus {
     /// The status with which the call has to end: a code below 0 means none.
-    pub fn wanted(self) -> Wanted {
-        Wanted {
+    pub fn wanted(self) -> WantedStatus {
+        WantedStatus {
             code: self.code.unsigned_abs(),
             text: Some(self.text),
         }

@@ -15,8 +15,8 @@ use crate::expect::{
 use crate::failure::Failure;
 use crate::fault::Fault;
 use crate::line::Line;
-use crate::method::{Asked, Method};
-use crate::mismatch::{ReplyFault, Wanted};
+use crate::method::{HeadExtra, Method};
+use crate::mismatch::{ReplyFault, WantedStatus};
 use crate::request::{
     AskedStatus, input_request, output_request, simple_request, simple_request_of,
 };
@@ -37,17 +37,17 @@ const LARGE_SIZE: i32 = 314_159;
 const LARGE_REPLY: usize = 314_159;
 
 /// The statuses that calls end with (gRPC, "Status codes and their use in gRPC").
-const OK: Wanted = Wanted {
+const OK: WantedStatus = WantedStatus {
     code: 0,
     text: None,
 };
 
-const DEADLINE_EXCEEDED: Wanted = Wanted {
+const DEADLINE_EXCEEDED: WantedStatus = WantedStatus {
     code: 4,
     text: None,
 };
 
-const UNIMPLEMENTED: Wanted = Wanted {
+const UNIMPLEMENTED: WantedStatus = WantedStatus {
     code: 12,
     text: None,
 };
@@ -145,7 +145,7 @@ fn ask<S: Line>(
     method: Method,
     request: &[u8],
 ) -> Result<(Call, Vec<Bytes>), Fault> {
-    let mut call = Call::begin(connection, FIRST, method, Asked::Nothing)?;
+    let mut call = Call::begin(connection, FIRST, method, HeadExtra::Nothing)?;
     call.send(connection, request, true)?;
     let replies = call.replies(connection)?;
     Ok((call, replies))
@@ -172,7 +172,7 @@ fn client_streaming<S: Line>(connection: &mut Connection<S>) -> Result<(), Fault
         connection,
         FIRST,
         Method::StreamingInputCall,
-        Asked::Nothing,
+        HeadExtra::Nothing,
     )?;
     for body_len in [27_182_usize, 8, 1_828, 45_904] {
         let request = input_request(alloc, body_len)?;
@@ -221,7 +221,12 @@ fn finish<S: Line>(connection: &mut Connection<S>, call: &mut Call) -> Result<()
 }
 
 fn ping_pong<S: Line>(connection: &mut Connection<S>) -> Result<(), Fault> {
-    let mut call = Call::begin(connection, FIRST, Method::FullDuplexCall, Asked::Nothing)?;
+    let mut call = Call::begin(
+        connection,
+        FIRST,
+        Method::FullDuplexCall,
+        HeadExtra::Nothing,
+    )?;
     exchange(connection, &mut call, 31_415, 31_415, 27_182)?;
     exchange(connection, &mut call, 9, 9, 8)?;
     exchange(connection, &mut call, 2_653, 2_653, 1_828)?;
@@ -230,13 +235,18 @@ fn ping_pong<S: Line>(connection: &mut Connection<S>) -> Result<(), Fault> {
 }
 
 fn empty_stream<S: Line>(connection: &mut Connection<S>) -> Result<(), Fault> {
-    let mut call = Call::begin(connection, FIRST, Method::FullDuplexCall, Asked::Nothing)?;
+    let mut call = Call::begin(
+        connection,
+        FIRST,
+        Method::FullDuplexCall,
+        HeadExtra::Nothing,
+    )?;
     finish(connection, &mut call)
 }
 
 fn custom_metadata<S: Line>(connection: &mut Connection<S>) -> Result<(), Fault> {
     let alloc = connection.alloc;
-    let mut unary = Call::begin(connection, FIRST, Method::UnaryCall, Asked::Echoes)?;
+    let mut unary = Call::begin(connection, FIRST, Method::UnaryCall, HeadExtra::Echoes)?;
     let request = simple_request(alloc, LARGE_SIZE, LARGE_BODY, None)?;
     unary.send(connection, request.as_slice(), true)?;
     let replies = unary.replies(connection)?;
@@ -249,7 +259,12 @@ fn custom_metadata<S: Line>(connection: &mut Connection<S>) -> Result<(), Fault>
 /// The second call of custom_metadata.
 fn duplex_metadata<S: Line>(connection: &mut Connection<S>) -> Result<(), Fault> {
     let alloc = connection.alloc;
-    let mut call = Call::begin(connection, SECOND, Method::FullDuplexCall, Asked::Echoes)?;
+    let mut call = Call::begin(
+        connection,
+        SECOND,
+        Method::FullDuplexCall,
+        HeadExtra::Echoes,
+    )?;
     exchange(connection, &mut call, LARGE_SIZE, LARGE_REPLY, LARGE_BODY)?;
     finish(connection, &mut call)?;
     expect_echoes(alloc, &call)
@@ -265,7 +280,7 @@ fn ask_status<S: Line>(
     requires within { stream < 2 ^ 31 }
 {
     let alloc = connection.alloc;
-    let mut call = Call::begin(connection, stream, Method::UnaryCall, Asked::Nothing)?;
+    let mut call = Call::begin(connection, stream, Method::UnaryCall, HeadExtra::Nothing)?;
     let request = simple_request(alloc, 0, 0, Some(status))?;
     call.send(connection, request.as_slice(), true)?;
     let _replies = call.replies(connection)?;
@@ -275,7 +290,12 @@ fn ask_status<S: Line>(
 fn status_code_and_message<S: Line>(connection: &mut Connection<S>) -> Result<(), Fault> {
     ask_status(connection, FIRST, PLAIN)?;
     let alloc = connection.alloc;
-    let mut call = Call::begin(connection, SECOND, Method::FullDuplexCall, Asked::Nothing)?;
+    let mut call = Call::begin(
+        connection,
+        SECOND,
+        Method::FullDuplexCall,
+        HeadExtra::Nothing,
+    )?;
     let request = output_request(alloc, &[], 0, Some(PLAIN))?;
     call.send(connection, request.as_slice(), true)?;
     let _replies = call.replies(connection)?;
@@ -295,13 +315,18 @@ fn cancel_after_begin<S: Line>(connection: &mut Connection<S>) -> Result<(), Fau
         connection,
         FIRST,
         Method::StreamingInputCall,
-        Asked::Nothing,
+        HeadExtra::Nothing,
     )?;
     call.cancel(connection)
 }
 
 fn cancel_after_first_response<S: Line>(connection: &mut Connection<S>) -> Result<(), Fault> {
-    let mut call = Call::begin(connection, FIRST, Method::FullDuplexCall, Asked::Nothing)?;
+    let mut call = Call::begin(
+        connection,
+        FIRST,
+        Method::FullDuplexCall,
+        HeadExtra::Nothing,
+    )?;
     exchange(connection, &mut call, 31_415, 31_415, 27_182)?;
     call.cancel(connection)
 }
@@ -315,7 +340,7 @@ fn timeout_on_sleeping_server<S: Line>(connection: &mut Connection<S>) -> Result
         connection,
         FIRST,
         Method::FullDuplexCall,
-        Asked::OneMillisecond,
+        HeadExtra::OneMillisecond,
     )?;
     let request = output_request(alloc, &[], 27_182, None)?;
     call.send(connection, request.as_slice(), false)?;
@@ -343,7 +368,7 @@ fn cacheable_unary<S: Line>(connection: &mut Connection<S>) -> Result<(), Fault>
             connection,
             stream,
             Method::CacheableUnaryCall,
-            Asked::UserAddress,
+            HeadExtra::UserAddress,
         )?;
         call.send(connection, request.as_slice(), true)?;
         let replies = call.replies(connection)?;

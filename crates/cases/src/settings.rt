@@ -2,7 +2,7 @@
 
 ghost use Rattle.std.specs.Prelude.{◌≡◌, length};
 
-use figures::Grouped;
+use figures::GroupedNumber;
 use h2frame::{PeerSetting, SettingId};
 use session::Parameter;
 use std::fmt;
@@ -60,7 +60,7 @@ fn name_of(id: SettingId) -> SettingName {
 
 impl fmt::Display for SettingViolation {
     fn fmt<W: fmt::Write>(&self, f: &mut fmt::Formatter<W>) -> fmt::Result {
-        let value = Grouped(u64::from(self.value));
+        let value = GroupedNumber(u64::from(self.value));
         let (name, wanted) = match self.parameter {
             SettingName::EnablePush => ("SETTINGS_ENABLE_PUSH", "0 of a server"),
             SettingName::InitialWindowSize => {

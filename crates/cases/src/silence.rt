@@ -1,7 +1,7 @@
 //! Why nothing more comes, and what was waited for.
 
 use crate::input::Progress;
-use figures::{ByteCount, FrameName, Grouped};
+use figures::{ByteCount, FrameName, GroupedNumber};
 use h2frame::{FrameHead, StreamId};
 use std::fmt;
 
@@ -24,7 +24,7 @@ pub enum Silence {
 
 /// What was waited for.
 #[derive(Clone, Copy)]
-pub enum Awaited {
+pub enum WaitGoal {
     /// Room for a message's bytes: how many of them were sent.
     Window { sent: usize, of: usize },
     /// SETTINGS, which a server sends first.
@@ -45,7 +45,7 @@ pub enum Awaited {
 #[derive(Clone, Copy)]
 pub struct SilenceFault {
     pub how: Silence,
-    pub awaited: Awaited,
+    pub awaited: WaitGoal,
     /// How far the next frame had come.
     pub progress: Progress,
     /// How many milliseconds the case had gone on.
@@ -87,7 +87,7 @@ impl SilenceFault {
         let Some(head) = self.last else {
             return Ok(());
         };
-        let (frames, last) = (Grouped(self.frames), FrameName(head));
+        let (frames, last) = (GroupedNumber(self.frames), FrameName(head));
         if self.frames == 1 {
             write!(f, "; one frame came, {last}")
         } else {
@@ -120,32 +120,32 @@ impl fmt::Display for Silence {
     }
 }
 
-impl fmt::Display for Awaited {
+impl fmt::Display for WaitGoal {
     fn fmt<W: fmt::Write>(&self, f: &mut fmt::Formatter<W>) -> fmt::Result {
         match *self {
-            Awaited::Window { sent, of } => {
-                let (sent, of) = (Grouped(sent as u64), ByteCount(of as u64));
+            WaitGoal::Window { sent, of } => {
+                let (sent, of) = (GroupedNumber(sent as u64), ByteCount(of as u64));
                 write!(f, "sent {sent} of {of}, send window 0")
             }
-            Awaited::Settings => write!(f, "no SETTINGS came (RFC 9113, 3.4)"),
-            Awaited::Head(stream) => write!(f, "no HEADERS came on stream {stream}"),
-            Awaited::FinalHead(stream) => {
+            WaitGoal::Settings => write!(f, "no SETTINGS came (RFC 9113, 3.4)"),
+            WaitGoal::Head(stream) => write!(f, "no HEADERS came on stream {stream}"),
+            WaitGoal::FinalHead(stream) => {
                 write!(f, "informational HEADERS alone came on stream {stream}")
             }
-            Awaited::Trailers(stream, bytes) => {
+            WaitGoal::Trailers(stream, bytes) => {
                 let bytes = ByteCount(bytes);
                 write!(
                     f,
                     "{bytes} of DATA came on stream {stream}, and no trailers"
                 )
             }
-            Awaited::Block(stream) => {
+            WaitGoal::Block(stream) => {
                 write!(
                     f,
                     "the header block on stream {stream} goes on, and no CONTINUATION ended it"
                 )
             }
-            Awaited::Ping => write!(f, "PING was not acknowledged (RFC 9113, 6.7)"),
+            WaitGoal::Ping => write!(f, "PING was not acknowledged (RFC 9113, 6.7)"),
         }
     }
 }
@@ -156,7 +156,7 @@ impl fmt::Display for Progress {
         match self.head {
             Some(head) => {
                 let (frame, length) = (FrameName(head), ByteCount(u64::from(head.length)));
-                let came = Grouped(came.saturating_sub(9) as u64);
+                let came = GroupedNumber(came.saturating_sub(9) as u64);
                 write!(f, "{came} of {length} of {frame}")
             }
             None => write!(f, "{came} of 9 bytes of a frame's head"),

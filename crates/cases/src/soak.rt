@@ -11,8 +11,8 @@ use crate::expect::{expect_bodies, expect_status};
 use crate::failure::Failure;
 use crate::fault::Fault;
 use crate::line::Line;
-use crate::method::{Asked, Method};
-use crate::mismatch::Wanted;
+use crate::method::{HeadExtra, Method};
+use crate::mismatch::WantedStatus;
 use crate::request::simple_request;
 use crate::runs::explain;
 use h2frame::StreamId;
@@ -111,12 +111,12 @@ impl<S: Line + Drop> Channel<S> {
         let connection = &mut self.connection;
         let alloc = connection.alloc;
         let SoakSizes { request, response } = sizes;
-        let wanted = Wanted {
+        let wanted = WantedStatus {
             code: 0,
             text: None,
         };
         let message = simple_request(alloc, response, request, None)?;
-        let mut call = Call::begin(connection, stream, Method::UnaryCall, Asked::Nothing)?;
+        let mut call = Call::begin(connection, stream, Method::UnaryCall, HeadExtra::Nothing)?;
         call.send(connection, message.as_slice(), true)?;
         let replies = call.replies(connection)?;
         expect_status(alloc, &call, wanted)?;

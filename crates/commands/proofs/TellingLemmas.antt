@@ -30,7 +30,7 @@ use Rattle.account.proofs.SerialLemmas.{nothing_left, some_left}
 use Rattle.commands.specs.Body.{fault_at_end, fault_of_rest, report_of}
 use Rattle.commands.specs.Report.{ending_line, message_line, message_lines}
 use Rattle.commands.specs.Telling.{HasToldAll}
-use Rattle.commands.specs.declared.body.Telling.{Telling}
+use Rattle.commands.specs.declared.body.MessagePrinter.{MessagePrinter}
 
 -- the messages that were told are those of the bytes
 pub read_messages : (bytes : List ℕ) (messages : List (List ℕ))
@@ -104,7 +104,8 @@ text_more messages message line text written count lines counted same appended =
     ∙ sym (lines_push 0 messages message))))
 
 -- the report is whole
-pub report_told : (bytes : List ℕ) (telling : Telling) (fault : Option LpmFault) (text : List ℕ)
+pub report_told : (bytes : List ℕ) (telling : MessagePrinter)
+    (fault : Option LpmFault) (text : List ℕ)
     → HasToldAll bytes telling → fault ≡ fault_at_end bytes
     → text ≡ telling.text.items ++ ending_line fault → text ≡ report_of bytes
 report_told bytes telling fault text told stands written =

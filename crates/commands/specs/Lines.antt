@@ -2,11 +2,11 @@
 use Rattle.std.specs.Prelude.{◌≡◌, ℕ, List, ◌++◌, string_bytes, vec_len}
 use Rattle.std.specs.List.{AllZip, concat, sum_by}
 use Rattle.commands.specs.declared.waiting.Batch.{Batch}
-use Rattle.commands.specs.declared.waiting.Told.{Told}
-use Rattle.commands.specs.declared.waiting.Told.TheVariants.{Lines, Report}
+use Rattle.commands.specs.declared.waiting.BatchContent.{BatchContent}
+use Rattle.commands.specs.declared.waiting.BatchContent.TheVariants.{Lines, Report}
 
 -- how many lines these are: those of the log, or one of the report
-abbrev pub count_of : Told → ℕ
+abbrev pub count_of : BatchContent → ℕ
 count_of (Lines lines) = vec_len lines
 count_of (Report line) = 1
 
@@ -14,7 +14,7 @@ abbrev pub lines_of : List Batch → ℕ
 lines_of batches = sum_by (λ batch. count_of batch.told) batches
 
 -- the text of lines: a line of the report as it is; of lines of the log nothing is said
-abbrev pub IsTextOf : Told → List ℕ → Type 0
+abbrev pub IsTextOf : BatchContent → List ℕ → Type 0
 IsTextOf (Lines lines) text = Unit {0}
 IsTextOf (Report line) text = text ≡ string_bytes line
 

@@ -89,7 +89,7 @@ impl From<AllocError> for RunFault {
 
 /// A call that comes in pieces, whose messages are printed as soon as they are whole.
 #[derive(Drop)]
-struct Telling {
+struct MessagePrinter {
     /// The bytes of the call, without those of the messages that were printed.
     splitter: Splitter,
     /// The lines of the messages, and how many there are.
@@ -99,14 +99,14 @@ struct Telling {
     fault: Option<LpmFault>,
 }
 
-impl Telling {
+impl MessagePrinter {
     ghost use Rattle.commands.specs.Telling.{HasTold, HasToldAll};
 
     /// A call of which nothing came.
-    fn new(alloc: Global) -> Telling
+    fn new(alloc: Global) -> MessagePrinter
         ensures { HasToldAll [] result }
     {
-        Telling {
+        MessagePrinter {
             splitter: Splitter::new(alloc),
             text: Vec::new(alloc),
             count: 0,
@@ -173,7 +173,7 @@ impl Telling {
             → IfOk result (λ text. text.items ≡ report_of bytes) }
     {
         let fault = self.fault_at_end();
-        let Telling { mut text, .. } = self;
+        let MessagePrinter { mut text, .. } = self;
         push_ending(&mut text, fault)?;
         Ok(text)
     }
@@ -184,7 +184,7 @@ fn report_of(alloc: Global, bytes: &[u8], cut: usize) -> Result<Vec<u8>, AllocEr
     requires { 0 < cut }
     ensures { IfOk result (λ text. text.items ≡ report_of bytes.now) }
 {
-    let mut telling = Telling::new(alloc);
+    let mut telling = MessagePrinter::new(alloc);
     let mut rest = bytes;
     'pieces: while !rest.is_empty() {
         let (piece, behind) = rest.split_at(rest.len().min(cut));

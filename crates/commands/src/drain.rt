@@ -17,7 +17,7 @@ ghost use Rattle.trials.specs.Verdicts.{verdict_of};
 use crate::port::{Service, serve_apart};
 use crate::stopping::Stop;
 use crate::witness::Witnesses;
-use cases::{CaseFault, Failure, Limit, ReportFault, Timed, Windows, print_line};
+use cases::{CaseFault, Failure, Limit, ReportFault, TimedConn, Windows, print_line};
 use device::{ConnWrite, write_all};
 use h2frame::{Frame, FrameKind, FrameReader, StreamId};
 use handlers::Methods;
@@ -53,7 +53,7 @@ pub struct Goaway {
 /// The client's connection. It looks at what is read: it keeps GOAWAYs, and the first reply stops
 /// the server.
 #[derive(Drop)]
-struct Watched<R> {
+struct WatchedClient<R> {
     rt: R,
     stream: TcpStream,
     stop: Arc<Stop>,
@@ -111,7 +111,7 @@ fn run_client<R: Wait + Clock + Eprint + Copy + Drop>(
     stream: TcpStream,
     stop: Arc<Stop>,
 ) -> (Result<(), CaseFault>, Vec<Goaway>) {
-    let mut watched = Watched {
+    let mut watched = WatchedClient {
         rt,
         stream,
         stop,
@@ -120,7 +120,7 @@ fn run_client<R: Wait + Clock + Eprint + Copy + Drop>(
         has_stopped: false,
     };
     let answer = watch(rt, alloc, &mut watched);
-    let Watched { rt, goaways, .. } = watched;
+    let WatchedClient { rt, goaways, .. } = watched;
     let Err(failure) = answer else {
         return (Ok(()), goaways);
     };
@@ -134,12 +134,17 @@ fn run_client<R: Wait + Clock + Eprint + Copy + Drop>(
 fn watch<R: Wait + Clock + Copy + Drop>(
     rt: R,
     alloc: Global,
-    watched: &mut Watched<R>,
+    watched: &mut WatchedClient<R>,
 ) -> Result<(), Failure> {
     let Ok(limit) = Limit::begin(&rt, Duration::from_secs(u64::from(PATIENCE))) else {
         return Err(Failure::unconnected(alloc, "the clock can't be read"));
     };
-    cases::run_case(alloc, CASE, Timed::new(rt, watched, limit), Windows::Held)
+    cases::run_case(
+        alloc,
+        CASE,
+        TimedConn::new(rt, watched, limit),
+        Windows::Held,
+    )
 }
 
 /// A connection to the port, whose reads and writes fail after a tick.
@@ -199,7 +204,7 @@ fn push_goaway(text: &mut Vec<u8>, goaway: Goaway) -> Result<(), AllocError>
     writeln!(text, "goaway {last} {code}").map_err(|_| AllocError)
 }
 
-impl<R: Wait> Watched<R> {
+impl<R: Wait> WatchedClient<R> {
     /// Looks at what was read. After bytes that are no frames it sees nothing more: the case itself
     /// judges them.
     fn look(&mut self, bytes: &[u8]) -> Result<(), AllocError> {
@@ -239,7 +244,7 @@ fn goaway_of(content: &[u8]) -> Goaway {
     }
 }
 
-impl<R: Wait> Read for Watched<R> {
+impl<R: Wait> Read for WatchedClient<R> {
     fn read(&mut self, buf: &mut [u8]) -> io::Result<usize> {
         let count = self.stream.read(buf)?;
         self.look(buf.get(..count).unwrap_or(b"".as_slice()))?;
@@ -247,7 +252,7 @@ impl<R: Wait> Read for Watched<R> {
     }
 }
 
-impl<R: Wait> Write for Watched<R> {
+impl<R: Wait> Write for WatchedClient<R> {
     fn write(&mut self, buf: &[u8]) -> io::Result<usize> {
         self.stream.write(buf)
     }

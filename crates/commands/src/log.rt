@@ -11,9 +11,9 @@ use crate::served::{call_line, call_object, connection_line, connection_object};
 use crate::stopping::Connection;
 use crate::stream;
 use crate::times::{Moment, Times};
-use crate::waiting::{Batch, Told, Waiting, count_lines};
+use crate::waiting::{Batch, BatchContent, WaitingOutput, count_lines};
 use connection::{CallAccount, Ending};
-use connlog::{Ended, Line, Observer};
+use connlog::{ConnEnding, Line, Observer};
 use handlers::Methods;
 use lane::Bell;
 use std::alloc::{AllocError, Global};
@@ -37,7 +37,7 @@ pub struct Log {
     times: Times,
     /// The connections that go on.
     watches: Mutex<Vec<Arc<Watch>>>,
-    waiting: Mutex<Waiting>,
+    waiting: Mutex<WaitingOutput>,
     /// Rung when lines were left, and when no more will come.
     bell: Bell,
     is_closed: AtomicBool,
@@ -52,7 +52,7 @@ pub struct Watch {
 
 /// A connection and the log of its server.
 #[derive(Drop)]
-pub struct Logged {
+pub struct LoggedConn {
     log: Arc<Log>,
     watch: Arc<Watch>,
 }
@@ -62,7 +62,7 @@ impl Log {
         Log {
             times,
             watches: Mutex::new(Vec::new(alloc)),
-            waiting: Mutex::new(Waiting::new(alloc)),
+            waiting: Mutex::new(WaitingOutput::new(alloc)),
             bell: Bell::new(),
             is_closed: AtomicBool::new(false),
         }
@@ -91,7 +91,7 @@ impl Log {
         rt: &R,
         alloc: Global,
         connection: Connection,
-        ended: &stream::Ended,
+        ended: &stream::EndedConn,
         file: &Option<String>,
     ) {
         let moment = self.times.now(rt);
@@ -116,7 +116,7 @@ impl Log {
                 Batch {
                     connection: connection.number,
                     moment,
-                    told: Told::Report(text),
+                    told: BatchContent::Report(text),
                 },
             ),
             Err(AllocError) => self.lose(rt, 1),
@@ -197,8 +197,8 @@ impl Log {
         ensures same { OnErr result (string_bytes text.new ≡ string_bytes text.old) }
     {
         match &batch.told {
-            Told::Report(line) => text.push_str(line.as_str()),
-            Told::Lines(told) => {
+            BatchContent::Report(line) => text.push_str(line.as_str()),
+            BatchContent::Lines(told) => {
                 lines.clear();
                 self.write_lines(alloc, lines, batch, told.as_slice())?;
                 text.push_str(lines.as_str())
@@ -270,7 +270,7 @@ impl Log {
         alloc: Global,
         moment: Moment,
         connection: Connection,
-        ended: &stream::Ended,
+        ended: &stream::EndedConn,
         file: &Option<String>,
     ) -> Result<String, AllocError> {
         let time = self.times.text(alloc, moment)?;
@@ -359,7 +359,7 @@ fn lines_of(observer: &mut Observer) -> Option<Vec<Line>> {
     }
 }
 
-impl Logged {
+impl LoggedConn {
     /// A connection begins.
     // (kept out of its caller, whose frame is on the stack of each connection that lives)
     #[inline(never)]
@@ -368,7 +368,7 @@ impl Logged {
         alloc: Global,
         log: &Arc<Log>,
         connection: Connection,
-    ) -> Result<Logged, AllocError> {
+    ) -> Result<LoggedConn, AllocError> {
         let Connection { number, peer } = connection;
         let mut observer = Observer::new(alloc);
         observer.begun(format!(in alloc; "{peer}")?);
@@ -379,7 +379,7 @@ impl Logged {
                 observer: Mutex::new(observer),
             },
         )?;
-        let logged = Logged {
+        let logged = LoggedConn {
             log: Arc::try_clone(log)?,
             watch,
         };
@@ -392,8 +392,8 @@ impl Logged {
     }
 
     /// A second handle of this connection.
-    pub fn try_clone(&self) -> Result<Logged, AllocError> {
-        Ok(Logged {
+    pub fn try_clone(&self) -> Result<LoggedConn, AllocError> {
+        Ok(LoggedConn {
             log: Arc::try_clone(&self.log)?,
             watch: Arc::try_clone(&self.watch)?,
         })
@@ -422,7 +422,7 @@ impl Logged {
     /// The connection has ended.
     // (kept out of its caller, as `begin` is)
     #[inline(never)]
-    pub fn end(&self, rt: &(impl Wait + Clock), how: Ended) {
+    pub fn end(&self, rt: &(impl Wait + Clock), how: ConnEnding) {
         self.log.forget(rt, self.watch.connection);
         let lines = {
             let mut observer = self.watch.observer.lock(rt);
@@ -442,14 +442,14 @@ impl Logged {
 }
 
 /// How a connection ended, as the log says it.
-pub fn ended_of(ending: Ending) -> Ended {
+pub fn ended_of(ending: Ending) -> ConnEnding {
     match ending {
-        Ending::InputEnded => Ended::Input,
-        Ending::PeerGoaway => Ended::PeerGoaway,
-        Ending::ProtocolError(_) => Ended::ProtocolError,
-        Ending::ReadFailed => Ended::ReadFailed,
-        Ending::WriteFailed => Ended::WriteFailed,
-        Ending::OutOfMemory => Ended::OutOfMemory,
-        Ending::Drained => Ended::Drained,
+        Ending::InputEnded => ConnEnding::Input,
+        Ending::PeerGoaway => ConnEnding::PeerGoaway,
+        Ending::ProtocolError(_) => ConnEnding::ProtocolError,
+        Ending::ReadFailed => ConnEnding::ReadFailed,
+        Ending::WriteFailed => ConnEnding::WriteFailed,
+        Ending::OutOfMemory => ConnEnding::OutOfMemory,
+        Ending::Drained => ConnEnding::Drained,
     }
 }

@@ -32,11 +32,11 @@ const STEP: u64 = 1;
 /// What a server wrote.
 #[derive(Drop)]
 pub struct Memory {
-    written: Mutex<Written>,
+    written: Mutex<WrittenOutput>,
 }
 
 #[derive(Drop)]
-struct Written {
+struct WrittenOutput {
     bytes: Vec<u8>,
     frames: FrameReader,
     /// What its WINDOW_UPDATEs add, on the connection (stream 0) and on each stream.
@@ -62,7 +62,7 @@ impl Memory {
     /// Nothing yet.
     pub fn new(alloc: Global) -> Result<Arc<Memory>, AllocError> {
         let memory = Memory {
-            written: Mutex::new(Written {
+            written: Mutex::new(WrittenOutput {
                 bytes: Vec::new(alloc),
                 frames: FrameReader::new(alloc),
                 credits: Vec::new(alloc),
@@ -93,7 +93,7 @@ impl Memory {
     }
 }
 
-impl Written {
+impl WrittenOutput {
     /// Looks at what is written. After bytes that are no frames it sees nothing more.
     fn look(&mut self, bytes: &[u8]) -> Result<(), AllocError> {
         if self.frames.feed(bytes).is_err() {

@@ -7,8 +7,8 @@ use crate::memory::{Memory, MemoryInput, MemoryOutput};
 use crate::streams::Streams;
 use crate::text::bytes_of;
 use capture::Side;
-use connection::{Ending, Gate, Served, serve_undrained};
-use device::{ConnRead, ConnWrite, Marked, read_all, write_all};
+use connection::{Ending, Gate, ServedConn, serve_undrained};
+use device::{ConnRead, ConnWrite, StdDevice, read_all, write_all};
 use h2frame::FrameReader;
 use handlers::Methods;
 use std::alloc::{AllocError, Global};
@@ -16,7 +16,7 @@ use std::str;
 use std::sync::{Arc, Wait};
 use std::thread::Threads;
 use std::time::Clock;
-use trace::{InputFault, Sent, sent_of};
+use trace::{InputFault, SentBytes, sent_of};
 
 /// Reads a connection's bytes as hexadecimal text, or as what `serve --record` writes, to the end
 /// of the input, and serves them. Then it writes what the server wrote, stream by stream, and how
@@ -39,12 +39,12 @@ where
     let bytes = client_bytes(alloc, text)?;
     let memory = Memory::new(alloc)?;
     let client = MemoryInput::new(rt, alloc, bytes, Arc::try_clone(&memory)?);
-    let mut input = Marked::new(client);
-    let server = Marked::new(MemoryOutput {
+    let mut input = StdDevice::new(client);
+    let server = StdDevice::new(MemoryOutput {
         rt,
         memory: Arc::try_clone(&memory)?,
     });
-    let Served { report: served, .. } = serve_undrained(
+    let ServedConn { report: served, .. } = serve_undrained(
         rt, alloc, &mut input, server, methods, gate,
     );
     let written = memory.written(&rt, alloc)?;
@@ -75,7 +75,7 @@ fn names_sides(text: &[u8]) -> bool {
 }
 
 /// What the client sent, one after another.
-fn joined(alloc: Global, pieces: &[Sent]) -> Result<Vec<u8>, AllocError> {
+fn joined(alloc: Global, pieces: &[SentBytes]) -> Result<Vec<u8>, AllocError> {
     let mut bytes = Vec::new(alloc);
     for piece in pieces {
         if piece.side == Side::Client {

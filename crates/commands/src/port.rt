@@ -9,7 +9,7 @@
 use crate::log::ended_of;
 use crate::room::Room;
 use crate::stopping::{Connection, Stop};
-use crate::stream::{Ended, Link, serve_stream};
+use crate::stream::{EndedConn, Link, serve_stream};
 use crate::witness::Witness;
 use connection::{Ending, STACK};
 use handlers::Methods;
@@ -350,9 +350,9 @@ where
 }
 
 /// How a connection ended, as its log says it.
-fn how_of(served: &io::Result<(Ended, Option<Arc<Link>>)>) -> connlog::Ended {
+fn how_of(served: &io::Result<(EndedConn, Option<Arc<Link>>)>) -> connlog::ConnEnding {
     match served {
         Ok((ended, _)) => ended_of(ended.ending),
-        Err(_) => connlog::Ended::ReadFailed,
+        Err(_) => connlog::ConnEnding::ReadFailed,
     }
 }

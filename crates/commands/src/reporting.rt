@@ -3,7 +3,7 @@
 
 use crate::log::Log;
 use crate::stopping::Connection;
-use crate::stream::Ended;
+use crate::stream::EndedConn;
 use connection::CallAccount;
 use handlers::Methods;
 use std::alloc::{AllocError, Global};
@@ -50,7 +50,7 @@ impl Reporting {
         &self,
         rt: &(impl Wait + Clock),
         alloc: Global,
-        ended: &Ended,
+        ended: &EndedConn,
         file: &Option<String>,
     ) {
         self.log.report_end(rt, alloc, self.connection, ended, file);

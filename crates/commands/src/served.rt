@@ -5,8 +5,8 @@ ghost use Rattle.std.specs.Prelude.{◌≡◌, ◌-◌, false, true, min};
 
 use crate::log::ended_of;
 use crate::stopping::Connection;
-use crate::stream::Ended;
-use account::{Shut, Told};
+use crate::stream::EndedConn;
+use account::{RequestEnd, Shut};
 use connection::CallAccount;
 use connlog::json;
 use handlers::Methods;
@@ -18,7 +18,7 @@ use std::net::SocketAddr;
 pub fn connection_line(
     alloc: Global,
     peer: SocketAddr,
-    ended: &Ended,
+    ended: &EndedConn,
     file: &Option<String>,
 ) -> Result<String, AllocError> {
     let mut text = String::new(alloc);
@@ -48,7 +48,7 @@ pub fn call_line(
     tell_traffic(&mut text, call)?;
     tell_sent(&mut text, call)?;
     match (call.input.told, call.status) {
-        (Some(Told::Reset(code)), _) => writeln!(text, "reset {code}")?,
+        (Some(RequestEnd::Reset(code)), _) => writeln!(text, "reset {code}")?,
         (_, Some(status)) => writeln!(text, "status {status}")?,
         (_, None) => writeln!(text, "left")?,
     }
@@ -91,7 +91,7 @@ pub fn connection_object(
     alloc: Global,
     time: &str,
     connection: Connection,
-    ended: &Ended,
+    ended: &EndedConn,
     file: &Option<String>,
 ) -> Result<String, AllocError> {
     let Connection { number, peer } = connection;
@@ -132,7 +132,7 @@ pub fn call_object(
     write_half(alloc, &mut text, call)?;
     write_traffic(alloc, &mut text, call)?;
     match (call.input.told, call.status) {
-        (Some(Told::Reset(code)), _) => json::number(&mut text, "code", u64::from(code))?,
+        (Some(RequestEnd::Reset(code)), _) => json::number(&mut text, "code", u64::from(code))?,
         (_, Some(status)) => json::number(&mut text, "status", u64::from(status))?,
         (_, None) => json::flag(&mut text, "left", true)?,
     }

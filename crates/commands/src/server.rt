@@ -17,7 +17,7 @@ use crate::times::Times;
 use crate::witness::Witnesses;
 use cases::{ReportFault, Windows, have_passed};
 use connlog::json;
-use device::{ConnRead, ConnWrite, Marked};
+use device::{ConnRead, ConnWrite, StdDevice};
 use handlers::Methods;
 use recorder::Recorder;
 use results::Suite;
@@ -30,7 +30,9 @@ use std::sync::{Arc, Wait};
 use std::thread::Threads;
 use std::time::{Clock, Duration, Instant};
 use std::{io, thread};
-use trials::{PATIENCE, Place, Target, outcomes_of, passed_since, print_summary, run_all_cases};
+use trials::{
+    PATIENCE, ServerPlace, Target, outcomes_of, passed_since, print_summary, run_all_cases,
+};
 use words::{LOOPBACK, LogForm, ServeWords};
 
 /// How long standard input isn't read once it has said something, in milliseconds.
@@ -207,7 +209,7 @@ where
 /// Reads standard input to its end. One that can't be read has ended. One with content is read
 /// slowly, since the content isn't used.
 fn read_out<R: Input<Reader = StdinLock<'static>> + Clock>(rt: &R) {
-    let mut input = Marked::new(rt.reader());
+    let mut input = StdDevice::new(rt.reader());
     let mut piece = [0u8; 65_536];
     for _ in 0..u64::MAX {
         match input.read(&mut piece) {
@@ -290,7 +292,7 @@ where
     };
     let _serving = serve_apart(rt, alloc, listener, service)?;
     let target = Target {
-        place: Place::new(LOOPBACK, port),
+        place: ServerPlace::new(LOOPBACK, port),
         patience: PATIENCE,
         windows: Windows::Held,
         recorder: &None,

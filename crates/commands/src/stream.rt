@@ -2,13 +2,13 @@
 
 ghost use Rattle.std.specs.Prelude.{◌≡◌, ◌<◌};
 
-use crate::log::Logged;
+use crate::log::LoggedConn;
 use crate::reporting::Report;
 use crate::stopping::{Stop, stand_by};
 use connection::{
-    CallAccount, ConnReport, Drainer, Ending, Gate, Served, serve_connection, serve_undrained,
+    CallAccount, ConnReport, Drainer, Ending, Gate, ServedConn, serve_connection, serve_undrained,
 };
-use device::Marked;
+use device::StdDevice;
 use h2frame::StreamId;
 use handlers::Methods;
 use recorder::Eye;
@@ -22,7 +22,7 @@ use std::sync::{Arc, Wait};
 use std::thread::Threads;
 use std::time::{Clock, Duration, Instant};
 use std::{io, thread};
-use tap::Tapped;
+use tap::TappedDevice;
 
 /// How long a connection that was drained is read on at most, so that its client reads what was
 /// written, in milliseconds.
@@ -185,7 +185,7 @@ impl<R: Wait + Clock, P: Report> Gate for Door<R, P> {
 struct LinkInput<R> {
     rt: R,
     link: Arc<Link>,
-    logged: Option<Logged>,
+    logged: Option<LoggedConn>,
 }
 
 impl<R: Wait + Clock> Read for LinkInput<R> {
@@ -204,7 +204,7 @@ impl<R: Wait + Clock> Read for LinkInput<R> {
 struct LinkOutput<R> {
     rt: R,
     link: Arc<Link>,
-    logged: Option<Logged>,
+    logged: Option<LoggedConn>,
 }
 
 impl<R: Wait + Clock> Write for LinkOutput<R> {
@@ -228,15 +228,15 @@ impl<R: Wait + Clock> Write for LinkOutput<R> {
 
 /// What became of a connection.
 #[derive(Drop)]
-pub struct Ended {
+pub struct EndedConn {
     pub ending: Ending,
     /// How many calls were admitted.
     pub calls: usize,
 }
 
-impl Ended {
-    fn of(report: &ConnReport) -> Ended {
-        Ended {
+impl EndedConn {
+    fn of(report: &ConnReport) -> EndedConn {
+        EndedConn {
             ending: report.ending,
             calls: report.calls.len(),
         }
@@ -246,8 +246,8 @@ impl Ended {
 /// What a connection is served over.
 #[derive(Drop)]
 struct Ends<R: Wait + Clock + Eprint + Drop, P> {
-    input: Tapped<Marked<LinkInput<R>>, Eye<R>>,
-    output: Tapped<Marked<LinkOutput<R>>, Eye<R>>,
+    input: TappedDevice<StdDevice<LinkInput<R>>, Eye<R>>,
+    output: TappedDevice<StdDevice<LinkOutput<R>>, Eye<R>>,
     gate: Arc<Door<R, P>>,
 }
 
@@ -259,11 +259,11 @@ pub fn serve_stream<R, P>(
     alloc: Global,
     stream: TcpStream,
     methods: &Arc<Methods>,
-    logged: &Option<Logged>,
+    logged: &Option<LoggedConn>,
     eye: Option<Eye<R>>,
     reporting: &Option<P>,
     stop: &Option<Arc<Stop>>,
-) -> io::Result<(Ended, Option<Arc<Link>>)>
+) -> io::Result<(EndedConn, Option<Arc<Link>>)>
 where
     P: Report + Send + Sync + Drop + 'static,
     R: Eprint + Threads + Wait + Clock + Copy + Send + Sync + Drop + 'static,
@@ -281,8 +281,8 @@ where
         output,
         gate,
     } = ends;
-    let Served { report, .. } = serve_undrained(rt, alloc, &mut input, output, methods, gate);
-    Ok((Ended::of(&report), None))
+    let ServedConn { report, .. } = serve_undrained(rt, alloc, &mut input, output, methods, gate);
+    Ok((EndedConn::of(&report), None))
 }
 
 /// Serves a connection over these ledgers, until the server stops.
@@ -293,7 +293,7 @@ fn serve_until<A, B, C, R, P>(
     ends: Ends<R, P>,
     methods: Arc<Methods>,
     stop: &Arc<Stop>,
-) -> io::Result<(Ended, Option<Arc<Link>>)>
+) -> io::Result<(EndedConn, Option<Arc<Link>>)>
 where
     A: Ledger + Send + Sync + 'static,
     B: Ledger + Send + Sync + 'static,
@@ -312,7 +312,7 @@ where
         output,
         gate,
     } = ends;
-    let Served { report, .. } = serve_connection(
+    let ServedConn { report, .. } = serve_connection(
         rt, alloc, &mut input, output, methods, gate, seat,
     );
     standby.end(&rt);
@@ -321,7 +321,7 @@ where
     } else {
         None
     };
-    Ok((Ended::of(&report), drained))
+    Ok((EndedConn::of(&report), drained))
 }
 
 /// The reader of a connection, its writer, and its gate.
@@ -329,7 +329,7 @@ fn ends_of<R, P>(
     rt: R,
     alloc: Global,
     stream: TcpStream,
-    logged: &Option<Logged>,
+    logged: &Option<LoggedConn>,
     eye: Option<Eye<R>>,
     reporting: &Option<P>,
 ) -> Result<Ends<R, P>, AllocError>
@@ -338,7 +338,7 @@ where
     R: Wait + Clock + Eprint + Copy + Drop,
 {
     let link = Arc::new(alloc, Link::new(stream))?;
-    let output = Marked::new(LinkOutput {
+    let output = StdDevice::new(LinkOutput {
         rt,
         link: Arc::try_clone(&link)?,
         logged: again(logged)?,
@@ -348,20 +348,20 @@ where
         None => None,
     };
     let gate = Door::open(rt, alloc, &link, reporting)?;
-    let input = Marked::new(LinkInput {
+    let input = StdDevice::new(LinkInput {
         rt,
         link,
         logged: again(logged)?,
     });
     Ok(Ends {
-        input: Tapped::new(input, eye),
-        output: Tapped::new(output, second),
+        input: TappedDevice::new(input, eye),
+        output: TappedDevice::new(output, second),
         gate,
     })
 }
 
 /// A second handle of this connection.
-fn again(logged: &Option<Logged>) -> Result<Option<Logged>, AllocError> {
+fn again(logged: &Option<LoggedConn>) -> Result<Option<LoggedConn>, AllocError> {
     match logged {
         Some(logged) => Ok(Some(logged.try_clone()?)),
         None => Ok(None),

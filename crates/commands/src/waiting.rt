@@ -16,12 +16,12 @@ const MOST_LINES: usize = 16_384;
 pub struct Batch {
     pub connection: u64,
     pub moment: Moment,
-    pub told: Told,
+    pub told: BatchContent,
 }
 
 /// What they are.
 #[derive(Drop)]
-pub enum Told {
+pub enum BatchContent {
     Lines(Vec<Line>),
     /// One of the report, as it is printed.
     Report(String),
@@ -32,7 +32,7 @@ impl Batch {
         Batch {
             connection,
             moment,
-            told: Told::Lines(lines),
+            told: BatchContent::Lines(lines),
         }
     }
 
@@ -41,8 +41,8 @@ impl Batch {
         ensures { result ≡ count_of self.now.told }
     {
         match &self.told {
-            Told::Lines(lines) => lines.len(),
-            Told::Report(_) => 1,
+            BatchContent::Lines(lines) => lines.len(),
+            BatchContent::Report(_) => 1,
         }
     }
 }
@@ -61,7 +61,7 @@ pub fn count_lines(batches: &[Batch]) -> usize
 
 /// What is to be printed.
 #[derive(Drop)]
-pub struct Waiting {
+pub struct WaitingOutput {
     batches: Vec<Batch>,
     /// How many lines they have.
     lines: usize,
@@ -71,13 +71,13 @@ pub struct Waiting {
     ghost few: { lines ≤ 16384 },
 }
 
-impl Waiting {
+impl WaitingOutput {
     ghost use Rattle.commands.specs.Waiting.{Drops, Keeps};
 
-    pub fn new(alloc: Global) -> Waiting
+    pub fn new(alloc: Global) -> WaitingOutput
         ensures { (result.batches.items ≡ []) × (result.dropped ≡ 0) }
     {
-        Waiting {
+        WaitingOutput {
             batches: Vec::new(alloc),
             lines: 0,
             dropped: 0,

@@ -2,7 +2,7 @@
 
 ghost use Rattle.std.specs.Prelude.{IfOk, IsNone};
 
-use crate::log::{Log, Logged};
+use crate::log::{Log, LoggedConn};
 use crate::reporting::Reporting;
 use crate::stopping::Connection;
 use capture::Side;
@@ -24,7 +24,7 @@ pub trait Witness {
         rt: &R,
         alloc: Global,
         connection: Connection,
-    ) -> Option<Logged>;
+    ) -> Option<LoggedConn>;
 
     /// The tap of a connection that begins, if there is one.
     fn look<R>(&self, rt: R, stream: &TcpStream, connection: Connection) -> Option<Eye<R>>
@@ -94,9 +94,9 @@ impl Witness for Witnesses {
         rt: &R,
         alloc: Global,
         connection: Connection,
-    ) -> Option<Logged> {
+    ) -> Option<LoggedConn> {
         let log = self.log.as_ref()?;
-        Logged::begin(rt, alloc, log, connection).ok()
+        LoggedConn::begin(rt, alloc, log, connection).ok()
     }
 
     // (kept out of its caller, whose frame is on the stack of each connection that lives)

@@ -209,7 +209,7 @@ impl<A: Ledger, B: Ledger, C: Ledger> ConnBook<A, B, C> {
 
     /// Counts bytes that were returned, for a live call and the connection, or for the connection
     /// alone where the id is 0.
-    pub fn give_back(&mut self, id: StreamId, n: u32) -> Result<(), BookFault>
+    pub fn return_credit(&mut self, id: StreamId, n: u32) -> Result<(), BookFault>
         ensures book { OnOk result (self.new.book ≡ after_give_back self.old.book id n) }
         ensures unchanged { OnErr result (self.new.book ≡ self.old.book) }
         ensures cause { Meets (GiveBackCause self.old.book id n) result }
@@ -229,7 +229,7 @@ impl<A: Ledger, B: Ledger, C: Ledger> ConnBook<A, B, C> {
     /// Announces all that was returned on an id, 0 for the connection, if credit is due: the new
     /// part is at least what the peer may still send. Answers that part, the increment of a
     /// WINDOW_UPDATE (RFC 9113, section 6.9), or 0.
-    pub fn announce(&mut self, id: StreamId, mine: &mut Share<C>) -> u32
+    pub fn take_due_credit(&mut self, id: StreamId, mine: &mut Share<C>) -> u32
         requires { 0 < mine.old.parts }
         ensures increment { result ≡ credit_of self.old.book id }
         ensures book { self.new.book ≡ after_credit self.old.book id }

@@ -40,7 +40,7 @@ use Rattle.h2frame.specs.declared.error_code.ErrorCode.TheVariants as error
 use Rattle.h2frame.specs.declared.frame.Frame.{Frame}
 use Rattle.h2frame.specs.declared.kind.FrameKind.TheVariants as kind
 use Rattle.lists.specs.declared.field.Field.{Field}
-use Rattle.outwriter.specs.declared.control.Control.TheVariants.{
+use Rattle.outwriter.specs.declared.control.WriterOrder.TheVariants.{
   Settings,
   Ping,
   Probe,
@@ -59,8 +59,8 @@ use Rattle.outwriter.specs.Runs.{Asks, IsAsked, IsLawful, is_opened, opens_strea
 use Rattle.outwriter.specs.Steps.{Order, Taken, Granted, Written, Returned}
 use Rattle.outwriter.specs.Steps.{Step as RunStep}
 use Rattle.reasons.specs.declared.Reason.TheVariants as reason
-use Rattle.session.specs.declared.event.Control.{Control}
-use Rattle.session.specs.declared.event.Control.TheVariants as controls
+use Rattle.session.specs.declared.event.PeerControl.{PeerControl}
+use Rattle.session.specs.declared.event.PeerControl.TheVariants as controls
 use Rattle.session.specs.declared.event.InEvent.{InEvent}
 use Rattle.session.specs.declared.event.InEvent.TheVariants as events
 use Rattle.readerloop.specs.Calls.{is_admitted}
@@ -389,7 +389,7 @@ loose-caused told last Unknown = tt
 loose-caused told last (TurnedAway fault) = tt
 loose-caused told last Lacking = tt
 
-news-caused : (told : List Step) (control : Control) → AreCaused told (news_of control ∷ [])
+news-caused : (told : List Step) (control : PeerControl) → AreCaused told (news_of control ∷ [])
 news-caused told (controls.Settings settings) = (tt, tt)
 news-caused told (controls.Ping bytes) = (tt, tt)
 news-caused told (controls.Window id increment) = (tt, tt)

@@ -37,15 +37,20 @@ use Rattle.h2frame.specs.declared.error_code.ErrorCode.TheVariants.{
   Cancel,
 }
 use Rattle.lists.specs.declared.field.Field.{Field}
-use Rattle.outwriter.specs.declared.control.Control.TheVariants as order
-use Rattle.outwriter.specs.declared.control.Control.TheVariants.{Goaway, Reset, InputEnded, Close}
+use Rattle.outwriter.specs.declared.control.WriterOrder.TheVariants as order
+use Rattle.outwriter.specs.declared.control.WriterOrder.TheVariants.{
+  Goaway,
+  Reset,
+  InputEnded,
+  Close,
+}
 use Rattle.outwriter.specs.Calls.{is_closed}
 use Rattle.outwriter.specs.Drains.{fails, has_failed}
 use Rattle.outwriter.specs.Steps.{Order, Taken, Granted, Written, Returned}
 use Rattle.outwriter.specs.Steps.{Step as RunStep}
 use Rattle.reasons.specs.declared.Reason.TheVariants as reason
-use Rattle.session.specs.declared.event.Control.{Control as News}
-use Rattle.session.specs.declared.event.Control.TheVariants as news
+use Rattle.session.specs.declared.event.PeerControl.{PeerControl as News}
+use Rattle.session.specs.declared.event.PeerControl.TheVariants as news
 use Rattle.session.specs.declared.event.InEvent.{InEvent}
 use Rattle.session.specs.declared.event.InEvent.TheVariants as events
 use Rattle.readerloop.specs.Orders.{

@@ -44,7 +44,7 @@ use Rattle.h2frame.specs.declared.error_code.ErrorCode.{ErrorCode}
 use Rattle.h2frame.specs.declared.error_code.ErrorCode.TheVariants as error
 use Rattle.h2frame.specs.declared.frame.Frame.{Frame}
 use Rattle.h2frame.specs.declared.kind.FrameKind.TheVariants.{RstStream}
-use Rattle.outwriter.specs.declared.control.Control.TheVariants.{InputEnded, Open, Reset}
+use Rattle.outwriter.specs.declared.control.WriterOrder.TheVariants.{InputEnded, Open, Reset}
 use Rattle.outwriter.specs.Frames.{reset_frame}
 use Rattle.outwriter.specs.Runs.{IsLawful}
 use Rattle.outwriter.specs.Steps.{Order}

@@ -39,7 +39,12 @@ use Rattle.h2frame.specs.declared.error_code.ErrorCode.TheVariants.{
 }
 use Rattle.h2frame.specs.declared.frame.Frame.{Frame}
 use Rattle.lists.specs.declared.field.Field.{Field}
-use Rattle.outwriter.specs.declared.control.Control.TheVariants.{Goaway, Reset, InputEnded, Close}
+use Rattle.outwriter.specs.declared.control.WriterOrder.TheVariants.{
+  Goaway,
+  Reset,
+  InputEnded,
+  Close,
+}
 use Rattle.outwriter.specs.Drains.{HasDrained, fails, goaway_by, has_failed, ordered_goaway}
 use Rattle.outwriter.specs.Frames.{goaway_frame}
 use Rattle.outwriter.specs.RunState.{IsAnswered}
@@ -49,8 +54,8 @@ use Rattle.outwriter.specs.Steps.{Step as RunStep}
 use Rattle.outwriter.proofs.Drained.{last-is-ordered, none-is-last}
 use Rattle.outwriter.proofs.Leads.{either-false}
 use Rattle.reasons.specs.declared.Reason.TheVariants as reason
-use Rattle.session.specs.declared.event.Control.{Control as News}
-use Rattle.session.specs.declared.event.Control.TheVariants as news
+use Rattle.session.specs.declared.event.PeerControl.{PeerControl as News}
+use Rattle.session.specs.declared.event.PeerControl.TheVariants as news
 use Rattle.session.specs.declared.event.InEvent.{InEvent}
 use Rattle.session.specs.declared.event.InEvent.TheVariants as events
 use Rattle.readerloop.specs.Orders.{

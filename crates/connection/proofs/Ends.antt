@@ -29,27 +29,27 @@ use Rattle.std.specs.Prelude.{IfSome}
 use Rattle.std.proofs.lemmas.List.{append_assoc, length-map, map-append}
 use mathlib.Core.List.{IsPrefix}
 use Rattle.callparts.specs.declared.call_account.CallAccount.{CallAccount}
-use Rattle.callparts.specs.declared.order.Opening.{Opening}
-use Rattle.callparts.specs.declared.order.Returning.{Returning}
+use Rattle.callparts.specs.declared.order.OpeningCall.{OpeningCall}
+use Rattle.callparts.specs.declared.order.ReturningCall.{ReturningCall}
 use Rattle.callparts.specs.declared.register.Naming.{Ghosts as Naming}
 use Rattle.callparts.specs.declared.report.Ending.{Ending}
 use Rattle.callparts.specs.declared.report.Ending.TheVariants.{OutOfMemory, ReadFailed, WriteFailed}
-use Rattle.handlers.specs.declared.step.Step.{Step as Answer}
+use Rattle.handlers.specs.declared.step.MethodStep.{MethodStep as Answer}
 use Rattle.lane.specs.Ring.{put_in, taken}
 use Rattle.outwriter.specs.Drains.{has_failed}
 use Rattle.outwriter.specs.Steps.{Order, order_of}
 use Rattle.outwriter.specs.Steps.{Step as RunStep}
-use Rattle.outwriter.specs.declared.control.Control.{Control}
-use Rattle.outwriter.specs.declared.control.Control.TheVariants as control
-use Rattle.outwriter.specs.declared.control.Control.TheVariants.{InputEnded, Close}
+use Rattle.outwriter.specs.declared.control.WriterOrder.{WriterOrder}
+use Rattle.outwriter.specs.declared.control.WriterOrder.TheVariants as control
+use Rattle.outwriter.specs.declared.control.WriterOrder.TheVariants.{InputEnded, Close}
 use Rattle.session.specs.FlowBytes.{counted_told}
 use Rattle.readerloop.specs.declared.reading.Reading.{Reading}
-use Rattle.readerloop.specs.Calls.{Sent, carried_in}
+use Rattle.readerloop.specs.Calls.{SentItems, carried_in}
 use Rattle.readerloop.specs.Orders.{orders_by}
 use Rattle.readerloop.specs.Readings.{Reads}
 use Rattle.readerloop.specs.Reports.{AreAccounts, is_heard_out}
 use Rattle.readerloop.specs.Steps.{Step, events_of, reported}
-use Rattle.writerloop.specs.declared.writing.Senders.{Senders}
+use Rattle.writerloop.specs.declared.senders.Senders.{Senders}
 use Rattle.readerloop.proofs.Resets.{calm-more}
 use Rattle.writerloop.specs.Orders.{Obeys, orders_of, order_in}
 use Rattle.writerloop.specs.Written.{HasSent, HasWritten, IsOver}
@@ -123,16 +123,16 @@ module _ {A B C J M N V W : Type 0} {book : Naming J} {route : Ghosts N}
     (items : V → List CallAccount) (contents : W → Option (List ℕ)) (failed : W → Bool)
     (reading mid : Reading J M book) (old orders : Orders A B C J N book route)
     (grows : Grows reading mid)
-    (ends : (sent : List Sent) (told : List Step) → AreCarried sent (taken mid.home)
+    (ends : (sent : List SentItems) (told : List Step) → AreCarried sent (taken mid.home)
     → Reads known names (carried_in sent) told reading
     → (cuts : List Step) × HasEnded known names sent told cuts mid old orders)
     (hears : Hears known names reading old) (before : Option (List ℕ)) (amount : ℕ)
-    (took : List (Control (Opening J book))) (rest : Senders J book)
+    (took : List (WriterOrder (OpeningCall J book))) (rest : Senders J book)
     (written : Option Ending) (device : W)
     (sent : HasSent contents failed before amount took rest written device)
     (came : IsPrefix (taken mid.home) (put_in rest.sends.home))
     (front : IsPrefix took (put_of orders)) where
-  abbrev home : List (Returning J book)
+  abbrev home : List (ReturningCall J book)
   home = put_in rest.sends.home
 
   -- each order that the writer took stands in the register: so it is whatever was sent
@@ -148,12 +148,13 @@ module _ {A B C J M N V W : Type 0} {book : Naming J} {route : Ghosts N}
       (ended.1.ordered some.2) took front
 
   -- what all senders got, as they were handed back
-  abbrev pub gave : List Sent
+  abbrev pub gave : List SentItems
   gave = all_sent rest sent.senders.handed orders.unput
 
   back : AreCarried gave home
   back =
-      subst (λ (rs : List (Returning J book)). AreCarried gave rs) sent.senders.are (handed-carried
+      subst (λ (rs : List (ReturningCall J book)). AreCarried gave rs)
+      sent.senders.are (handed-carried
       rest sent.senders.handed orders.unput sent.given took sent.orders_are sent.senders.all owns)
 
   there : AreCarried gave (taken mid.home)
@@ -172,7 +173,7 @@ module _ {A B C J M N V W : Type 0} {book : Naming J} {route : Ghosts N}
 
   -- there is an account for each call that was heard to be admitted
   pub ended-accounted : (calls : V) (told : List Step)
-      → ((sent : List Sent) (told : List Step) → AreCarried sent home → CarriesRest sent rest
+      → ((sent : List SentItems) (told : List Step) → AreCarried sent home → CarriesRest sent rest
       → IfSome orders.unput (CarriesOpen sent) → Reads known names (carried_in sent) told mid
       → AreAccounts known names (carried_in sent) told (reported told) (items calls))
       → Reads known names (carried_in gave) told reading
@@ -193,7 +194,7 @@ module _ {A B C J M N V W : Type 0} {book : Naming J} {route : Ghosts N}
   pub ended-served : (read ending : Ending) (calls : V) (bytes : List ℕ) (input : Option (List ℕ))
       (told : List Step) (read_failed : Bool)
       → ((unbroken : read ≢ WriteFailed) → Meets read ending written orders.has_dropped)
-      → ((sent : List Sent) (told : List Step) → AreCarried sent home → CarriesRest sent rest
+      → ((sent : List SentItems) (told : List Step) → AreCarried sent home → CarriesRest sent rest
       → IfSome orders.unput (CarriesOpen sent) → Reads known names (carried_in sent) told mid
       → AreAccounts known names (carried_in sent) told (reported told) (items calls))
       → HasRead known names gave read bytes told reading old

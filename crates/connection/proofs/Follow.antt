@@ -2,7 +2,7 @@
 use Rattle.std.proofs.Common.{◌≡◌, ℕ, Bool, List, [], ◌∷◌, Option, subst, sym}
 use Rattle.callparts.specs.declared.register.Naming.{Ghosts as Naming}
 use Rattle.callparts.specs.declared.report.Ending.{Ending}
-use Rattle.handlers.specs.declared.step.Step.{Step as Answer}
+use Rattle.handlers.specs.declared.step.MethodStep.{MethodStep as Answer}
 use Rattle.session.specs.declared.event.InEvent.{InEvent}
 use Rattle.readerloop.specs.declared.reading.Reading.{Reading}
 use Rattle.connection.specs.declared.orders.Orders.{Orders}

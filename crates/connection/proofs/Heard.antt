@@ -43,8 +43,8 @@ use Rattle.std.specs.Io.KnownBytes.{Consumes, Keeps, ReadConsumes}
 use Rattle.std.specs.Prelude.{◌||◌, Contains, IfSome, Result, Ok, Err, is_some}
 use mathlib.Core.List.{IsPrefix}
 use Rattle.callhead.specs.declared.head.CallHead.{CallHead}
-use Rattle.callparts.specs.declared.order.Opening.{Opening}
-use Rattle.callparts.specs.declared.order.Returning.{Returning}
+use Rattle.callparts.specs.declared.order.OpeningCall.{OpeningCall}
+use Rattle.callparts.specs.declared.order.ReturningCall.{ReturningCall}
 use Rattle.callparts.specs.declared.register.Naming.{Ghosts as Naming}
 use Rattle.callparts.specs.declared.report.Ending.{Ending}
 use Rattle.callparts.specs.declared.report.Ending.TheVariants.{
@@ -58,11 +58,11 @@ use Rattle.callparts.specs.declared.report.Ending.TheVariants.{
 }
 use Rattle.callparts.specs.declared.work.Request.{Request}
 use Rattle.h2frame.specs.declared.error_code.ErrorCode.{ErrorCode}
-use Rattle.handlers.specs.declared.step.Step.{Step as Answer}
+use Rattle.handlers.specs.declared.step.MethodStep.{MethodStep as Answer}
 use Rattle.lane.specs.Ring.{out_name, put_in, taken}
 use Rattle.lane.specs.declared.ring.RingOut.{RingOut}
-use Rattle.outwriter.specs.declared.control.Control.{Control}
-use Rattle.outwriter.specs.declared.control.Control.TheVariants as orders
+use Rattle.outwriter.specs.declared.control.WriterOrder.{WriterOrder}
+use Rattle.outwriter.specs.declared.control.WriterOrder.TheVariants as orders
 use Rattle.outwriter.specs.Steps.{Order, order_of}
 use Rattle.session.specs.declared.event.InEvent.{InEvent}
 use Rattle.session.specs.declared.event.InEvent.TheVariants as events
@@ -70,10 +70,10 @@ use Rattle.session.specs.CoreStates.{Core, Reached}
 use Rattle.session.specs.Events.{Events}
 use Rattle.session.proofs.EventLaws.{reached_events}
 use Rattle.session.proofs.OneEvents.{events_go_on, events_one}
-use Rattle.readerloop.specs.declared.decided.Cut.{Cut}
-use Rattle.readerloop.specs.declared.decided.Decided.{Decided}
+use Rattle.readerloop.specs.declared.decision.HalfToShut.{HalfToShut}
+use Rattle.readerloop.specs.declared.decision.Decision.{Decision}
 use Rattle.readerloop.specs.declared.reading.Reading.{Reading}
-use Rattle.readerloop.specs.Calls.{HasReturned, Sent, carried_in}
+use Rattle.readerloop.specs.Calls.{HasReturned, SentItems, carried_in}
 use Rattle.readerloop.specs.Orders.{ends_at, orders_at, orders_by}
 use Rattle.readerloop.specs.Readings.{
   Awaits,
@@ -193,31 +193,33 @@ none-in x there = absurd (none-within there.0 there.1)
     none-within k within = omega (arith, within)
 
 module _ {J : Type 0} {book : Naming J} where
-  abbrev map_of : List (Control (Opening J book)) → List Order
-  map_of controls = map (λ (order : Control (Opening J book)). order_of order) controls
+  abbrev map_of : List (WriterOrder (OpeningCall J book)) → List Order
+  map_of controls = map (λ (order : WriterOrder (OpeningCall J book)). order_of order) controls
 
   -- of nothing that was dropped nothing is kept
-  kept-nothing : (one two : Option (Control (Opening J book))) → two ≡ one
+  kept-nothing : (one two : Option (WriterOrder (OpeningCall J book))) → two ≡ one
       → IfSome one (Contains []) → IfSome two (Contains [])
   kept-nothing one two is kept =
-      subst (λ (found : Option (Control (Opening J book))).
+      subst (λ (found : Option (WriterOrder (OpeningCall J book))).
       IfSome found (Contains [])) (sym is) kept
 
-  kept-left : (dropped : List (Control (Opening J book))) (order : Control (Opening J book))
-      (kept : Option (Control (Opening J book)))
+  kept-left : (dropped : List (WriterOrder (OpeningCall J book)))
+      (order : WriterOrder (OpeningCall J book))
+      (kept : Option (WriterOrder (OpeningCall J book)))
       → IfSome kept (Contains dropped) → IfSome kept (Contains (dropped ++ order ∷ []))
   kept-left dropped order None there = tt
   kept-left dropped order (Some one) there = Contains-append_left dropped (order ∷ []) one there
 
-  kept-more : (dropped : List (Control (Opening J book))) (order : Control (Opening J book))
-      (old new : Option (Control (Opening J book)))
+  kept-more : (dropped : List (WriterOrder (OpeningCall J book)))
+      (order : WriterOrder (OpeningCall J book))
+      (old new : Option (WriterOrder (OpeningCall J book)))
       → IsKept order old new → IfSome old (Contains dropped)
       → IfSome new (Contains (dropped ++ order ∷ []))
   kept-more dropped order old new (inl is) there =
-      subst (λ (found : Option (Control (Opening J book))).
+      subst (λ (found : Option (WriterOrder (OpeningCall J book))).
       IfSome found (Contains (dropped ++ order ∷ []))) (sym is) (kept-left dropped order old there)
   kept-more dropped order old new (inr is) there =
-      subst (λ (found : Option (Control (Opening J book))).
+      subst (λ (found : Option (WriterOrder (OpeningCall J book))).
       IfSome found (Contains (dropped ++ order ∷ []))) (sym is)
       (Contains-append_right dropped (order ∷ []) order (0, omega arith, refl))
 
@@ -239,54 +241,55 @@ module _ {A B C J N : Type 0} {book : Naming J} {route : Ghosts N} where
       ∙ ap (λ later. put_in old.outbox.ring ++ later.items) backlog
 
   -- an order more
-  pub ordered-put : (all : List Order) (order : Control (Opening J book))
+  pub ordered-put : (all : List Order) (order : WriterOrder (OpeningCall J book))
       (old new : Orders A B C J N book route)
       → Puts order old new → IsOwn order → Ordered all old
       → Ordered (all ++ order_of order ∷ []) new
   ordered-put all order old new (inl (put, had, has, unput)) own ordered =
       let none : ordered.dropped ≡ [] = ordered.whole had in
       let before : put_of old ≡ put_of old ++ ordered.dropped =
-      sym (ap (λ (os : List (Control (Opening J book))). put_of old ++ os) none
+      sym (ap (λ (os : List (WriterOrder (OpeningCall J book))). put_of old ++ os) none
       ∙ append-nil (put_of old)) in
       let is : put_of new ++ [] ≡ (put_of old ++ ordered.dropped) ++ order ∷ [] =
       append-nil (put_of new)
-      ∙ (put ∙ ap (λ (os : List (Control (Opening J book))). os ++ order ∷ []) before) in
+      ∙ (put ∙ ap (λ (os : List (WriterOrder (OpeningCall J book))). os ++ order ∷ []) before) in
       record {
         dropped = [];
         parts =
             ap map_of is
-            ∙ (map-append (λ (o : Control (Opening J book)). order_of o)
+            ∙ (map-append (λ (o : WriterOrder (OpeningCall J book)). order_of o)
             (put_of old ++ ordered.dropped) (order ∷ [])
             ∙ ap (λ (os : List Order). os ++ order_of order ∷ []) ordered.parts);
         own =
-            subst (λ (os : List (Control (Opening J book))). All IsOwn os) (sym is)
+            subst (λ (os : List (WriterOrder (OpeningCall J book))). All IsOwn os) (sym is)
             (All-push IsOwn (put_of old ++ ordered.dropped) order ordered.own own);
         kept =
             kept-nothing old.unput new.unput unput (subst
-            (λ (os : List (Control (Opening J book))). IfSome old.unput (Contains os))
+            (λ (os : List (WriterOrder (OpeningCall J book))). IfSome old.unput (Contains os))
             none ordered.kept);
         whole = λ undropped. refl;
       }
   ordered-put all order old new (inr (same, drops, keeps)) own ordered =
       let is : put_of new ++ (ordered.dropped ++ order ∷ [])
       ≡ (put_of old ++ ordered.dropped) ++ order ∷ [] =
-      ap (λ (os : List (Control (Opening J book))). os ++ (ordered.dropped ++ order ∷ [])) same
+      ap (λ (os : List (WriterOrder (OpeningCall J book))).
+      os ++ (ordered.dropped ++ order ∷ [])) same
       ∙ sym (append_assoc (put_of old) ordered.dropped (order ∷ [])) in
       record {
         dropped = ordered.dropped ++ order ∷ [];
         parts =
             ap map_of is
-            ∙ (map-append (λ (o : Control (Opening J book)). order_of o)
+            ∙ (map-append (λ (o : WriterOrder (OpeningCall J book)). order_of o)
             (put_of old ++ ordered.dropped) (order ∷ [])
             ∙ ap (λ (os : List Order). os ++ order_of order ∷ []) ordered.parts);
         own =
-            subst (λ (os : List (Control (Opening J book))). All IsOwn os) (sym is)
+            subst (λ (os : List (WriterOrder (OpeningCall J book))). All IsOwn os) (sym is)
             (All-push IsOwn (put_of old ++ ordered.dropped) order ordered.own own);
         kept = kept-more ordered.dropped order old.unput new.unput keeps ordered.kept;
         whole = λ none. undropped new.has_dropped drops none;
       }
 
-  pub ordered-some : (all : List Order) (order : Option (Control (Opening J book)))
+  pub ordered-some : (all : List Order) (order : Option (WriterOrder (OpeningCall J book)))
       (old new : Orders A B C J N book route)
       → PutsAll order old new → IfSome order IsOwn → Ordered all old
       → Ordered (all ++ order_in order) new
@@ -305,13 +308,14 @@ module _ {A B C J N : Type 0} {book : Naming J} {route : Ghosts N} where
       record {
         dropped = ordered.dropped;
         parts =
-            ap (λ (os : List (Control (Opening J book))). map_of (os ++ ordered.dropped)) is
+            ap (λ (os : List (WriterOrder (OpeningCall J book))). map_of (os ++ ordered.dropped)) is
             ∙ ordered.parts;
         own =
-            subst (λ (os : List (Control (Opening J book))). All IsOwn (os ++ ordered.dropped))
+            subst
+            (λ (os : List (WriterOrder (OpeningCall J book))). All IsOwn (os ++ ordered.dropped))
             (sym is) ordered.own;
         kept =
-            subst (λ (found : Option (Control (Opening J book))).
+            subst (λ (found : Option (WriterOrder (OpeningCall J book))).
             IfSome found (Contains ordered.dropped)) (sym unput) ordered.kept;
         whole = λ none. ordered.whole (sym drops ∙ none);
       }
@@ -332,7 +336,7 @@ module _ {A B C J N : Type 0} {book : Naming J} {route : Ghosts N} where
     parts = ordered.parts;
     own = ordered.own;
     kept =
-        subst (λ (found : Option (Control (Opening J book))).
+        subst (λ (found : Option (WriterOrder (OpeningCall J book))).
         IfSome found (Contains ordered.dropped)) (sym unput) ordered.kept;
     whole = λ none. ordered.whole (sym same ∙ none);
   }
@@ -342,7 +346,8 @@ module _ {A B C J N : Type 0} {book : Naming J} {route : Ghosts N} where
       → put_orders orders_now ≡ map_of closed.front ++ orders.Close ∷ []
   closed-orders all orders_now closed =
       ap map_of closed.put
-      ∙ map-append (λ (o : Control (Opening J book)). order_of o) closed.front (orders.Close ∷ [])
+      ∙ map-append (λ (o : WriterOrder (OpeningCall J book)). order_of o) closed.front
+      (orders.Close ∷ [])
 
   pub closed-put : (all : List Order) (orders_now : Orders A B C J N book route)
       → Closed all orders_now → HasPut all (put_orders orders_now)
@@ -350,7 +355,8 @@ module _ {A B C J N : Type 0} {book : Naming J} {route : Ghosts N} where
     front = map_of closed.front;
     begins = (
       map_of closed.dropped,
-      sym (map-append (λ (o : Control (Opening J book)). order_of o) closed.front closed.dropped)
+      sym (map-append (λ (o : WriterOrder (OpeningCall J book)). order_of o)
+          closed.front closed.dropped)
           ∙ closed.parts,
     );
     closed = closed-orders all orders_now closed;
@@ -362,7 +368,8 @@ module _ {A B C J N : Type 0} {book : Naming J} {route : Ghosts N} where
   closed-whole all orders_now closed none =
       let all-put : map_of closed.front ≡ all =
       ap map_of (sym (append-nil closed.front)
-      ∙ sym (ap (λ (os : List (Control (Opening J book))). closed.front ++ os) (closed.whole none)))
+      ∙ sym (ap (λ (os : List (WriterOrder (OpeningCall J book))). closed.front ++ os)
+      (closed.whole none)))
       ∙ closed.parts in
       closed-orders all orders_now closed
       ∙ ap (λ (os : List Order). os ++ orders.Close ∷ []) all-put
@@ -481,10 +488,10 @@ all-back P (x ∷ xs) ys all = all-back P xs ys (All-tail P x (xs ++ ys) all)
 module _ {J M : Type 0} {book : Naming J} where
   pub grows-home : (one two : Reading J M book) → two.home ≡ one.home → Grows one two
   grows-home one two is = record {
-    name = ap (λ (ring : RingOut (Returning J book)). out_name ring) is;
+    name = ap (λ (ring : RingOut (ReturningCall J book)). out_name ring) is;
     more = [];
     took =
-        ap (λ (ring : RingOut (Returning J book)). taken ring) is
+        ap (λ (ring : RingOut (ReturningCall J book)). taken ring) is
         ∙ sym (append-nil (taken one.home));
   }
 
@@ -495,61 +502,65 @@ module _ {J M : Type 0} {book : Naming J} where
     more = first.more ++ second.more;
     took =
         second.took
-        ∙ (ap (λ (rs : List (Returning J book)). rs ++ second.more) first.took
+        ∙ (ap (λ (rs : List (ReturningCall J book)). rs ++ second.more) first.took
         ∙ append_assoc (taken one.home) first.more second.more);
   }
 
-  pub carried-before : (sent : List Sent) (one two : Reading J M book) → Grows one two
+  pub carried-before : (sent : List SentItems) (one two : Reading J M book) → Grows one two
       → AreCarried sent (taken two.home) → AreCarried sent (taken one.home)
   carried-before sent one two grows carried =
-      all-front (λ (returning : Returning J book).
+      all-front (λ (returning : ReturningCall J book).
       HasReturned (carried_in sent) returning.sending.value) (taken one.home) grows.more
-      (subst (λ (rs : List (Returning J book)). AreCarried sent rs) grows.took carried)
+      (subst (λ (rs : List (ReturningCall J book)). AreCarried sent rs) grows.took carried)
 
 module _ {J M : Type 0} {book : Naming J} where
-  pub next-seats : (one two : Reading J M book) → two ≡ record one { seats = two.seats }
+  pub next-seats : (one two : Reading J M book) → two ≡ record one { workers = two.workers }
       → KeepsNext one two
   next-seats one two is id next = subst (λ (r : Reading J M book). IsNext id r) (sym is) next
 
-  pub seats-then : (one two three : Reading J M book) → two ≡ record one { seats = two.seats }
-      → three ≡ record two { seats = three.seats } → three ≡ record one { seats = three.seats }
+  pub seats-then : (one two three : Reading J M book) → two ≡ record one { workers = two.workers }
+      → three ≡ record two { workers = three.workers }
+      → three ≡ record one { workers = three.workers }
   seats-then one two three first second =
-      second ∙ ap (λ (r : Reading J M book). record r { seats = three.seats }) first
+      second ∙ ap (λ (r : Reading J M book). record r { workers = three.workers }) first
 
-  pub home-seats : (one two : Reading J M book) → two ≡ record one { seats = two.seats }
+  pub home-seats : (one two : Reading J M book) → two ≡ record one { workers = two.workers }
       → two.home ≡ one.home
   home-seats one two is = ap (λ (r : Reading J M book). r.home) is
 
-  pub carried-front : (sent : List Sent) (reading : Reading J M book)
-      (home put : List (Returning J book))
+  pub carried-front : (sent : List SentItems) (reading : Reading J M book)
+      (home put : List (ReturningCall J book))
       → home ≡ put → IsPrefix (taken reading.home) home → AreCarried sent put
       → AreCarried sent (taken reading.home)
   carried-front sent reading home put is front carried =
-      all-front (λ (returning : Returning J book).
+      all-front (λ (returning : ReturningCall J book).
       HasReturned (carried_in sent) returning.sending.value) (taken reading.home) front.0
-      (subst (λ (rs : List (Returning J book)). AreCarried sent rs) (sym (front.1 ∙ is)) carried)
+      (subst (λ (rs : List (ReturningCall J book)). AreCarried sent rs)
+      (sym (front.1 ∙ is)) carried)
 
-  pub prefix-before : (one mid two : Reading J M book) (home put : List (Returning J book))
+  pub prefix-before : (one mid two : Reading J M book) (home put : List (ReturningCall J book))
       → mid.home ≡ one.home → Grows mid two → home ≡ put → IsPrefix (taken two.home) home
       → IsPrefix (taken one.home) put
   prefix-before one mid two home put same grows is front = (
     grows.more ++ front.0,
     sym (append_assoc (taken one.home) grows.more front.0)
-        ∙ (ap (λ (rs : List (Returning J book)). rs ++ front.0) (sym
-        (grows.took ∙ ap (λ (ring : RingOut (Returning J book)). taken ring ++ grows.more) same))
+        ∙ (ap (λ (rs : List (ReturningCall J book)). rs ++ front.0) (sym
+        (grows.took
+        ∙ ap (λ (ring : RingOut (ReturningCall J book)). taken ring ++ grows.more) same))
         ∙ (front.1 ∙ is)),
   )
 
 module _ {J M : Type 0} {book : Naming J} {known : ℕ → List (List ℕ) → Bool → Answer → Type 0}
     {names : List ℕ → ℕ → Type 0} where
-  pub reads-same : (sent : List Sent) (told : List Step) (one two : Reading J M book) → two ≡ one
+  pub reads-same : (sent : List SentItems) (told : List Step) (one two : Reading J M book)
+      → two ≡ one
       → Reads known names (carried_in sent) told one → Reads known names (carried_in sent) told two
   reads-same sent told one two is reads =
       subst (λ (r : Reading J M book). Reads known names (carried_in sent) told r) (sym is) reads
 
   -- the workers alone are others
-  pub reads-seats : (sent : List Sent) (told : List Step) (one two : Reading J M book)
-      → two ≡ record one { seats = two.seats } → Reads known names (carried_in sent) told one
+  pub reads-seats : (sent : List SentItems) (told : List Step) (one two : Reading J M book)
+      → two ≡ record one { workers = two.workers } → Reads known names (carried_in sent) told one
       → Reads known names (carried_in sent) told two
   reads-seats sent told one two is reads =
       subst (λ (r : Reading J M book). Reads known names (carried_in sent) told r)
@@ -561,7 +572,7 @@ module _ {J M : Type 0} {book : Naming J} {known : ℕ → List (List ℕ) → B
       })
 
   -- the way home alone is another
-  pub reads-home : (sent : List Sent) (told : List Step) (one two : Reading J M book)
+  pub reads-home : (sent : List SentItems) (told : List Step) (one two : Reading J M book)
       → two ≡ record one { home = two.home } → Reads known names (carried_in sent) told one
       → Reads known names (carried_in sent) told two
   reads-home sent told one two is reads =
@@ -573,20 +584,22 @@ module _ {J M : Type 0} {book : Naming J} {known : ℕ → List (List ℕ) → B
         goaway = reads.goaway;
       })
 
-  pub awaits-of : (sent : List Sent) (told : List Step) (step : Step) (decided : Decided J book)
-      (cut : Cut) (reading : Reading J M book)
-      → decided.cut ≡ Some cut → Decides known names (carried_in sent) told step decided reading
+  pub awaits-of : (sent : List SentItems) (told : List Step) (step : Step)
+      (decided : Decision J book)
+      (cut : HalfToShut) (reading : Reading J M book)
+      → decided.to_shut ≡ Some cut → Decides known names (carried_in sent) told step decided reading
       → Awaits known names (carried_in sent) told step cut reading
   awaits-of sent told step decided cut reading is decides =
-      subst (λ (found : Option Cut).
+      subst (λ (found : Option HalfToShut).
       Stands known names (carried_in sent) told step found reading) is decides.stands
 
-  pub reads-of : (sent : List Sent) (told : List Step) (step : Step) (decided : Decided J book)
+  pub reads-of : (sent : List SentItems) (told : List Step) (step : Step)
+      (decided : Decision J book)
       (reading : Reading J M book)
-      → decided.cut ≡ None → Decides known names (carried_in sent) told step decided reading
+      → decided.to_shut ≡ None → Decides known names (carried_in sent) told step decided reading
       → Reads known names (carried_in sent) (step ∷ told) reading
   reads-of sent told step decided reading is decides =
-      subst (λ (found : Option Cut).
+      subst (λ (found : Option HalfToShut).
       Stands known names (carried_in sent) told step found reading) is decides.stands
 
   -- ---- what came home meanwhile
@@ -597,7 +610,7 @@ module _ {J M : Type 0} {book : Naming J} {known : ℕ → List (List ℕ) → B
     keeps = λ sent told carried reads. reads-same sent told one two is reads;
   }
 
-  pub collects-seats : (one two : Reading J M book) → two ≡ record one { seats = two.seats }
+  pub collects-seats : (one two : Reading J M book) → two ≡ record one { workers = two.workers }
       → Collects known names one two
   collects-seats one two is = record {
     grows = grows-home one two (home-seats one two is);
@@ -627,20 +640,20 @@ module _ {J M : Type 0} {book : Naming J} {known : ℕ → List (List ℕ) → B
     grows = record { name = name; more = more; took = took };
     keeps = λ sent told carried reads.
         keeps sent told
-        (all-back (λ (returning : Returning J book).
+        (all-back (λ (returning : ReturningCall J book).
         HasReturned (carried_in sent) returning.sending.value) (taken one.home) more
-        (subst (λ (rs : List (Returning J book)). AreCarried sent rs) took carried)) reads;
+        (subst (λ (rs : List (ReturningCall J book)). AreCarried sent rs) took carried)) reads;
   }
 
 module _ {A B C J M N : Type 0} {book : Naming J} {route : Ghosts N}
     {known : ℕ → List (List ℕ) → Bool → Answer → Type 0} {names : List ℕ → ℕ → Type 0} where
   -- what was decided is done: two orders, and the half
-  pub acts-done : (decided : Decided J book) (first : Option (Control (Opening J book)))
+  pub acts-done : (decided : Decision J book) (first : Option (WriterOrder (OpeningCall J book)))
       (reading reading_new : Reading J M book) (old mid new : Orders A B C J N book route)
       → order_in first ≡ goaway_in decided.goaway → IfSome first IsOwn
       → PutsAll first old mid → PutsAll decided.order mid new
       → (old.has_stopped ≡ true → new.has_stopped ≡ true)
-      → ((sent : List Sent) (told : List Step) (step : Step)
+      → ((sent : List SentItems) (told : List Step) (step : Step)
       → Decides known names (carried_in sent) told step decided reading
       → Reads known names (carried_in sent) (step ∷ told) reading_new)
       → reading_new.home ≡ reading.home
@@ -707,7 +720,7 @@ module _ {A B C J M N : Type 0} {book : Naming J} {route : Ghosts N}
         ),
   )
 
-  pub cuts-one : (ended : Bool) (decided : Decided J book) (id : ℕ)
+  pub cuts-one : (ended : Bool) (decided : Decision J book) (id : ℕ)
       (one two three : Reading J M book) (old new : Orders A B C J N book route)
       → (ended ≡ false → AreGoing (CutOff id ∷ []))
       → two.home ≡ one.home → DecidesOn known names (CutOff id) decided one two
@@ -732,7 +745,7 @@ module _ {A B C J M N : Type 0} {book : Naming J} {route : Ghosts N}
   )
 
   -- the server drains
-  pub cuts-drain : (decided : Decided J book) (one two three : Reading J M book)
+  pub cuts-drain : (decided : Decision J book) (one two three : Reading J M book)
       (old new : Orders A B C J N book route)
       → two.home ≡ one.home → DecidesOn known names Drains decided one two
       → Acts known names decided two old three new
@@ -789,9 +802,9 @@ module _ {A B C J M N : Type 0} {book : Naming J} {route : Ghosts N}
 
   -- one event, whose step is decided and done, and refuses nothing but what may be
   pub with-one : (tally tally_new : Tally) (event : InEvent) (fate : Fate)
-      (decided : Decided J book) (end : Option Ending) (one two three : Reading J M book)
+      (decided : Decision J book) (end : Option Ending) (one two three : Reading J M book)
       (old new : Orders A B C J N book route)
-      → ((sent : List Sent) (told : List Step) → Reads known names (carried_in sent) told one
+      → ((sent : List SentItems) (told : List Step) → Reads known names (carried_in sent) told one
       → Covers told tally → IsJustified (Told event fate) told)
       → ((told : List Step) → Covers told tally → Covers (Told event fate ∷ told) tally_new)
       → end ≡ decided.ends → two.home ≡ one.home
@@ -831,7 +844,7 @@ module _ {A B C J M N : Type 0} {book : Naming J} {route : Ghosts N}
       )
 
   -- whatever was counted
-  pub to-one : (event : InEvent) (fate : Fate) (decided : Decided J book) (end : Option Ending)
+  pub to-one : (event : InEvent) (fate : Fate) (decided : Decision J book) (end : Option Ending)
       (one two three : Reading J M book) (old new : Orders A B C J N book route)
       → ((told : List Step) → IsJustified (Told event fate) told) → end ≡ decided.ends
       → two.home ≡ one.home → admitted_by (Told event fate) ≡ None
@@ -933,7 +946,7 @@ module _ {A B C J M N : Type 0} {book : Naming J} {route : Ghosts N}
   )
 
   -- nothing was heard before it, and the writer was seen to have stopped
-  pub kept-stopped : (sent : List Sent) (told : List Step) (reading : Reading J M book)
+  pub kept-stopped : (sent : List SentItems) (told : List Step) (reading : Reading J M book)
       (old mid : Orders A B C J N book route)
       → mid.outbox ≡ old.outbox → mid.has_dropped ≡ old.has_dropped → mid.unput ≡ old.unput
       → mid.backlog ≡ old.backlog
@@ -974,7 +987,7 @@ module _ {A B C J M N : Type 0} {book : Naming J} {route : Ghosts N}
   -- the bells were rung behind it
   pub with-rung : (tally tally_new : Tally) (given : List InEvent) (end : Option Ending)
       (one two three : Reading J M book) (old mid new : Orders A B C J N book route)
-      → three ≡ record two { seats = three.seats } → IsSame mid new
+      → three ≡ record two { workers = three.workers } → IsSame mid new
       → ReadsWith known names tally tally_new given end one old two mid
       → ReadsWith known names tally tally_new given end one old three new
   with-rung tally tally_new given end one two three old mid new is same reads = (
@@ -1152,7 +1165,7 @@ module _ {A B C J M N : Type 0} {book : Naming J} {route : Ghosts N}
   -- ---- bytes
 
   -- steps of which no event tells came behind
-  pub kept-behind : (sent : List Sent) (tally : Tally) (told : List Step)
+  pub kept-behind : (sent : List SentItems) (tally : Tally) (told : List Step)
       (one two : Reading J M book) (old new : Orders A B C J N book route)
       → CutsSome known names false one old two new → KeptFor known names sent told one old
       → Covers told tally
@@ -1177,7 +1190,7 @@ module _ {A B C J M N : Type 0} {book : Naming J} {route : Ghosts N}
       )
 
   -- all events of these bytes were heard
-  pub all-read : (sent : List Sent) (end : Ending) (before : List InEvent) (told : List Step)
+  pub all-read : (sent : List SentItems) (end : Ending) (before : List InEvent) (told : List Step)
       (bytes given : List ℕ) (core : Core) (reading : Reading J M book)
       (orders : Orders A B C J N book route)
       → given ≡ bytes → Reached bytes before core
@@ -1216,15 +1229,15 @@ module _ {A B C J M N : Type 0} {book : Naming J} {route : Ghosts N}
       }
 
   -- and then the input ended, or could not be read on
-  pub input-read : (sent : List Sent) (end : Ending) (before : List InEvent) (told : List Step)
+  pub input-read : (sent : List SentItems) (end : Ending) (before : List InEvent) (told : List Step)
       (bytes given : List ℕ) (core : Core) (reading : Reading J M book)
       (orders : Orders A B C J N book route)
       → given ≡ bytes → Reached bytes before core
       → events_of told ≡ before → AreCalm told
       → KeptFor known names sent told reading orders → EndsInput end
-      → (end ≡ PeerGoaway → (s : List Sent) (steps : List Step)
+      → (end ≡ PeerGoaway → (s : List SentItems) (steps : List Step)
       → Reads known names (carried_in s) steps reading → WasTold events.PeerGoaway steps)
-      → (end ≡ Drained → (s : List Sent) (steps : List Step)
+      → (end ≡ Drained → (s : List SentItems) (steps : List Step)
       → Reads known names (carried_in s) steps reading → is_draining steps ≡ true)
       → (reading.is_draining ≡ true → end ≡ Drained)
       → HasRead known names sent end given told reading orders
@@ -1235,7 +1248,7 @@ module _ {A B C J M N : Type 0} {book : Naming J} {route : Ghosts N}
       (undrained-so end reading.is_draining (is_draining told) kept.reads.drains draining)
       (not-by-error end input) (not-by-writing end input)
 
-  pub failed-read : (sent : List Sent) (before : List InEvent) (told : List Step)
+  pub failed-read : (sent : List SentItems) (before : List InEvent) (told : List Step)
       (bytes given : List ℕ) (core : Core) (reading : Reading J M book)
       (orders : Orders A B C J N book route)
       → given ≡ bytes → Reached bytes before core
@@ -1251,7 +1264,7 @@ module _ {A B C J M N : Type 0} {book : Naming J} {route : Ghosts N}
       not-of-read (inr other) = cc
 
   -- some were, and one of them ended the connection
-  pub some-read : (sent : List Sent) (tally tally_new : Tally) (end : Ending)
+  pub some-read : (sent : List SentItems) (tally tally_new : Tally) (end : Ending)
       (given before : List InEvent) (told : List Step) (bytes : List ℕ) (core : Core)
       (reading reading_new : Reading J M book) (orders orders_new : Orders A B C J N book route)
       → AreCarried sent (taken reading_new.home) → Reached bytes (before ++ given) core
@@ -1306,7 +1319,7 @@ module _ {A B C J M N : Type 0} {book : Naming J} {route : Ghosts N}
         more.2,
       )
 
-  pub some-sound : (sent : List Sent) (tally tally_new : Tally) (end : Ending)
+  pub some-sound : (sent : List SentItems) (tally tally_new : Tally) (end : Ending)
       (given : List InEvent) (told : List Step) (reading reading_new : Reading J M book)
       (orders orders_new : Orders A B C J N book route)
       → AreCarried sent (taken reading_new.home)
@@ -1318,7 +1331,7 @@ module _ {A B C J M N : Type 0} {book : Naming J} {route : Ghosts N}
       true≢false
       (sym (ap (λ (e : Ending). is_heard_out e) is) ∙ ended-harsh end more.0 more.1.ended)
 
-  pub some-harsh : (sent : List Sent) (tally tally_new : Tally) (end : Ending)
+  pub some-harsh : (sent : List SentItems) (tally tally_new : Tally) (end : Ending)
       (given : List InEvent) (told : List Step) (reading reading_new : Reading J M book)
       (orders orders_new : Orders A B C J N book route)
       → AreCarried sent (taken reading_new.home)
@@ -1330,7 +1343,7 @@ module _ {A B C J M N : Type 0} {book : Naming J} {route : Ghosts N}
       true≢false (sym (input-out end is) ∙ ended-harsh end more.0 more.1.ended)
 
   -- the connection ends for want of memory
-  pub kept-lack : (sent : List Sent) (told : List Step) (decided : Decided J book)
+  pub kept-lack : (sent : List SentItems) (told : List Step) (decided : Decision J book)
       (one two three : Reading J M book) (old new : Orders A B C J N book route)
       → DecidesOn known names Lacks decided one two → Acts known names decided two old three new
       → KeptFor known names sent told one old → KeptFor known names sent (Lacks ∷ told) three new
@@ -1348,7 +1361,7 @@ module _ {A B C J M N : Type 0} {book : Naming J} {route : Ghosts N}
       }
 
   -- by other names
-  pub kept-as : (sent : List Sent) (told : List Step) (one two : Reading J M book)
+  pub kept-as : (sent : List SentItems) (told : List Step) (one two : Reading J M book)
       (old new : Orders A B C J N book route)
       → two ≡ one → new ≡ old → KeptFor known names sent told one old
       → KeptFor known names sent told two new
@@ -1358,7 +1371,7 @@ module _ {A B C J M N : Type 0} {book : Naming J} {route : Ghosts N}
       KeptFor known names sent told one orders) (sym same) kept)
 
   -- more came home
-  pub kept-collected : (sent : List Sent) (told : List Step) (one two : Reading J M book)
+  pub kept-collected : (sent : List SentItems) (told : List Step) (one two : Reading J M book)
       (old new : Orders A B C J N book route)
       → Collects known names one two → AreCarried sent (taken two.home) → new ≡ old
       → KeptFor known names sent told one old → KeptFor known names sent told two new
@@ -1374,7 +1387,7 @@ module _ {A B C J M N : Type 0} {book : Naming J} {route : Ghosts N}
       })
 
   -- none of the last bytes were heard
-  pub none-read : (sent : List Sent) (before : List InEvent) (told : List Step)
+  pub none-read : (sent : List SentItems) (before : List InEvent) (told : List Step)
       (bytes more : List ℕ) (core : Core) (reading : Reading J M book)
       (orders : Orders A B C J N book route)
       → Reached bytes before core → events_of told ≡ before
@@ -1435,16 +1448,18 @@ ordered-none {J = J} {book = book} orders none unput =
     record {
       dropped = [];
       parts = ap map_of is;
-      own = subst (λ (os : List (Control (Opening J book))). All IsOwn os) (sym is) (All-nil IsOwn);
+      own =
+          subst (λ (os : List (WriterOrder (OpeningCall J book))). All IsOwn os)
+          (sym is) (All-nil IsOwn);
       kept =
-          subst (λ (found : Option (Control (Opening J book))).
+          subst (λ (found : Option (WriterOrder (OpeningCall J book))).
           IfSome found (Contains [])) (sym unput) tt;
       whole = λ undropped. refl;
     }
 
 pub kept-none : {A B C J M N : Type 0} {book : Naming J} {route : Ghosts N}
     {known : ℕ → List (List ℕ) → Bool → Answer → Type 0} {names : List ℕ → ℕ → Type 0}
-    (sent : List Sent) (reading : Reading J M book) (orders : Orders A B C J N book route)
+    (sent : List SentItems) (reading : Reading J M book) (orders : Orders A B C J N book route)
     → Reads known names (carried_in sent) [] reading → put_of orders ≡ [] → orders.unput ≡ None
     → KeptFor known names sent [] reading orders
 kept-none sent reading orders reads none unput = record {

@@ -49,8 +49,8 @@ use Rattle.std.proofs.lemmas.List.Sorted.{Contains-permutation, IsPermutation-sy
 use Rattle.std.proofs.lemmas.Map.Keys.{IsDistinct-from_apart}
 use Rattle.account.specs.declared.call.OutItem.{OutItem}
 use Rattle.lane.specs.RingLane.{got}
-use Rattle.outwriter.specs.declared.control.Control.{Control}
-use Rattle.outwriter.specs.declared.control.Control.TheVariants.{
+use Rattle.outwriter.specs.declared.control.WriterOrder.{WriterOrder}
+use Rattle.outwriter.specs.declared.control.WriterOrder.TheVariants.{
   Settings,
   Ping,
   Probe,
@@ -63,20 +63,20 @@ use Rattle.outwriter.specs.declared.control.Control.TheVariants.{
   Close,
 }
 use Rattle.outwriter.specs.Steps.{Order, order_of}
-use Rattle.callparts.specs.declared.order.Opening.{Opening}
-use Rattle.callparts.specs.declared.order.Returning.{Returning}
-use Rattle.callparts.specs.declared.order.Sending.{Sending}
+use Rattle.callparts.specs.declared.order.OpeningCall.{OpeningCall}
+use Rattle.callparts.specs.declared.order.ReturningCall.{ReturningCall}
+use Rattle.callparts.specs.declared.order.SendingEnd.{SendingEnd}
 use Rattle.callparts.specs.declared.register.CallNumber.{CallNumber}
 use Rattle.callparts.specs.declared.register.Naming.{Ghosts as Naming}
 use Rattle.callparts.specs.declared.work.Request.{Request}
 use Rattle.callparts.specs.Lanes.{OutSender}
 use Rattle.callparts.specs.Numbers.{request_at}
-use Rattle.readerloop.specs.Calls.{HasReturned, Sent, carried_in}
+use Rattle.readerloop.specs.Calls.{HasReturned, SentItems, carried_in}
 use Rattle.readerloop.specs.Orders.{orders_at, orders_by}
 use Rattle.readerloop.specs.Steps.{IsRising, Step, admitted, admitted_by, last_of, once}
 use Rattle.readerloop.proofs.KeptLemmas.{below-last}
 use Rattle.readerloop.proofs.KeptSteps.{distinct-push}
-use Rattle.writerloop.specs.declared.writing.Senders.{Senders}
+use Rattle.writerloop.specs.declared.senders.Senders.{Senders}
 use Rattle.writerloop.specs.Orders.{order_in}
 use Rattle.writerloop.specs.Rest.{rest_calls}
 use Rattle.writerloop.specs.Sent.{got_of, handed_calls, handed_numbers, numbered, numbers, opens}
@@ -199,7 +199,7 @@ same-entry (entry ∷ entries) id one other apart there also =
 
 -- ---- what came back
 
-returned-by : (sent : List Sent) (found : Option Request) (sender : Option OutSender) (id : ℕ)
+returned-by : (sent : List SentItems) (found : Option Request) (sender : Option OutSender) (id : ℕ)
     → IsSomeAnd found (λ request. request.id ≡ id) → IsSome sender
     → Contains sent (record { id = id; items = got_of sender })
     → IsSomeAnd found (λ request. IsSomeAnd sender (λ one. carried_in sent request.id (got one.rx)))
@@ -218,7 +218,7 @@ stands-so : (found : Option Request) → IsSome found
 stands-so None there = absurd cc
 stands-so (Some request) there = refl
 
-abbrev pub as_sent : ℕ × List OutItem → Sent
+abbrev pub as_sent : ℕ × List OutItem → SentItems
 as_sent call = record { id = call.0; items = call.1 }
 
 pub fresh-there : (sender : Option OutSender) → option_map (λ s. got s.rx) sender ≡ Some []
@@ -252,7 +252,7 @@ opened-admitted (step ∷ before) =
     ∙ ap (λ (ids : List ℕ). admitted before ++ ids) (opens-at before step))
 
 module _ {J : Type 0} {book : Naming J} where
-  pub opens-append : (xs ys : List (Control (Opening J book)))
+  pub opens-append : (xs ys : List (WriterOrder (OpeningCall J book)))
       → opens (xs ++ ys) ≡ opens xs ++ opens ys
   opens-append [] ys = refl
   opens-append (Open id opening ∷ xs) ys =
@@ -269,7 +269,7 @@ module _ {J : Type 0} {book : Naming J} where
   opens-append (Close ∷ xs) ys = opens-append xs ys
 
   -- their streams
-  pub opens-streams : (xs : List (Control (Opening J book)))
+  pub opens-streams : (xs : List (WriterOrder (OpeningCall J book)))
       → map (λ call. call.1) (opens xs) ≡ opens_of (map (λ order. order_of order) xs)
   opens-streams [] = refl
   opens-streams (Open id opening ∷ xs) = ap (λ (ids : List ℕ). id ∷ ids) (opens-streams xs)
@@ -284,12 +284,13 @@ module _ {J : Type 0} {book : Naming J} where
   opens-streams (Close ∷ xs) = opens-streams xs
 
   -- a call that one of them opens
-  pub opens-one : (xs : List (Control (Opening J book))) (id : ℕ) (opening : Opening J book)
+  pub opens-one : (xs : List (WriterOrder (OpeningCall J book))) (id : ℕ)
+      (opening : OpeningCall J book)
       → Contains xs (Open id opening) → Contains (opens xs) (numbered id opening.sending.value)
   opens-one [] id opening there = none-in (Open id opening) there
   opens-one (first ∷ xs) id opening there = elim (first-or-rest first xs (Open id opening) there) [
     | inl is ↦
-        subst (λ (order : Control (Opening J book)).
+        subst (λ (order : WriterOrder (OpeningCall J book)).
         Contains (opens (order ∷ xs)) (numbered id opening.sending.value)) (sym is)
         (in-first (numbered id opening.sending.value) (opens xs))
     | inr rest ↦
@@ -304,7 +305,7 @@ module _ {J : Type 0} {book : Naming J} where
   IsStanding call =
       IsSomeAnd (request_at call.0.seen.log call.0.value) (λ request. request.id ≡ call.1)
 
-  one-standing : (order : Control (Opening J book)) → IsOwn order
+  one-standing : (order : WriterOrder (OpeningCall J book)) → IsOwn order
       → All IsStanding (opens (order ∷ []))
   one-standing (Open id opening) own =
       All-cons IsStanding (numbered id opening.sending.value) [] own (All-nil IsStanding)
@@ -318,7 +319,7 @@ module _ {J : Type 0} {book : Naming J} where
   one-standing InputEnded own = All-nil IsStanding
   one-standing Close own = All-nil IsStanding
 
-  pub all-standing : (orders : List (Control (Opening J book))) → All IsOwn orders
+  pub all-standing : (orders : List (WriterOrder (OpeningCall J book))) → All IsOwn orders
       → All IsStanding (opens orders)
   all-standing [] own = All-nil IsStanding
   all-standing (order ∷ orders) own =
@@ -330,7 +331,7 @@ module _ {J : Type 0} {book : Naming J} where
 
   -- ---- that each is carried
 
-  pub returned-as : (sent : List Sent) (sending : Sending J book) (id : ℕ)
+  pub returned-as : (sent : List SentItems) (sending : SendingEnd J book) (id : ℕ)
       → IsStanding (numbered id sending) → IsSome sending.sender
       → Contains sent (record { id = id; items = got_of sending.sender })
       → HasReturned (carried_in sent) sending
@@ -338,7 +339,7 @@ module _ {J : Type 0} {book : Naming J} where
       returned-by sent (request_at sending.number.seen.log sending.number.value) sending.sender id
       standing there has
 
-  abbrev pub own_sent : List (Returning J book) → List Sent
+  abbrev pub own_sent : List (ReturningCall J book) → List SentItems
   own_sent returnings =
       map (λ returning. record {
         id =
@@ -347,41 +348,41 @@ module _ {J : Type 0} {book : Naming J} where
         items = got_of returning.sending.value.sender;
       }) returnings
 
-  pub own-carried : (returnings : List (Returning J book))
-      → ((returning : Returning J book)
+  pub own-carried : (returnings : List (ReturningCall J book))
+      → ((returning : ReturningCall J book)
       → IsSome (request_at returning.sending.value.number.seen.log
       returning.sending.value.number.value))
       → AreCarried (own_sent returnings) returnings
   own-carried returnings stand =
-      all-itself (λ (returning : Returning J book).
+      all-itself (λ (returning : ReturningCall J book).
       HasReturned (carried_in (own_sent returnings)) returning.sending.value) returnings
       (λ returning there.
       returned-as (own_sent returnings) returning.sending.value (id_in
       (request_at returning.sending.value.number.seen.log returning.sending.value.number.value))
       (stands-so (request_at returning.sending.value.number.seen.log
       returning.sending.value.number.value) (stand returning)) returning.there
-      (in-map (λ (one : Returning J book). record {
+      (in-map (λ (one : ReturningCall J book). record {
         id = id_in (request_at one.sending.value.number.seen.log one.sending.value.number.value);
         items = got_of one.sending.value.sender;
       }) returnings returning there))
 
   -- ---- what all of them got
 
-  abbrev pub unput_calls : Option (Control (Opening J book)) → List (ℕ × List OutItem)
+  abbrev pub unput_calls : Option (WriterOrder (OpeningCall J book)) → List (ℕ × List OutItem)
   unput_calls (Some (Open id opening)) = (id, got_of opening.sending.value.sender) ∷ []
   unput_calls _ = []
 
-  abbrev pub all_calls : Senders J book → List (ℕ × Returning J book)
-      → Option (Control (Opening J book)) → List (ℕ × List OutItem)
+  abbrev pub all_calls : Senders J book → List (ℕ × ReturningCall J book)
+      → Option (WriterOrder (OpeningCall J book)) → List (ℕ × List OutItem)
   all_calls rest handed unput = (rest_calls rest ++ handed_calls handed) ++ unput_calls unput
 
-  abbrev pub all_sent : Senders J book → List (ℕ × Returning J book)
-      → Option (Control (Opening J book)) → List Sent
+  abbrev pub all_sent : Senders J book → List (ℕ × ReturningCall J book)
+      → Option (WriterOrder (OpeningCall J book)) → List SentItems
   all_sent rest handed unput = map as_sent (all_calls rest handed unput)
 
-  module _ (rest : Senders J book) (handed : List (ℕ × Returning J book))
-      (unput : Option (Control (Opening J book))) where
-    sent-handed : (one : ℕ × Returning J book) → Contains handed one
+  module _ (rest : Senders J book) (handed : List (ℕ × ReturningCall J book))
+      (unput : Option (WriterOrder (OpeningCall J book))) where
+    sent-handed : (one : ℕ × ReturningCall J book) → Contains handed one
         → Contains (all_sent rest handed unput)
         (record { id = one.0; items = got_of one.1.sending.value.sender })
     sent-handed one there =
@@ -390,7 +391,7 @@ module _ {J : Type 0} {book : Naming J} where
         (one.0, got_of one.1.sending.value.sender)
         (Contains-append_right (rest_calls rest) (handed_calls handed)
         (one.0, got_of one.1.sending.value.sender)
-        (in-map (λ (a : ℕ × Returning J book). (a.0, got_of a.1.sending.value.sender))
+        (in-map (λ (a : ℕ × ReturningCall J book). (a.0, got_of a.1.sending.value.sender))
         handed one there)))
 
     sent-rest : (id : ℕ) (items : List OutItem) → Contains (rest_calls rest) (id, items)
@@ -402,7 +403,7 @@ module _ {J : Type 0} {book : Naming J} where
         (handed_calls handed) (id, items) there))
 
     -- these opened all calls, and each stands in the register
-    module _ (given took : List (Control (Opening J book)))
+    module _ (given took : List (WriterOrder (OpeningCall J book)))
         (parts : took ≡ given ++ order_in rest.aside) (all :
         IsPermutation (opens given) (numbers rest.sends.calls.items ++ handed_numbers handed))
         (own : All IsOwn took) where
@@ -423,17 +424,18 @@ module _ {J : Type 0} {book : Naming J} where
 
       pub handed-carried : AreCarried (all_sent rest handed unput) (map (λ one. one.1) handed)
       handed-carried =
-          All-map (λ (returning : Returning J book).
+          All-map (λ (returning : ReturningCall J book).
           HasReturned (carried_in (all_sent rest handed unput)) returning.sending.value)
-          (λ (one : ℕ × Returning J book). one.1) handed
-          (all-itself (λ (one : ℕ × Returning J book).
+          (λ (one : ℕ × ReturningCall J book). one.1) handed
+          (all-itself (λ (one : ℕ × ReturningCall J book).
           HasReturned (carried_in (all_sent rest handed unput)) one.1.sending.value) handed
           (λ one there.
           returned-as (all_sent rest handed unput) one.1.sending.value one.0
           (stands-given (numbered one.0 one.1.sending.value)
           (Contains-append_right (numbers rest.sends.calls.items) (handed_numbers handed)
           (numbered one.0 one.1.sending.value)
-          (in-map (λ (a : ℕ × Returning J book). numbered a.0 a.1.sending.value) handed one there)))
+          (in-map (λ (a : ℕ × ReturningCall J book). numbered a.0 a.1.sending.value)
+          handed one there)))
           one.1.there (sent-handed one there)))
 
       pub rest-carried : CarriesRest (all_sent rest handed unput) rest
@@ -457,8 +459,9 @@ module _ {J : Type 0} {book : Naming J} where
               (numbered id returning.sending.value) core)
 
   -- of an order that isn't put
-  pub open-carried : (rest : Senders J book) (handed : List (ℕ × Returning J book))
-      (dropped : List (Control (Opening J book))) (unput : Option (Control (Opening J book)))
+  pub open-carried : (rest : Senders J book) (handed : List (ℕ × ReturningCall J book))
+      (dropped : List (WriterOrder (OpeningCall J book)))
+      (unput : Option (WriterOrder (OpeningCall J book)))
       → All IsOwn dropped → IfSome unput (Contains dropped)
       → IfSome unput (CarriesOpen (all_sent rest handed unput))
   open-carried rest handed dropped None own kept = tt

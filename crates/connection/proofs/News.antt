@@ -38,7 +38,7 @@ use Rattle.h2frame.specs.declared.error_code.ErrorCode.{ErrorCode}
 use Rattle.h2frame.specs.declared.error_code.ErrorCode.TheVariants as error
 use Rattle.h2frame.specs.declared.frame.Frame.{Frame}
 use Rattle.lists.specs.declared.field.Field.{Field}
-use Rattle.outwriter.specs.declared.control.Control.TheVariants.{
+use Rattle.outwriter.specs.declared.control.WriterOrder.TheVariants.{
   Settings,
   Ping,
   Probe,
@@ -57,8 +57,8 @@ use Rattle.outwriter.specs.Runs.{told as duties_told}
 use Rattle.outwriter.specs.Steps.{Order, Taken, Granted, Written, Returned, frames_of}
 use Rattle.outwriter.specs.Steps.{Step as RunStep}
 use Rattle.reasons.specs.declared.Reason.TheVariants as reason
-use Rattle.session.specs.declared.event.Control.{Control}
-use Rattle.session.specs.declared.event.Control.TheVariants as controls
+use Rattle.session.specs.declared.event.PeerControl.{PeerControl}
+use Rattle.session.specs.declared.event.PeerControl.TheVariants as controls
 use Rattle.session.specs.declared.event.InEvent.{InEvent}
 use Rattle.session.specs.declared.event.InEvent.TheVariants as events
 use Rattle.readerloop.specs.Orders.{
@@ -188,7 +188,7 @@ loose-news last Unknown = refl
 loose-news last (TurnedAway fault) = refl
 loose-news last Lacking = refl
 
-control-news : (control : Control) → news_in (news_of control ∷ []) ≡ news_of control ∷ []
+control-news : (control : PeerControl) → news_in (news_of control ∷ []) ≡ news_of control ∷ []
 control-news (controls.Settings settings) = refl
 control-news (controls.Ping bytes) = refl
 control-news (controls.Window id increment) = refl

@@ -46,7 +46,7 @@ use Rattle.h2frame.specs.declared.error_code.ErrorCode.TheVariants.{
   Cancel,
 }
 use Rattle.lists.specs.declared.field.Field.{Field}
-use Rattle.outwriter.specs.declared.control.Control.TheVariants.{
+use Rattle.outwriter.specs.declared.control.WriterOrder.TheVariants.{
   Settings,
   Ping,
   Probe,
@@ -64,8 +64,8 @@ use Rattle.outwriter.specs.Runs.{is_opened, opens_stream}
 use Rattle.outwriter.specs.Steps.{Order, Taken, Granted, Written, Returned}
 use Rattle.outwriter.specs.Steps.{Step as RunStep}
 use Rattle.reasons.specs.declared.Reason.TheVariants as reason
-use Rattle.session.specs.declared.event.Control.{Control as News}
-use Rattle.session.specs.declared.event.Control.TheVariants as news
+use Rattle.session.specs.declared.event.PeerControl.{PeerControl as News}
+use Rattle.session.specs.declared.event.PeerControl.TheVariants as news
 use Rattle.session.specs.declared.event.InEvent.{InEvent}
 use Rattle.session.specs.declared.event.InEvent.TheVariants as events
 use Rattle.session.specs.Events.{Events}

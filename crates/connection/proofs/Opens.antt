@@ -22,15 +22,15 @@ use Rattle.std.specs.Prelude.{if◌then◌else◌, IfSome, IsSomeAnd}
 use Rattle.callhead.specs.declared.head.CallHead.{CallHead}
 use Rattle.callhead.specs.declared.fault.HeadFault.{HeadFault}
 use Rattle.callhead.specs.StatusFields.{refusal_of}
-use Rattle.callparts.specs.declared.order.Opening.{Opening}
+use Rattle.callparts.specs.declared.order.OpeningCall.{OpeningCall}
 use Rattle.callparts.specs.declared.register.Naming.{Ghosts as Naming}
 use Rattle.callparts.specs.declared.report.Ending.{Ending}
 use Rattle.callparts.specs.declared.work.Request.{Request}
 use Rattle.connbook.specs.declared.answers.AdmitFault.TheVariants as refused
 use Rattle.connbook.specs.declared.answers.Receipt.TheVariants.{Feed, Discard, CallWindow, Overrun}
 use Rattle.lists.specs.declared.field.Field.{Field}
-use Rattle.outwriter.specs.declared.control.Control.{Control}
-use Rattle.outwriter.specs.declared.control.Control.TheVariants.{
+use Rattle.outwriter.specs.declared.control.WriterOrder.{WriterOrder}
+use Rattle.outwriter.specs.declared.control.WriterOrder.TheVariants.{
   Settings,
   Ping,
   Probe,
@@ -43,10 +43,10 @@ use Rattle.outwriter.specs.declared.control.Control.TheVariants.{
   Close,
 }
 use Rattle.outwriter.specs.Steps.{Order}
-use Rattle.session.specs.declared.event.Control.{Control as News}
-use Rattle.session.specs.declared.event.Control.TheVariants as news
+use Rattle.session.specs.declared.event.PeerControl.{PeerControl as News}
+use Rattle.session.specs.declared.event.PeerControl.TheVariants as news
 use Rattle.session.specs.declared.event.InEvent.TheVariants as events
-use Rattle.readerloop.specs.declared.decided.Decided.{Decided}
+use Rattle.readerloop.specs.declared.decision.Decision.{Decision}
 use Rattle.readerloop.specs.Orders.{
   begun,
   came,
@@ -255,7 +255,7 @@ behind-goaway None orders = refl
 behind-goaway (Some last) orders = refl
 
 module _ {J : Type 0} {book : Naming J} where
-  plain-one : (order : Option (Control (Opening J book))) → opens_of (order_in order) ≡ []
+  plain-one : (order : Option (WriterOrder (OpeningCall J book))) → opens_of (order_in order) ≡ []
       → IfSome order IsOwn
   plain-one None none = tt
   plain-one (Some (Open id opening)) none = absurd cc
@@ -270,7 +270,7 @@ module _ {J : Type 0} {book : Naming J} where
   plain-one (Some Close) none = tt
 
   -- a step that admits no call opens none
-  pub plain-own : (told : List Step) (step : Step) (decided : Decided J book)
+  pub plain-own : (told : List Step) (step : Step) (decided : Decision J book)
       → admitted_by step ≡ None → orders_in decided ≡ orders_at told step
       → IfSome decided.order IsOwn
   plain-own told step decided none is =
@@ -279,7 +279,7 @@ module _ {J : Type 0} {book : Naming J} where
       ∙ (ap (λ (orders : List Order). opens_of orders) is
       ∙ (opens-at told step ∙ ap (λ (found : Option ℕ). once found) none)))
 
-  opens-own : (request : Request) (order : Control (Opening J book))
+  opens-own : (request : Request) (order : WriterOrder (OpeningCall J book))
       → Opens request order → IsOwn order
   opens-own request (Open id opening) opens =
       subst (λ (found : Option Request). IsSomeAnd found (λ one. one.id ≡ id))
@@ -295,7 +295,7 @@ module _ {J : Type 0} {book : Naming J} where
   opens-own request Close opens = absurd opens
 
   -- the order of a call that begins
-  pub begun-own : (request : Request) (order : Option (Control (Opening J book)))
+  pub begun-own : (request : Request) (order : Option (WriterOrder (OpeningCall J book)))
       → IsSomeAnd order (Opens request) → IfSome order IsOwn
   begun-own request None opens = tt
   begun-own request (Some order) opens = opens-own request order opens

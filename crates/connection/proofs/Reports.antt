@@ -45,14 +45,14 @@ use Rattle.callparts.specs.declared.report.Ending.TheVariants.{
 }
 use Rattle.h2frame.specs.declared.error_code.ErrorCode.{ErrorCode}
 use Rattle.h2frame.specs.declared.error_code.ErrorCode.TheVariants.{FlowControlError}
-use Rattle.handlers.specs.declared.step.Step.{Step as Answer}
+use Rattle.handlers.specs.declared.step.MethodStep.{MethodStep as Answer}
 use Rattle.outwriter.specs.Steps.{Order}
-use Rattle.outwriter.specs.declared.control.Control.TheVariants as orders
+use Rattle.outwriter.specs.declared.control.WriterOrder.TheVariants as orders
 use Rattle.session.specs.declared.event.InEvent.{InEvent}
 use Rattle.session.specs.Events.{Events}
 use Rattle.session.specs.FlowBytes.{counted_told}
 use Rattle.readerloop.specs.declared.reading.Reading.{Reading}
-use Rattle.readerloop.specs.Calls.{Sent}
+use Rattle.readerloop.specs.Calls.{SentItems}
 use Rattle.readerloop.specs.Orders.{IsReset, orders_by}
 use Rattle.readerloop.specs.Reports.{AreAccounts, IsAccounted, IsFront, IsSettled, is_heard_out}
 use Rattle.readerloop.specs.Steps.{Step, events_of, is_drain, is_draining, reported}
@@ -178,7 +178,7 @@ module _ (known : ℕ → List (List ℕ) → Bool → Answer → Type 0) (names
   -- behind what was read the calls were cut, of which no event tells
   pub are-served : {A B C J M N : Type 0} {book : Naming J} {route : Ghosts N} (came : List ℕ)
       (rest before : Option (List ℕ)) (granted : ℕ) (read_failed : Bool) (read ending : Ending)
-      (sent : List Sent) (told cuts : List Step)
+      (sent : List SentItems) (told cuts : List Step)
       (reading reading_new : Reading J M book) (old new : Orders A B C J N book route)
       (calls : V) (device : W)
       → HasRead known names sent read came told reading old

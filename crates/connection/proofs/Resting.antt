@@ -2,10 +2,10 @@
 use Rattle.std.proofs.Common.{List, ◌∷◌, arith, refl, suc}
 use Rattle.std.specs.Prelude.{Contains}
 use Rattle.std.proofs.lemmas.List.Sorted.{Contains-permutation, IsPermutation-sym}
-use Rattle.callparts.specs.declared.order.Returning.{Returning}
+use Rattle.callparts.specs.declared.order.ReturningCall.{ReturningCall}
 use Rattle.callparts.specs.declared.register.Naming.{Ghosts as Naming}
-use Rattle.readerloop.specs.Calls.{HasReturned, Sent, carried_in}
-use Rattle.writerloop.specs.declared.writing.Senders.{Senders}
+use Rattle.readerloop.specs.Calls.{HasReturned, SentItems, carried_in}
+use Rattle.writerloop.specs.declared.senders.Senders.{Senders}
 use Rattle.writerloop.specs.Rest.{HandsOver, rest_calls, rest_numbers}
 use Rattle.writerloop.specs.Sent.{got_of, numbered}
 use Rattle.connection.specs.Rest.{CarriesRest}
@@ -18,7 +18,8 @@ in-rest x first xs there = (suc there.0, omega (arith, there.1), there.2)
 
 module _ {J : Type 0} {book : Naming J} where
   -- the others are among those that there were
-  pub carries-less : (sent : List Sent) (old new : Senders J book) (returning : Returning J book)
+  pub carries-less : (sent : List SentItems) (old new : Senders J book)
+      (returning : ReturningCall J book)
       → HandsOver old new returning → CarriesRest sent old → CarriesRest sent new
   carries-less sent old new returning hands carries other id number call =
       carries other id
@@ -32,7 +33,8 @@ module _ {J : Type 0} {book : Naming J} where
       (hands.id, got_of returning.sending.value.sender) (rest_calls new) call))
 
   -- that which is handed over is
-  pub carries-first : (sent : List Sent) (old new : Senders J book) (returning : Returning J book)
+  pub carries-first : (sent : List SentItems) (old new : Senders J book)
+      (returning : ReturningCall J book)
       → HandsOver old new returning → CarriesRest sent old
       → HasReturned (carried_in sent) returning.sending.value
   carries-first sent old new returning hands carries =

@@ -21,7 +21,13 @@ use Rattle.std.proofs.lemmas.List.{append_assoc}
 use Rattle.std.specs.List.{list_any}
 use Rattle.writerloop.specs.OwnOrders.{own_order}
 use Rattle.h2frame.specs.declared.error_code.ErrorCode.TheVariants.{InternalError}
-use Rattle.outwriter.specs.declared.control.Control.TheVariants.{Probe, Open, Reset, Goaway, Close}
+use Rattle.outwriter.specs.declared.control.WriterOrder.TheVariants.{
+  Probe,
+  Open,
+  Reset,
+  Goaway,
+  Close,
+}
 use Rattle.outwriter.specs.declared.control.OutFault.TheVariants.{PeerWindow}
 use Rattle.outwriter.specs.RunState.{Blames, Concerns}
 use Rattle.outwriter.specs.Drains.{draining, warning}

@@ -71,8 +71,8 @@ use mathlib.Core.List.{IsPrefix}
 use Rattle.account.specs.declared.call.OutItem.{OutItem}
 use Rattle.account.specs.declared.call.OutItem.TheVariants.{Left}
 use Rattle.callparts.specs.declared.call_account.CallAccount.{CallAccount}
-use Rattle.callparts.specs.declared.order.Opening.{Opening}
-use Rattle.callparts.specs.declared.order.Returning.{Returning}
+use Rattle.callparts.specs.declared.order.OpeningCall.{OpeningCall}
+use Rattle.callparts.specs.declared.order.ReturningCall.{ReturningCall}
 use Rattle.callparts.specs.declared.register.CallNumber.{CallNumber}
 use Rattle.callparts.specs.declared.register.Naming.{Ghosts as Naming}
 use Rattle.callparts.specs.declared.report.Ending.{Ending}
@@ -82,11 +82,11 @@ use Rattle.callparts.specs.Lanes.{OutSender}
 use Rattle.callparts.specs.Numbers.{request_at}
 use Rattle.h2frame.specs.declared.error_code.ErrorCode.{ErrorCode}
 use Rattle.h2frame.specs.declared.error_code.ErrorCode.TheVariants as error
-use Rattle.handlers.specs.declared.step.Step.{Step as Answer}
+use Rattle.handlers.specs.declared.step.MethodStep.{MethodStep as Answer}
 use Rattle.lane.specs.Ring.{put_in}
 use Rattle.lane.specs.RingLane.{LaneName, got}
-use Rattle.outwriter.specs.declared.control.Control.{Control}
-use Rattle.outwriter.specs.declared.control.Control.TheVariants.{
+use Rattle.outwriter.specs.declared.control.WriterOrder.{WriterOrder}
+use Rattle.outwriter.specs.declared.control.WriterOrder.TheVariants.{
   Settings,
   Ping,
   Probe,
@@ -102,12 +102,12 @@ use Rattle.outwriter.specs.Cores.{calls}
 use Rattle.outwriter.specs.Steps.{Order, order_of}
 use Rattle.outwriter.specs.Steps.{Step as RunStep}
 use Rattle.session.specs.declared.event.InEvent.TheVariants as events
-use Rattle.readerloop.specs.Calls.{Sent, carried_in}
+use Rattle.readerloop.specs.Calls.{SentItems, carried_in}
 use Rattle.readerloop.specs.Orders.{orders_by}
 use Rattle.readerloop.specs.Reports.{AreAccounts, IsAccounted, IsSettled}
 use Rattle.readerloop.specs.Steps.{IsRising, Step, WasTold, admitted}
-use Rattle.writerloop.specs.declared.writing.Senders.{Senders}
-use Rattle.writerloop.specs.declared.sends.Sent.{Sent as SentCall}
+use Rattle.writerloop.specs.declared.senders.Senders.{Senders}
+use Rattle.writerloop.specs.declared.sends.SendingCall.{SendingCall as SentCall}
 use Rattle.writerloop.specs.Left.{left_by, left_in}
 use Rattle.writerloop.specs.Orders.{Obeys, order_in, orders_of}
 use Rattle.writerloop.specs.Rest.{rest_calls}
@@ -253,19 +253,19 @@ module _ {J : Type 0} {book : Naming J} where
       some-map (λ (work : Work). work.request) (slice_get number.seen.log number.value)
       (some-within number.seen.log number.value number.stands)
 
-  abbrev of_orders : List (Control (Opening J book)) → List Order
+  abbrev of_orders : List (WriterOrder (OpeningCall J book)) → List Order
   of_orders orders = map (λ order. order_of order) orders
 
-  pub given-first : (given aside took left all : List (Control (Opening J book)))
+  pub given-first : (given aside took left all : List (WriterOrder (OpeningCall J book)))
       → took ≡ given ++ aside → took ++ left ≡ all
       → orders_of all ≡ orders_of given ++ (orders_of aside ++ orders_of left)
   given-first given aside took left all parts put =
       ap of_orders (sym put
-      ∙ (ap (λ (os : List (Control (Opening J book))). os ++ left) parts
+      ∙ (ap (λ (os : List (WriterOrder (OpeningCall J book))). os ++ left) parts
       ∙ append_assoc given aside left))
-      ∙ (map-append (λ (o : Control (Opening J book)). order_of o) given (aside ++ left)
+      ∙ (map-append (λ (o : WriterOrder (OpeningCall J book)). order_of o) given (aside ++ left)
       ∙ ap (λ (os : List Order). of_orders given ++ os)
-      (map-append (λ (o : Control (Opening J book)). order_of o) aside left))
+      (map-append (λ (o : WriterOrder (OpeningCall J book)). order_of o) aside left))
 
   -- ---- the streams
 
@@ -274,14 +274,14 @@ module _ {J : Type 0} {book : Naming J} where
   key-ids [] = refl
   key-ids (call ∷ sent) = ap (λ (ids : List ℕ). call.id ∷ ids) (key-ids sent)
 
-  handed-ids : (handed : List (ℕ × Returning J book))
+  handed-ids : (handed : List (ℕ × ReturningCall J book))
       → map (λ call. call.1) (handed_numbers handed) ≡ map (λ call. call.0) (handed_calls handed)
   handed-ids [] = refl
   handed-ids (one ∷ handed) = ap (λ (ids : List ℕ). one.0 ∷ ids) (handed-ids handed)
 
   -- those of the calls that were sent are those that the orders open
-  call-ids : (rest : Senders J book) (handed : List (ℕ × Returning J book))
-      (given took : List (Control (Opening J book)))
+  call-ids : (rest : Senders J book) (handed : List (ℕ × ReturningCall J book))
+      (given took : List (WriterOrder (OpeningCall J book)))
       → took ≡ given ++ order_in rest.aside
       → IsPermutation (opens given) (numbers rest.sends.calls.items ++ handed_numbers handed)
       → IsPermutation (map (λ call. call.1) (opens took))
@@ -292,7 +292,7 @@ module _ {J : Type 0} {book : Naming J} where
       let sent = numbers rest.sends.calls.items in
       let back = handed_numbers handed in
       let took-is : ids (opens took) ≡ ids (opens given) ++ ids aside =
-      ap (λ (os : List (Control (Opening J book))). ids (opens os)) parts
+      ap (λ (os : List (WriterOrder (OpeningCall J book))). ids (opens os)) parts
       ∙ (ap ids (opens-append given (order_in rest.aside))
       ∙ map-append (λ (call : CallNumber J book × ℕ). call.1) (opens given) aside) in
       let core-is : map (λ call. call.0) (calls got rest.core.items) ≡ ids sent =
@@ -331,12 +331,13 @@ module _ {J : Type 0} {book : Naming J} where
 module _ {A B C J N : Type 0} {book : Naming J} {route : Ghosts N} (told : List Step)
     (rising : IsRising told) (orders : Orders A B C J N book route)
     (closed : Closed (orders_by told ++ InputEnded ∷ []) orders)
-    (took : List (Control (Opening J book))) (taken : IsPrefix took (put_of orders)) where
+    (took : List (WriterOrder (OpeningCall J book))) (taken : IsPrefix took (put_of orders)) where
   -- each was put, so it stands in the register
   pub took-own : All IsOwn took
   took-own =
       all-front IsOwn took taken.0
-      (subst (λ (os : List (Control (Opening J book))). All IsOwn os) (sym closed.put ∙ sym taken.1)
+      (subst (λ (os : List (WriterOrder (OpeningCall J book))). All IsOwn os)
+      (sym closed.put ∙ sym taken.1)
       (All-append IsOwn closed.front (Close ∷ [])
       (all-front IsOwn closed.front closed.dropped closed.own)
       (All-cons IsOwn Close [] tt (All-nil IsOwn))))
@@ -348,7 +349,8 @@ module _ {A B C J N : Type 0} {book : Naming J} {route : Ghosts N} (told : List 
   all-opened =
       sym (opens_of-append (of_orders closed.front) (of_orders closed.dropped))
       ∙ (ap opens_of
-      (sym (map-append (λ (o : Control (Opening J book)). order_of o) closed.front closed.dropped)
+      (sym (map-append (λ (o : WriterOrder (OpeningCall J book)). order_of o)
+      closed.front closed.dropped)
       ∙ closed.parts)
       ∙ (opens_of-append (orders_by told) (InputEnded ∷ [])
       ∙ (append-nil (opens_of (orders_by told)) ∙ opened-admitted told)))
@@ -356,10 +358,11 @@ module _ {A B C J N : Type 0} {book : Naming J} {route : Ghosts N} (told : List 
   took-opened : opens_of (of_orders took) ++ opens_of (of_orders taken.0) ≡ opened
   took-opened =
       sym (opens_of-append (of_orders took) (of_orders taken.0))
-      ∙ (ap opens_of (sym (map-append (λ (o : Control (Opening J book)). order_of o) took taken.0)
+      ∙ (ap opens_of
+      (sym (map-append (λ (o : WriterOrder (OpeningCall J book)). order_of o) took taken.0)
       ∙ ap of_orders (taken.1 ∙ closed.put))
       ∙ (ap opens_of
-      (map-append (λ (o : Control (Opening J book)). order_of o) closed.front (Close ∷ []))
+      (map-append (λ (o : WriterOrder (OpeningCall J book)). order_of o) closed.front (Close ∷ []))
       ∙ (opens_of-append (of_orders closed.front) (Close ∷ []) ∙ append-nil opened)))
 
   all-distinct : IsDistinct nat_eq (opened ++ opens_of (of_orders closed.dropped))
@@ -375,7 +378,7 @@ module _ {A B C J N : Type 0} {book : Naming J} {route : Ghosts N} (told : List 
       (distinct-part opened (opens_of (of_orders closed.dropped)) all-distinct)))
 
   -- one that was dropped opens none of the streams of those that were taken
-  pub dropped-apart : (id : ℕ) (opening : Opening J book)
+  pub dropped-apart : (id : ℕ) (opening : OpeningCall J book)
       → Contains closed.dropped (Open id opening) → Contains (opens_of (of_orders took)) id → ⊥
   dropped-apart id opening dropped there =
       distinct-parts opened (opens_of (of_orders closed.dropped)) id all-distinct
@@ -385,10 +388,10 @@ module _ {A B C J N : Type 0} {book : Naming J} {route : Ghosts N} (told : List 
       (λ (call : CallNumber J book × ℕ). call.1) (opens closed.dropped) _
       (opens-one closed.dropped id opening dropped)))
 
-  module _ (run : List RunStep) (rest : Senders J book) (handed : List (ℕ × Returning J book))
+  module _ (run : List RunStep) (rest : Senders J book) (handed : List (ℕ × ReturningCall J book))
       (obeys : Obeys true (orders_of took) run)
       (tells : All (IsTold run) (rest_calls rest ++ handed_calls handed)) where
-    unput-told : (unput : Option (Control (Opening J book)))
+    unput-told : (unput : Option (WriterOrder (OpeningCall J book)))
         → IfSome unput (Contains closed.dropped) → All (IsTold run) (unput_calls unput)
     unput-told None kept = All-nil (IsTold run)
     unput-told (Some (Open id opening)) kept =
@@ -409,9 +412,9 @@ module _ {A B C J N : Type 0} {book : Naming J} {route : Ghosts N} (told : List 
     pub carries-told : (id : ℕ) (items : List OutItem)
         → carried_in (all_sent rest handed orders.unput) id items → CarriesWhatWasSent run id items
     carries-told id items there =
-        All-contains (λ (one : Sent). IsTold run (one.id, one.items))
+        All-contains (λ (one : SentItems). IsTold run (one.id, one.items))
         (all_sent rest handed orders.unput) (record { id = id; items = items })
-        (All-map (λ (one : Sent). IsTold run (one.id, one.items)) as_sent
+        (All-map (λ (one : SentItems). IsTold run (one.id, one.items)) as_sent
         (all_calls rest handed orders.unput)
         (All-append (IsTold run) (rest_calls rest ++ handed_calls handed) (unput_calls orders.unput)
         tells (unput-told orders.unput closed.kept))) there
@@ -419,7 +422,7 @@ module _ {A B C J N : Type 0} {book : Naming J} {route : Ghosts N} (told : List 
   -- ---- those that were left
 
   module _ (known : ℕ → List (List ℕ) → Bool → Answer → Type 0) (names : List ℕ → ℕ → Type 0)
-      (run : List RunStep) (rest : Senders J book) (given : List (Control (Opening J book)))
+      (run : List RunStep) (rest : Senders J book) (given : List (WriterOrder (OpeningCall J book)))
       (parts : took ≡ given ++ order_in rest.aside)
       (all : HasAll given run rest.sends.calls.items rest.core.items (put_in rest.sends.home))
       (none : ResetsNone (orders_of given)) where
@@ -464,7 +467,8 @@ module _ {A B C J N : Type 0} {book : Naming J} {route : Ghosts N} (told : List 
               Contains-append_right (rest_calls rest) (handed_calls all.handed) (id, items) back
         ]
 
-    not-unput : (unput : Option (Control (Opening J book))) → IfSome unput (Contains closed.dropped)
+    not-unput : (unput : Option (WriterOrder (OpeningCall J book)))
+        → IfSome unput (Contains closed.dropped)
         → (id : ℕ) (items : List OutItem) → Contains (unput_calls unput) (id, items)
         → Contains (opens_of (of_orders took)) id → ⊥
     not-unput None kept id items there took-it = none-in (id, items) there
@@ -491,7 +495,7 @@ module _ {A B C J N : Type 0} {book : Naming J} {route : Ghosts N} (told : List 
       where
         pair-of : (one : ℕ × List OutItem) → as_sent one ≡ record { id = id; items = items }
             → one ≡ (id, items)
-        pair-of (n, found) is = ap (λ (sent : Sent). (sent.id, sent.items)) is
+        pair-of (n, found) is = ap (λ (sent : SentItems). (sent.id, sent.items)) is
     back-from (call ∷ xs) id items (suc k, within, at) =
         let rest-of = back-from xs id items (k, omega (arith, within), at) in
         (suc rest-of.0, omega (arith, rest-of.1), rest-of.2)

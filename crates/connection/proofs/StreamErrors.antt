@@ -51,8 +51,8 @@ use Rattle.callhead.specs.declared.fault.HeadFault.TheVariants.{
   NotPost,
   OutOfMemory,
 }
-use Rattle.flow.specs.declared.halves.HalfVerdict.{HalfVerdict}
-use Rattle.flow.specs.declared.halves.HalfVerdict.TheVariants.{
+use Rattle.flow.specs.declared.halves.FrameAction.{FrameAction}
+use Rattle.flow.specs.declared.halves.FrameAction.TheVariants.{
   Open,
   Accept,
   Discard,
@@ -60,8 +60,8 @@ use Rattle.flow.specs.declared.halves.HalfVerdict.TheVariants.{
   ConnectionError,
 }
 use Rattle.flow.specs.declared.TheConstants.{MAX_STREAMS}
-use Rattle.flow.specs.declared.halves.Half.{Half}
-use Rattle.flow.specs.declared.halves.Half.TheVariants.{Opened, Ended, Reset}
+use Rattle.flow.specs.declared.halves.HalfState.{HalfState}
+use Rattle.flow.specs.declared.halves.HalfState.TheVariants.{Opened, Ended, Reset}
 use Rattle.flow.specs.Halves.{
   Begun,
   Event,
@@ -124,7 +124,7 @@ abbrev internals : List InEvent → ℕ
 internals given = sum_by internal_by given
 
 -- the error of a stream isn't that one
-abbrev IsSound : HalfVerdict → Type 0
+abbrev IsSound : FrameAction → Type 0
 IsSound (StreamError error) = internal_code error ≡ 0
 IsSound _ = Unit {0}
 
@@ -161,7 +161,7 @@ ended_sound WindowUpdate = tt
 ended_sound Continuation = tt
 ended_sound (Unknown code) = tt
 
-begun_sound : (half : Half) (head : FrameHead) → IsSound (on_begun half head)
+begun_sound : (half : HalfState) (head : FrameHead) → IsSound (on_begun half head)
 begun_sound Opened head = opened_sound head.kind (has end_stream head.flags)
 begun_sound Ended head = ended_sound head.kind
 begun_sound Reset head = tt
@@ -175,7 +175,7 @@ judged_sound (Begun half) head count = begun_sound half head
 verdict_sound : (history : List Event) (head : FrameHead) → IsSound (verdict history head)
 verdict_sound history head = judged_sound (state head.stream history) head (length (begun history))
 
-credit_sound : (judged : HalfVerdict) → IsSound judged → IsSound (without_increment judged)
+credit_sound : (judged : FrameAction) → IsSound judged → IsSound (without_increment judged)
 credit_sound Accept is = refl
 credit_sound Open is = tt
 credit_sound Discard is = tt
@@ -205,7 +205,7 @@ before_end : (event : InEvent) (head : FrameHead) → internal_by event ≡ 0
 before_end event head none =
     omega (arith, sum_by-cons internal_by event (end_of head), none, end_none head)
 
-refusal_none : (judged : HalfVerdict) (head : FrameHead) → IsSound judged
+refusal_none : (judged : FrameAction) (head : FrameHead) → IsSound judged
     → TellsNone (refusal judged head)
 refusal_none (StreamError error) head sound =
     omega (arith, sum_by-cons internal_by (events.StreamError head.stream error) [], sound)
@@ -214,7 +214,7 @@ refusal_none Open head sound = refl
 refusal_none Accept head sound = refl
 refusal_none Discard head sound = refl
 
-reset_none : (judged : HalfVerdict) (frame : Frame) → IsSound judged
+reset_none : (judged : FrameAction) (frame : Frame) → IsSound judged
     → TellsNone (reset_events judged frame)
 reset_none Accept frame sound = refl
 reset_none Open frame sound = refl
@@ -222,7 +222,7 @@ reset_none Discard frame sound = refl
 reset_none (StreamError error) frame sound = refusal_none (StreamError error) frame.head sound
 reset_none (ConnectionError error) frame sound = refl
 
-credit_none : (judged : HalfVerdict) (frame : Frame) → IsSound judged
+credit_none : (judged : FrameAction) (frame : Frame) → IsSound judged
     → TellsNone (window_events judged frame)
 credit_none Accept frame sound = refl
 credit_none Open frame sound = refl
@@ -256,7 +256,7 @@ counted_none n event none = by (n == 0)
     by true = refl
     by false = omega (arith, sum_by-cons internal_by event [], none)
 
-data_none : (judged : HalfVerdict) (frame : Frame) → IsSound judged
+data_none : (judged : FrameAction) (frame : Frame) → IsSound judged
     → TellsNone (data_events judged frame)
 data_none Accept frame sound =
     none_join (counted frame.head.length
@@ -318,7 +318,7 @@ head_none head fields history next given (inl (call, is, e, same)) =
 head_none head fields history next given (inr (fault, first, e, same)) =
     none_same given _ e (bad_head_none fault head)
 
-fields_none : (judged : HalfVerdict) (head : FrameHead) (fields : List Field)
+fields_none : (judged : FrameAction) (head : FrameHead) (fields : List Field)
     (history next : List Event) (given : List InEvent)
     → IsSound judged → FieldsGive judged head fields history given next → TellsNone given
 fields_none Open head fields history next given sound gives =
@@ -331,7 +331,7 @@ fields_none (StreamError error) head fields history next given sound (e, same) =
 fields_none (ConnectionError error) head fields history next given sound (e, same) =
     none_same given _ e refl
 
-block_none : (kept kept_next : Option Table) (head : FrameHead) (judged : HalfVerdict)
+block_none : (kept kept_next : Option Table) (head : FrameHead) (judged : FrameAction)
     (block : List ℕ) (history next : List Event) (given : List InEvent)
     → IsSound judged → BlockGives kept head judged block history given next kept_next
     → TellsNone given

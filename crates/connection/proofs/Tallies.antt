@@ -32,7 +32,7 @@ use Rattle.connbook.specs.declared.answers.AdmitFault.TheVariants as refused
 use Rattle.connbook.specs.declared.answers.Receipt.{Receipt}
 use Rattle.connbook.specs.declared.answers.Receipt.TheVariants.{Feed, Discard, CallWindow, Overrun}
 use Rattle.connbook.specs.Receipts.{counted_of}
-use Rattle.outwriter.specs.declared.control.Control.{Control}
+use Rattle.outwriter.specs.declared.control.WriterOrder.{WriterOrder}
 use Rattle.session.specs.declared.event.InEvent.{InEvent}
 use Rattle.session.specs.declared.event.InEvent.TheVariants as events
 use Rattle.session.specs.FlowBytes.{counted_by, counted_told}
@@ -159,7 +159,7 @@ ended-justified event fate told None due is = is
 ended-justified event fate told (Some ending) due is = due
 
 pub bytes-justified : {S : Type 0} (id counted : ℕ) (piece : List ℕ) (told : List Step)
-    (receipt : Receipt) (order : Option (Control S)) (ends : Option Ending)
+    (receipt : Receipt) (order : Option (WriterOrder S)) (ends : Option Ending)
     → MayRefuse (counted_told (events_of told) + counted) receipt
     → MayMiss id piece (fate_of receipt order ends) told
     → IsJustified (Told (events.Data id piece counted) (fate_of receipt order ends)) told

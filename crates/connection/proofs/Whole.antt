@@ -24,7 +24,7 @@ use Rattle.std.specs.Prelude.{IsSome}
 use Rattle.account.specs.declared.call.Account.{Account}
 use Rattle.account.specs.declared.call.OutItem.{OutItem}
 use Rattle.account.specs.declared.call.OutItem.TheVariants.{Head, Message, Trailers, Left}
-use Rattle.account.specs.declared.call.Told.{Told}
+use Rattle.account.specs.declared.call.RequestEnd.{RequestEnd}
 use Rattle.account.specs.Accounts.{Begins, IsBody, IsLawful, IsResponse}
 use Rattle.callhead.specs.declared.head.CallHead.{CallHead}
 use Rattle.callrun.specs.Outcomes.{IsBegun, IsOutcome}
@@ -34,8 +34,8 @@ use Rattle.callparts.specs.declared.report.Ending.{Ending}
 use Rattle.callparts.specs.Accounts.{StandsOn}
 use Rattle.callparts.specs.Workers.{IsGivenAs}
 use Rattle.handlers.specs.declared.reply.Reply.{Reply}
-use Rattle.handlers.specs.declared.step.Step.{Step as Answer}
-use Rattle.outwriter.specs.declared.control.Control.TheVariants.{InputEnded}
+use Rattle.handlers.specs.declared.step.MethodStep.{MethodStep as Answer}
+use Rattle.outwriter.specs.declared.control.WriterOrder.TheVariants.{InputEnded}
 use Rattle.outwriter.specs.Calls.{IsOther, TellOthers, is_served}
 use Rattle.outwriter.specs.Parts.{Mark, Byte, Fields, End, Reset, IsFrontOf, IsPart, spelled}
 use Rattle.outwriter.specs.Runs.{is_opened}
@@ -248,7 +248,7 @@ begun-unended head replies items (inr is) has =
     (subst (λ (given : List OutItem). HasEnd (spelled given)) is has)
 
 -- an outcome that ends a stream has a status
-ended-status : (head : CallHead) (overdue : Bool) (said : Option Told) (answer : Answer)
+ended-status : (head : CallHead) (overdue : Bool) (said : Option RequestEnd) (answer : Answer)
     (items : List OutItem) (code : Option ℕ)
     → IsOutcome head overdue said answer items code → HasEnd (spelled items) → IsSome code
 ended-status head overdue said answer items code (IsOutcome.Whole status ends is same) has =

@@ -5,7 +5,7 @@ use Rattle.h2frame.specs.declared.frame.Frame.{Frame}
 use Rattle.h2frame.specs.declared.kind.FrameKind.{FrameKind}
 use Rattle.h2frame.specs.declared.kind.FrameKind.TheVariants as kind
 use Rattle.h2frame.specs.Flags.{has, ack}
-use Rattle.outwriter.specs.declared.control.Control.TheVariants.{Settings, Ping, Window}
+use Rattle.outwriter.specs.declared.control.WriterOrder.TheVariants.{Settings, Ping, Window}
 use Rattle.outwriter.specs.Frames.{settings_ack, ping_ack}
 use Rattle.outwriter.specs.Runs.{without_goaway}
 use Rattle.outwriter.specs.Steps.{Order, Taken, Granted, Written, Returned}

@@ -5,7 +5,7 @@ use Rattle.account.specs.declared.call.OutItem.{OutItem}
 use Rattle.callhead.specs.declared.head.CallHead.{CallHead}
 use Rattle.callrun.specs.Outcomes.{IsOutcome, is_end}
 use Rattle.callparts.specs.declared.call_account.CallAccount.{CallAccount}
-use Rattle.handlers.specs.declared.step.Step.{Step as Answer}
+use Rattle.handlers.specs.declared.step.MethodStep.{MethodStep as Answer}
 use Rattle.outwriter.specs.Parts.{Mark, spelled}
 use Rattle.outwriter.specs.Steps.{Step}
 use Rattle.writerloop.specs.Sent.{IsTold}

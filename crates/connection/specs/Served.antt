@@ -27,12 +27,12 @@ use Rattle.callparts.specs.declared.report.Ending.TheVariants.{
 }
 use Rattle.h2frame.specs.declared.error_code.ErrorCode.{ErrorCode}
 use Rattle.h2frame.specs.declared.error_code.ErrorCode.TheVariants.{FlowControlError}
-use Rattle.handlers.specs.declared.step.Step.{Step as Answer}
+use Rattle.handlers.specs.declared.step.MethodStep.{MethodStep as Answer}
 use Rattle.outwriter.specs.Credit.{updated}
 use Rattle.outwriter.specs.Drains.{HasDrained}
 use Rattle.outwriter.specs.Steps.{Order}
 use Rattle.outwriter.specs.Steps.{Step as RunStep}
-use Rattle.outwriter.specs.declared.control.Control.TheVariants.{InputEnded, Close}
+use Rattle.outwriter.specs.declared.control.WriterOrder.TheVariants.{InputEnded, Close}
 use Rattle.session.specs.declared.event.InEvent.TheVariants as events
 use Rattle.session.specs.FlowBytes.{counted_told}
 use Rattle.readerloop.specs.Calls.{is_admitted}

@@ -2,7 +2,7 @@
 
 ghost use Rattle.std.specs.Prelude.{◌≡◌, ◌<◌, IfOk};
 
-use callworker::Shared;
+use callworker::SharedConn;
 use connbook::ConnBook;
 use std::alloc::{AllocError, Global};
 use std::sync::ledger::{Blank, Ledger, Share};
@@ -11,17 +11,17 @@ use std::sync::{Arc, Wait};
 /// Ends one connection while its calls go on, from any thread.
 #[derive(Drop)]
 pub struct Drainer<A: Ledger, B: Ledger, C: Ledger> {
-    shared: Arc<Shared<A, B, C>>,
+    shared: Arc<SharedConn<A, B, C>>,
 }
 
 /// What `serve_connection` takes so that a drainer can end the connection: what its threads share,
 /// and the shares of its credit book.
 #[derive(Drop)]
-pub struct DrainSeat<A: Ledger, B: Ledger, C: Ledger> {
-    pub(crate) shared: Arc<Shared<A, B, C>>,
+pub struct DrainHandle<A: Ledger, B: Ledger, C: Ledger> {
+    pub(crate) shared: Arc<SharedConn<A, B, C>>,
     pub(crate) came: Share<A>,
     pub(crate) calls: Share<B>,
-    pub(crate) told: Share<C>,
+    pub(crate) announced: Share<C>,
 }
 
 impl<A: Ledger, B: Ledger, C: Ledger> Drainer<A, B, C> {
@@ -29,7 +29,7 @@ impl<A: Ledger, B: Ledger, C: Ledger> Drainer<A, B, C> {
     pub fn new(
         alloc: Global,
         blanks: (Blank, Blank, Blank),
-    ) -> Result<(Drainer<A, B, C>, DrainSeat<A, B, C>), AllocError>
+    ) -> Result<(Drainer<A, B, C>, DrainHandle<A, B, C>), AllocError>
         requires received { (blanks.0.name ≡ A.name) × (blanks.0.parts ≡ A.parts)
             × (0 < A.parts) }
         requires admitted { (blanks.1.name ≡ B.name) × (blanks.1.parts ≡ B.parts)
@@ -41,18 +41,18 @@ impl<A: Ledger, B: Ledger, C: Ledger> Drainer<A, B, C> {
             × (made.1.came.amount ≡ 0)) }
         ensures calls { IfOk result (λ made. (made.1.calls.parts ≡ B.parts)
             × (made.1.calls.amount ≡ 0)) }
-        ensures told { IfOk result (λ made. (made.1.told.parts ≡ C.parts)
-            × (made.1.told.amount ≡ 0)) }
+        ensures told { IfOk result (λ made. (made.1.announced.parts ≡ C.parts)
+            × (made.1.announced.amount ≡ 0)) }
     {
         let (received, came) = blanks.0.open::<A>();
         let (admitted, calls) = blanks.1.open::<B>();
         let (announced, told) = blanks.2.open::<C>();
-        let shared = Shared::new(alloc, ConnBook::new(alloc, received, admitted, announced))?;
-        let seat = DrainSeat {
+        let shared = SharedConn::new(alloc, ConnBook::new(alloc, received, admitted, announced))?;
+        let seat = DrainHandle {
             shared: Arc::try_clone(&shared)?,
             came,
             calls,
-            told,
+            announced: told,
         };
         Ok((Drainer { shared }, seat))
     }

@@ -4,7 +4,7 @@ ghost use Rattle.std.specs.Prelude.{◌≡◌, ◌+◌, ◌<◌, ◌≤◌, true
 ghost use Rattle.connection.specs.Limits.{MayRefuse, MayTurnAway, Tally, one_more};
 ghost use Rattle.connbook.specs.Receipts.{counted_of};
 
-use callworker::Shared;
+use callworker::SharedConn;
 use connbook::{AdmitFault, Receipt};
 use h2frame::StreamId;
 use std::marker::Model;
@@ -16,7 +16,7 @@ use std::sync::{Arc, Wait};
 /// tally of both.
 #[derive(Drop)]
 pub(crate) struct Intake<A: Ledger, B: Ledger, C: Ledger> {
-    shared: Arc<Shared<A, B, C>>,
+    shared: Arc<SharedConn<A, B, C>>,
     came: Share<A>,
     calls: Share<B>,
 }
@@ -32,7 +32,7 @@ impl<A: Ledger, B: Ledger, C: Ledger> Model for Intake<A, B, C> {
 
 impl<A: Ledger, B: Ledger, C: Ledger> Intake<A, B, C> {
     pub(crate) fn new(
-        shared: Arc<Shared<A, B, C>>,
+        shared: Arc<SharedConn<A, B, C>>,
         came: Share<A>,
         calls: Share<B>,
     ) -> Intake<A, B, C>

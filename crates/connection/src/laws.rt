@@ -12,7 +12,11 @@ ghost use Rattle.h2frame.specs.declared.error_code.ErrorCode.{ErrorCode as Code}
 ghost use Rattle.h2frame.specs.declared.frame.Frame.{Frame};
 ghost use Rattle.h2frame.specs.declared.kind.FrameKind.TheVariants.{RstStream};
 ghost use Rattle.outwriter.specs.Calls.{TellOthers};
-ghost use Rattle.outwriter.specs.declared.control.Control.TheVariants.{Close, InputEnded, Reset};
+ghost use Rattle.outwriter.specs.declared.control.WriterOrder.TheVariants.{
+  Close,
+  InputEnded,
+  Reset,
+};
 ghost use Rattle.outwriter.specs.Frames.{is_last, reset_frame};
 ghost use Rattle.outwriter.specs.Parts.{IsPart, Mark};
 ghost use Rattle.outwriter.specs.RunState.{IsAnswered};

@@ -1,4 +1,4 @@
-//! A connection with its threads: bytes come in, calls are answered, bytes go out.
+//! Serves one connection with its threads. Bytes come in, calls are answered, bytes go out.
 //!
 //! `serve_connection` reads in its caller's thread. One more thread writes, and each worker answers
 //! one call after another. The threads share one lock, which holds the connection's credit book,
@@ -12,14 +12,17 @@
 //! | done, one a worker | worker | reader | the same of a call that is over |
 //!
 //! Machines without threads decide what becomes of a stream: `readerloop` for the side that reads,
-//! `callworker` for a worker, `writerloop` for the side that writes. This crate runs them: it has
-//! the threads, the lock, the bells, and the join.
+//! `callrun` for a call, `writerloop` for the side that writes. `callworker` runs calls in threads
+//! of workers, and waits there; it has the lock and the bells, too. This crate runs the two sides,
+//! hires the workers, and joins all threads.
 //!
 //! - `drain`: how a server ends a connection while its calls go on.
 //! - `intake`: the reader's hold on the credit book, `outlet` the writer's.
-//! - `seats`: new workers. `orders`: the reader's end of the ring of orders.
-//! - `reader`: the reading thread; `writer`: the writing thread.
-//! - `served`: the report of a connection; `serve`: one connection from its first byte to its last.
+//! - `new_workers`: new workers. `orders`: the reader's end of the ring of orders.
+//! - `reader`: the reading thread, with `reader::streams` for streams that begin and `reader::end`
+//!   for calls that come back and for the end; `writer`: the writing thread.
+//! - `served_conn`: the report of a connection; `serve`: one connection from its first byte to its
+//!   last.
 //! - `laws`, `credit`, `sent`: laws that follow from the report.
 #![tactic(auto)]
 
@@ -27,17 +30,17 @@ pub mod credit;
 mod drain;
 mod intake;
 pub mod laws;
+mod new_workers;
 mod orders;
 mod outlet;
 mod reader;
-mod seats;
 pub mod sent;
 mod serve;
-mod served;
+mod served_conn;
 mod writer;
 
 pub use callparts::{Accounts, CallAccount, ConnReport, Ending, Traffic};
 pub use callworker::{Gate, OpenGate, STACK};
-pub use drain::{DrainSeat, Drainer};
+pub use drain::{DrainHandle, Drainer};
 pub use serve::{serve_connection, serve_undrained};
-pub use served::Served;
+pub use served_conn::ServedConn;

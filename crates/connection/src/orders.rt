@@ -7,9 +7,9 @@ ghost use Rattle.lane.specs.Ring.{in_name};
 ghost use Rattle.lane.specs.RingEnds.{RingName_set};
 
 use callparts::{Naming, Order};
-use callworker::Shared;
+use callworker::SharedConn;
 use lane::{Ring, RingIn, RingOut};
-use outwriter::Control;
+use outwriter::WriterOrder;
 use std::alloc::{AllocError, Global};
 use std::collections::VecDeque;
 use std::marker::{Brand, PhantomData};
@@ -51,7 +51,7 @@ pub(crate) struct Outbox<J: Naming, N: Route> {
 #[derive(Drop)]
 pub(crate) struct Orders<A: Ledger, B: Ledger, C: Ledger, J: Naming, N: Route> {
     pub(crate) outbox: Outbox<J, N>,
-    pub(crate) shared: Arc<Shared<A, B, C>>,
+    pub(crate) shared: Arc<SharedConn<A, B, C>>,
     /// Whether there are orders, or credit that no call rings for, for which the writer wasn't rung
     /// yet.
     pub(crate) are_unrung: bool,
@@ -69,13 +69,13 @@ pub(crate) struct Orders<A: Ledger, B: Ledger, C: Ledger, J: Naming, N: Route> {
 impl<A: Ledger, B: Ledger, C: Ledger, J: Naming, N: Route> Orders<A, B, C, J, N> {
     ghost use Rattle.std.specs.Prelude.{◌∷◌, ◌++◌, true, false, None};
     ghost use Rattle.lane.specs.Ring.{HasRoom, out_name, put_in, taken};
-    ghost use Rattle.outwriter.specs.declared.control.Control.TheVariants as orders;
+    ghost use Rattle.outwriter.specs.declared.control.WriterOrder.TheVariants as orders;
     ghost use Rattle.connection.specs.Puts.{IsKept, Puts, PutsAll, put_of};
 
     pub(crate) fn new(
         alloc: Global,
         ring: RingIn<Order<J>>,
-        shared: Arc<Shared<A, B, C>>,
+        shared: Arc<SharedConn<A, B, C>>,
     ) -> Orders<A, B, C, J, N>
         requires route { N.ring ≡ Some (in_name ring) }
         ensures put { put_in ring ≡ [] → put_of result ≡ [] }
@@ -180,7 +180,7 @@ impl<A: Ledger, B: Ledger, C: Ledger, J: Naming, N: Route> Orders<A, B, C, J, N>
         ensures kept { IsKept order self.old.unput self.new.unput }
     {
         self.has_dropped = true;
-        if let Control::Open(..) = &order {
+        if let WriterOrder::Open(..) = &order {
             self.unput = Some(order);
         }
     }
@@ -234,7 +234,7 @@ impl<A: Ledger, B: Ledger, C: Ledger, J: Naming, N: Route> Orders<A, B, C, J, N>
         if self.has_backlog() {
             return false;
         }
-        match self.outbox.ring.put(Control::Close) {
+        match self.outbox.ring.put(WriterOrder::Close) {
             Ok(()) => true,
             Err(_full) => false,
         }
@@ -269,7 +269,7 @@ impl<A: Ledger, B: Ledger, C: Ledger, J: Naming, N: Route> Orders<A, B, C, J, N>
     }
 
     /// Rings the writer.
-    pub(crate) fn ring(&mut self)
+    pub(crate) fn wake_writer(&mut self)
         ensures outbox { self.new.outbox ≡ self.old.outbox }
         ensures stopped { self.new.has_stopped ≡ self.old.has_stopped }
         ensures dropped { self.new.has_dropped ≡ self.old.has_dropped }

@@ -4,7 +4,7 @@ ghost use Rattle.std.specs.Prelude.{◌≡◌, ◌<◌, ℕ};
 ghost use Rattle.writerloop.specs.Written.{LeadsTo};
 
 use callparts::Naming;
-use callworker::Shared;
+use callworker::SharedConn;
 use connbook::ConnBook;
 use device::ConnWrite;
 use flow::MAX_LIVE;
@@ -18,24 +18,27 @@ use writerloop::Writing;
 /// Its value is how much was announced on the connection.
 #[derive(Drop)]
 pub(crate) struct Outlet<A: Ledger, B: Ledger, C: Ledger> {
-    shared: Arc<Shared<A, B, C>>,
-    told: Share<C>,
+    shared: Arc<SharedConn<A, B, C>>,
+    announced: Share<C>,
 }
 
 impl<A: Ledger, B: Ledger, C: Ledger> Model for Outlet<A, B, C> {
     ghost Value = { ℕ };
 
-    ghost view = { λ o. o.told.amount };
+    ghost view = { λ o. o.announced.amount };
 
-    ghost invariant = { λ o. (o.told.parts ≡ C.parts) × (0 < C.parts) };
+    ghost invariant = { λ o. (o.announced.parts ≡ C.parts) × (0 < C.parts) };
 }
 
 impl<A: Ledger, B: Ledger, C: Ledger> Outlet<A, B, C> {
-    pub(crate) fn new(shared: Arc<Shared<A, B, C>>, told: Share<C>) -> Outlet<A, B, C>
+    pub(crate) fn new(shared: Arc<SharedConn<A, B, C>>, told: Share<C>) -> Outlet<A, B, C>
         requires { (told.parts ≡ C.parts) × (0 < C.parts) }
         ensures { result ≡ told.amount }
     {
-        Outlet { shared, told }
+        Outlet {
+            shared,
+            announced: told,
+        }
     }
 
     /// The share in which announced credit counts.
@@ -43,12 +46,15 @@ impl<A: Ledger, B: Ledger, C: Ledger> Outlet<A, B, C> {
         ensures amount { result.amount ≡ self }
         ensures parts { result.parts ≡ C.parts }
     {
-        let Outlet { told, .. } = self;
+        let Outlet {
+            announced: told,
+            ..
+        } = self;
         told
     }
 
     /// What the threads of the connection share.
-    pub(crate) fn shared(&self) -> &Shared<A, B, C> {
+    pub(crate) fn shared(&self) -> &SharedConn<A, B, C> {
         &self.shared
     }
 
@@ -64,22 +70,26 @@ impl<A: Ledger, B: Ledger, C: Ledger> Outlet<A, B, C> {
 
     /// Grants the peer all credit that is due, which the writer then owes. What is granted on the
     /// connection counts in the share. Answers whether no more calls are admitted.
-    pub(crate) fn announce<J: Naming, W: ConnWrite + Drop>(
+    pub(crate) fn grant_due<J: Naming, W: ConnWrite + Drop>(
         &mut self,
         rt: &impl Wait,
         writing: &mut Writing<J, W>,
     ) -> bool
         ensures { LeadsTo W.contents W.failed self.old writing.old self.new writing.new }
     {
-        let Outlet { shared, told, .. } = self;
+        let Outlet {
+            shared,
+            announced: told,
+            ..
+        } = self;
         let mut book = shared.book.lock(rt);
         'calls: for place in 0..MAX_LIVE {
             let Some(id) = book.live_id(place) else {
                 break;
             };
-            announce_on(&mut book, told, writing, id);
+            grant_due_on(&mut book, told, writing, id);
         }
-        announce_on(&mut book, told, writing, 0);
+        grant_due_on(&mut book, told, writing, 0);
         book.closing()
     }
 }
@@ -87,7 +97,7 @@ impl<A: Ledger, B: Ledger, C: Ledger> Outlet<A, B, C> {
 /// Grants the peer the credit that is due on a stream, or on the connection where it is 0. On a
 /// stream that the writer hasn't opened yet credit stays due, though the reader has admitted its
 /// call and its worker has given bytes back: a grant there wouldn't count.
-fn announce_on<A, B, C, J, W>(
+fn grant_due_on<A, B, C, J, W>(
     book: &mut ConnBook<A, B, C>,
     told: &mut Share<C>,
     writing: &mut Writing<J, W>,
@@ -107,7 +117,7 @@ where
     if !writing.takes_credit(id) {
         return;
     }
-    let increment = book.announce(id, told);
+    let increment = book.take_due_credit(id, told);
     if increment > 0 {
         writing.grant(id, increment);
     }

@@ -5,7 +5,7 @@ ghost use Rattle.std.specs.Prelude.{◌≡◌, ◌∷◌, ◌++◌, ℕ, List, [
 ghost use Rattle.callparts.specs.declared.call_account.CallAccount.{CallAccount};
 ghost use Rattle.callparts.specs.declared.report.Ending.{Ending as Ended};
 ghost use Rattle.outwriter.specs.Calls.{TellOthers, is_served};
-ghost use Rattle.outwriter.specs.declared.control.Control.TheVariants.{InputEnded};
+ghost use Rattle.outwriter.specs.declared.control.WriterOrder.TheVariants.{InputEnded};
 ghost use Rattle.outwriter.specs.Parts.{End, IsPart, Mark};
 ghost use Rattle.outwriter.specs.Runs.{is_opened};
 ghost use Rattle.outwriter.specs.Steps.{Order, Step as RunStep};

@@ -26,7 +26,7 @@ ghost use Rattle.callparts.specs.Workers.{IsWithin, answers_by};
 ghost use Rattle.callparts.specs.declared.report.Ending.TheVariants as ending;
 ghost use Rattle.handlers.specs.Listed.{listed};
 ghost use Rattle.lane.specs.Ring.{in_name, out_name, put_in, taken};
-ghost use Rattle.readerloop.specs.Calls.{AreNames, IsFirstWith, Sent, carried_in};
+ghost use Rattle.readerloop.specs.Calls.{AreNames, IsFirstWith, SentItems, carried_in};
 ghost use Rattle.readerloop.specs.Readings.{Reads};
 ghost use Rattle.readerloop.specs.Reports.{AreAccounts};
 ghost use Rattle.readerloop.specs.Steps.{Step, reported};
@@ -37,18 +37,18 @@ ghost use Rattle.connection.specs.Puts.{put_of};
 ghost use Rattle.connection.specs.Rest.{CarriesOpen, CarriesRest};
 ghost use Rattle.connection.specs.Served.{IsServed};
 
-use crate::drain::{DrainSeat, Drainer};
+use crate::drain::{DrainHandle, Drainer};
 use crate::intake::Intake;
 use crate::orders::{ORDERS, Orders, Route};
 use crate::outlet::Outlet;
 use crate::reader::Reader;
-use crate::served::Served;
+use crate::served_conn::ServedConn;
 use crate::writer;
-use crate::writer::{Parted, WriterHand};
+use crate::writer::{WriterHand, WriterParts};
 use callparts::{
-    Accounts, Answering, ConnReport, Ending, HOME, Naming, NewRegister, Order, Returning,
+    Accounts, Answering, ConnReport, Ending, HOME, Naming, NewRegister, Order, ReturningCall,
 };
-use callworker::{Gate, Shared};
+use callworker::{Gate, SharedConn};
 use device::{ConnRead, ConnWrite};
 use handlers::{Method, Methods};
 use lane::{Ring, RingIn, RingOut};
@@ -59,7 +59,7 @@ use std::sync::{Arc, Wait};
 use std::thread;
 use std::thread::Threads;
 use std::time::{Clock, Duration, Instant};
-use writerloop::{WriterEnding, Written};
+use writerloop::{WriterEnding, WriterResult};
 
 /// Serves one connection, and answers what became of it. The caller's thread reads, one more thread
 /// writes, and up to 64 answer calls. It returns once the input has ended, or the connection ended
@@ -75,8 +75,8 @@ pub fn serve_connection<A, B, C, I, O, G, R>(
     output: O,
     methods: Arc<Methods>,
     gate: Arc<G>,
-    seat: DrainSeat<A, B, C>,
-) -> Served<O>
+    seat: DrainHandle<A, B, C>,
+) -> ServedConn<O>
 where
     A: Ledger + Send + Sync + 'static,
     B: Ledger + Send + Sync + 'static,
@@ -87,7 +87,7 @@ where
     R: Threads + Wait + Clock + Copy + Send + Sync + Drop + 'static,
     requires came { (seat.came.parts ≡ A.parts) × (0 < A.parts) × (seat.came.amount ≡ 0) }
     requires calls { (seat.calls.parts ≡ B.parts) × (0 < B.parts) × (seat.calls.amount ≡ 0) }
-    requires told { (seat.told.parts ≡ C.parts) × (0 < C.parts) × (seat.told.amount ≡ 0) }
+    requires told { (seat.announced.parts ≡ C.parts) × (0 < C.parts) × (seat.announced.amount ≡ 0) }
     // Over one list of what was heard, one of what was ordered, and one run of the writer.
     ensures served { (came : List ℕ) × Consumes (I.remaining input.old) (I.remaining input.new) came
         × IsServed (λ calls. items_of calls.full calls.last) O.contents O.failed
@@ -111,7 +111,7 @@ pub fn serve_undrained<I, O, G, R>(
     output: O,
     methods: Arc<Methods>,
     gate: Arc<G>,
-) -> Served<O>
+) -> ServedConn<O>
 where
     I: ConnRead,
     O: ConnWrite + Send + Drop + 'static,
@@ -138,7 +138,7 @@ fn serve_seated<A, B, C, I, O, G, R>(
     output: O,
     methods: Arc<Methods>,
     gate: Arc<G>,
-) -> Served<O>
+) -> ServedConn<O>
 where
     A: Ledger + Send + Sync + 'static,
     B: Ledger + Send + Sync + 'static,
@@ -165,12 +165,12 @@ where
 }
 
 /// Out of memory before the connection began.
-fn unserved<O: Drop>(alloc: Global, output: O) -> Served<O>
+fn unserved<O: Drop>(alloc: Global, output: O) -> ServedConn<O>
     ensures ending { result.report.ending ≡ ending.OutOfMemory }
     ensures output { result.output ≡ output }
     ensures calls { items_of result.report.calls.full result.report.calls.last ≡ [] }
 {
-    Served {
+    ServedConn {
         report: ConnReport {
             calls: Accounts::new(alloc),
             ending: Ending::OutOfMemory,
@@ -185,7 +185,7 @@ struct Rings<J: Naming> {
     /// The reader's orders to the writer.
     orders: (RingIn<Order<J>>, RingOut<Order<J>>),
     /// The senders that go back.
-    senders: (RingIn<Returning<J>>, RingOut<Returning<J>>),
+    senders: (RingIn<ReturningCall<J>>, RingOut<ReturningCall<J>>),
 }
 
 impl<J: Naming> Rings<J> {
@@ -208,9 +208,9 @@ impl<J: Naming> Rings<J> {
 /// What the parts of a connection are begun with, and when it began, where the clock told that.
 #[derive(Drop)]
 struct Common<A: Ledger, B: Ledger, C: Ledger, G: Drop> {
-    for_reader: Arc<Shared<A, B, C>>,
-    for_orders: Arc<Shared<A, B, C>>,
-    for_writer: Arc<Shared<A, B, C>>,
+    for_reader: Arc<SharedConn<A, B, C>>,
+    for_orders: Arc<SharedConn<A, B, C>>,
+    for_writer: Arc<SharedConn<A, B, C>>,
     gate: Arc<G>,
     start: Option<Instant>,
 }
@@ -220,7 +220,7 @@ impl<A: Ledger, B: Ledger, C: Ledger, G: Drop> Common<A, B, C, G> {
     /// deadlines.
     fn new(
         rt: &impl Clock,
-        shared: Arc<Shared<A, B, C>>,
+        shared: Arc<SharedConn<A, B, C>>,
         gate: &Arc<G>,
     ) -> Result<Common<A, B, C, G>, AllocError> {
         Ok(Common {
@@ -240,13 +240,13 @@ impl<A: Ledger, B: Ledger, C: Ledger, G: Drop> Common<A, B, C, G> {
 fn serve_named<A, B, C, J, M, I, O, G, R>(
     rt: R,
     alloc: Global,
-    seat: DrainSeat<A, B, C>,
+    seat: DrainHandle<A, B, C>,
     register: NewRegister,
     input: &mut I,
     output: O,
     methods: Arc<Methods>,
     gate: Arc<G>,
-) -> Served<O>
+) -> ServedConn<O>
 where
     A: Ledger + Send + Sync + 'static,
     B: Ledger + Send + Sync + 'static,
@@ -259,7 +259,7 @@ where
     R: Threads + Wait + Clock + Copy + Send + Sync + Drop + 'static,
     requires came { (seat.came.parts ≡ A.parts) × (0 < A.parts) × (seat.came.amount ≡ 0) }
     requires calls { (seat.calls.parts ≡ B.parts) × (0 < B.parts) × (seat.calls.amount ≡ 0) }
-    requires told { (seat.told.parts ≡ C.parts) × (0 < C.parts) × (seat.told.amount ≡ 0) }
+    requires told { (seat.announced.parts ≡ C.parts) × (0 < C.parts) × (seat.announced.amount ≡ 0) }
     requires known { IsWithin M.known
         (answers_by (λ method. answers (method.vtable, method.value)) (listed methods.value)) }
     requires named { AreNames
@@ -287,14 +287,14 @@ where
 fn serve_over<A, B, C, J, M, N, I, O, G, R>(
     rt: R,
     alloc: Global,
-    seat: DrainSeat<A, B, C>,
+    seat: DrainHandle<A, B, C>,
     rings: Rings<J>,
     register: NewRegister,
     input: &mut I,
     output: O,
     methods: Arc<Methods>,
     gate: Arc<G>,
-) -> Served<O>
+) -> ServedConn<O>
 where
     A: Ledger + Send + Sync + 'static,
     B: Ledger + Send + Sync + 'static,
@@ -308,7 +308,7 @@ where
     R: Threads + Wait + Clock + Copy + Send + Sync + Drop + 'static,
     requires came { (seat.came.parts ≡ A.parts) × (0 < A.parts) × (seat.came.amount ≡ 0) }
     requires calls { (seat.calls.parts ≡ B.parts) × (0 < B.parts) × (seat.calls.amount ≡ 0) }
-    requires told { (seat.told.parts ≡ C.parts) × (0 < C.parts) × (seat.told.amount ≡ 0) }
+    requires told { (seat.announced.parts ≡ C.parts) × (0 < C.parts) × (seat.announced.amount ≡ 0) }
     requires known { IsWithin M.known
         (answers_by (λ method. answers (method.vtable, method.value)) (listed methods.value)) }
     requires named { AreNames
@@ -334,7 +334,7 @@ where
         Ok(begun) => begun,
         Err(served) => return served,
     };
-    let Begun {
+    let BegunConn {
         mut reader,
         mut intake,
         writing,
@@ -346,7 +346,7 @@ where
 /// A connection that was begun: its reader, the reader's hold on the credit book, and the thread
 /// that writes.
 #[derive(Drop)]
-struct Begun<
+struct BegunConn<
     A: Ledger,
     B: Ledger,
     C: Ledger,
@@ -368,12 +368,12 @@ struct Begun<
 fn begin<A, B, C, J, M, N, O, G, R>(
     rt: R,
     alloc: Global,
-    seat: DrainSeat<A, B, C>,
+    seat: DrainHandle<A, B, C>,
     rings: Rings<J>,
     register: NewRegister,
     output: O,
     gate: Arc<G>,
-) -> Result<Begun<A, B, C, J, M, N, O, R, G>, Served<O>>
+) -> Result<BegunConn<A, B, C, J, M, N, O, R, G>, ServedConn<O>>
 where
     A: Ledger + Send + Sync + 'static,
     B: Ledger + Send + Sync + 'static,
@@ -386,14 +386,14 @@ where
     R: Threads + Wait + Clock + Copy + Send + Sync + Drop + 'static,
     requires came { (seat.came.parts ≡ A.parts) × (0 < A.parts) × (seat.came.amount ≡ 0) }
     requires calls { (seat.calls.parts ≡ B.parts) × (0 < B.parts) × (seat.calls.amount ≡ 0) }
-    requires told { (seat.told.parts ≡ C.parts) × (0 < C.parts) × (seat.told.amount ≡ 0) }
+    requires told { (seat.announced.parts ≡ C.parts) × (0 < C.parts) × (seat.announced.amount ≡ 0) }
     requires rings { (N.ring ≡ Some (in_name rings.orders.0))
         × (in_name rings.orders.0 ≡ out_name rings.orders.1)
         × (in_name rings.senders.0 ≡ out_name rings.senders.1) }
     requires unused { (put_in rings.orders.0 ≡ []) × (taken rings.orders.1 ≡ []) }
     requires unsent { (put_in rings.senders.0 ≡ []) × (taken rings.senders.1 ≡ []) }
     requires book { register.seen.book ≡ J.book }
-    ensures kept { IfOk result (λ begun. (sent : List Sent) → KeptFor M.known M.names sent []
+    ensures kept { IfOk result (λ begun. (sent : List SentItems) → KeptFor M.known M.names sent []
         begun.reader.reading begun.reader.orders) }
     ensures none_home { IfOk result (λ begun. taken begun.reader.reading.home ≡ []) }
     ensures uncounted { IfOk result (λ begun. (begun.intake.calls ≡ 0)
@@ -411,11 +411,11 @@ where
         served.output) }
 {
     let (register, front) = register.named::<J>();
-    let DrainSeat {
+    let DrainHandle {
         shared,
         came,
         calls,
-        told,
+        announced: told,
     } = seat;
     let Ok(common) = Common::new(&rt, shared, &gate) else {
         return Err(unserved(alloc, output));
@@ -437,15 +437,20 @@ where
         &mut orders,
     ) {
         Ok(writing) => {
-            Ok(Begun {
+            Ok(BegunConn {
                 reader: Reader::new(rt, alloc, orders, register, front, home, gate, common.start),
                 intake,
                 writing,
             })
         }
-        Err(Parted { written, told }) => {
+        Err(
+            WriterParts {
+                written,
+                announced: told,
+            },
+        ) => {
             intake.audit(&rt, told);
-            let Written {
+            let WriterResult {
                 ending,
                 device,
                 orders: rx,
@@ -466,7 +471,7 @@ fn end<A, B, C, J, M, N, O, G, R>(
     intake: Intake<A, B, C>,
     writing: WriterHand<C, J, O>,
     read: Ending,
-) -> Served<O>
+) -> ServedConn<O>
 where
     A: Ledger + Send + Sync + 'static,
     B: Ledger + Send + Sync + 'static,
@@ -482,7 +487,7 @@ where
     requires heard { Hears M.known M.names reader.reading reader.orders }
     // The connection is served, whatever was heard, for the senders that came back by then. The
     // report has an account for each call that was admitted.
-    ensures served { (sent : List Sent) × AreCarried sent (taken reader.reading.home)
+    ensures served { (sent : List SentItems) × AreCarried sent (taken reader.reading.home)
         × ((came : List ℕ) (rest : Option (List ℕ)) (told : List Step) (read_failed : Bool)
         → HasRead M.known M.names sent read came told reader.reading reader.orders
         → Covers told intake
@@ -495,7 +500,10 @@ where
 {
     let mut reader = reader;
     reader.end();
-    let Parted { written, told } = writing.join(&rt);
+    let WriterParts {
+        written,
+        announced: told,
+    } = writing.join(&rt);
     intake.audit(&rt, told);
     meet_writer(rt, reader, written, read)
 }
@@ -505,9 +513,9 @@ where
 fn meet_writer<A, B, C, J, M, N, O, G, R>(
     rt: R,
     reader: Reader<A, B, C, J, M, N, R, G>,
-    written: Written<J, O>,
+    written: WriterResult<J, O>,
     read: Ending,
-) -> Served<O>
+) -> ServedConn<O>
 where
     A: Ledger + Send + Sync + 'static,
     B: Ledger + Send + Sync + 'static,
@@ -519,12 +527,12 @@ where
     G: Gate + Send + Sync + Drop + 'static,
     R: Threads + Wait + Clock + Copy + Send + Sync + Drop + 'static,
     requires route { N.ring ≡ Some (out_name written.orders) }
-    requires way { out_name reader.reading.home ≡ in_name written.rest.sends.home }
+    requires way { out_name reader.reading.home ≡ in_name written.senders.sends.home }
     requires none_left { reader.orders.backlog.items ≡ [] }
     ensures obeyed { IsPrefix (taken written.orders) (put_of reader.orders) }
-    ensures came { IsPrefix (taken reader.reading.home) (put_in written.rest.sends.home) }
-    ensures accounts { (sent : List Sent) (told : List Step)
-        → AreCarried sent (put_in written.rest.sends.home) → CarriesRest sent written.rest
+    ensures came { IsPrefix (taken reader.reading.home) (put_in written.senders.sends.home) }
+    ensures accounts { (sent : List SentItems) (told : List Step)
+        → AreCarried sent (put_in written.senders.sends.home) → CarriesRest sent written.senders
         → IfSome reader.orders.unput (CarriesOpen sent)
         → Reads M.known M.names (carried_in sent) told reader.reading
         → AreAccounts M.known M.names (carried_in sent) told (reported told)
@@ -535,11 +543,11 @@ where
     ensures halted { reader.orders.has_stopped ≡ true → written.ending ≡ None
         → reader.orders.has_dropped ≡ true }
 {
-    let Written {
+    let WriterResult {
         ending,
         device,
         orders: rx,
-        rest,
+        senders: rest,
     } = written;
     let (calls, orders) = reader.meet(rest);
     meet(&rt, read, ending, calls, orders, rx, device)
@@ -554,7 +562,7 @@ fn meet<A, B, C, J, N, O, R>(
     orders: Orders<A, B, C, J, N>,
     rx: RingOut<Order<J>>,
     output: O,
-) -> Served<O>
+) -> ServedConn<O>
 where
     A: Ledger,
     B: Ledger,
@@ -578,7 +586,7 @@ where
         wait_for_ever(rt);
     }
     let ending = of_both(read, written, has_dropped);
-    Served {
+    ServedConn {
         report: ConnReport { calls, ending },
         output,
     }

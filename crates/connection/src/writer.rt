@@ -15,8 +15,8 @@ ghost use Rattle.std.specs.Prelude.{
   true,
 };
 ghost use Rattle.lane.specs.Ring.{in_name, out_name, put_in, taken};
-ghost use Rattle.writerloop.specs.declared.filled.Filled.TheVariants as filling;
-ghost use Rattle.outwriter.specs.declared.control.Control.TheVariants as controls;
+ghost use Rattle.writerloop.specs.declared.fill_end.FillEnd.TheVariants as filling;
+ghost use Rattle.outwriter.specs.declared.control.WriterOrder.TheVariants as controls;
 ghost use Rattle.writerloop.specs.Endings.{ending_told};
 ghost use Rattle.writerloop.specs.Written.{
   HasSent,
@@ -32,19 +32,19 @@ ghost use Rattle.connection.specs.Puts.{Closed, Ordered};
 
 use crate::orders::{Orders, Route};
 use crate::outlet::Outlet;
-use callparts::{Naming, Order, Returning};
+use callparts::{Naming, Order, ReturningCall};
 use callworker::{Gate, STACK};
 use device::ConnWrite;
 use h2frame::StreamId;
 use lane::{RingIn, RingOut};
-use outwriter::Control;
+use outwriter::WriterOrder;
 use std::alloc::Global;
 use std::snapshot::Snapshot;
 use std::sync::ledger::{Ledger, Share};
 use std::sync::{Arc, Wait};
 use std::thread::{Builder, Promise, PromisedHandle, Threads};
 use std::time::Duration;
-use writerloop::{Filled, Rest, Took, Waiting, Writing, Written};
+use writerloop::{AfterWrite, FillEnd, OrderStep, WaitingOrder, WriterResult, Writing};
 
 /// How long the writer waits at most before it looks again, in milliseconds.
 const STEP: u64 = 1000;
@@ -73,16 +73,16 @@ where
     G: Gate + Drop,
 {
     /// Writes until no more is to be written.
-    fn write(self, rt: &impl Wait) -> Parted<C, J, W>
+    fn write(self, rt: &impl Wait) -> WriterParts<C, J, W>
         // The run granted as much credit on the connection as the share counts.
         ensures sent { (before : Option (List ℕ))
             → Led W.contents W.failed before self.outlet self.writing
-            → HasSent W.contents W.failed before result.told.amount
-            (taken result.written.orders) result.written.rest
+            → HasSent W.contents W.failed before result.announced.amount
+            (taken result.written.orders) result.written.senders
             (ending_told result.written.ending) result.written.device }
         ensures name { out_name result.written.orders ≡ out_name self.writing.inbox.ring }
-        ensures way { in_name result.written.rest.sends.home ≡ in_name self.writing.sends.home }
-        ensures parts { result.told.parts ≡ C.parts }
+        ensures way { in_name result.written.senders.sends.home ≡ in_name self.writing.sends.home }
+        ensures parts { result.announced.parts ≡ C.parts }
     {
         let mut writer = self;
         'turns: for _ in rt.forever() {
@@ -96,26 +96,26 @@ where
     /// What is handed back once no more is to be written.
     // (kept out of its caller, whose frame is on the stack of each connection that lives)
     #[inline(never)]
-    fn part(self) -> Parted<C, J, W>
+    fn part(self) -> WriterParts<C, J, W>
         requires flushed { IsFlushed self.writing }
         ensures sent { (before : Option (List ℕ)) (credit : ℕ)
             → LedOut W.contents W.failed before credit self.writing
             → HasSent W.contents W.failed before credit
-            (taken result.written.orders) result.written.rest
+            (taken result.written.orders) result.written.senders
             (ending_told result.written.ending) result.written.device }
         ensures name { out_name result.written.orders ≡ out_name self.writing.inbox.ring }
-        ensures way { in_name result.written.rest.sends.home ≡ in_name self.writing.sends.home }
-        ensures amount { result.told.amount ≡ self.outlet }
-        ensures parts { result.told.parts ≡ C.parts }
+        ensures way { in_name result.written.senders.sends.home ≡ in_name self.writing.sends.home }
+        ensures amount { result.announced.amount ≡ self.outlet }
+        ensures parts { result.announced.parts ≡ C.parts }
     {
         let Writer {
             outlet,
             writing,
             ..
         } = self;
-        Parted {
+        WriterParts {
             written: writing.into_end(),
-            told: outlet.into_share(),
+            announced: outlet.into_share(),
         }
     }
 
@@ -131,22 +131,22 @@ where
     {
         let mark = self.outlet.shared().writer.mark();
         let (filled, is_silent) = self.write_once(rt);
-        match self.writing.rest(filled, is_silent) {
-            Rest::None => {
+        match self.writing.after_write(filled, is_silent) {
+            AfterWrite::None => {
                 self.reset_between(rt);
                 return false;
             }
-            Rest::Over => return true,
-            Rest::StoppedOver => {
+            AfterWrite::Over => return true,
+            AfterWrite::StoppedOver => {
                 self.stop(rt);
                 self.gate.writing_ended();
                 return true;
             }
-            Rest::Stopped => {
+            AfterWrite::Stopped => {
                 self.stop(rt);
                 self.gate.writing_ended();
             }
-            Rest::Idle => {
+            AfterWrite::Idle => {
                 self.idle(rt);
                 self.reset_left(rt, mark);
                 return false;
@@ -193,7 +193,7 @@ where
 
     /// Takes the orders that wait, and writes a buffer's worth of frames. Answers why there aren't
     /// more, and whether there was none.
-    fn write_once(&mut self, rt: &impl Wait) -> (Filled, bool)
+    fn write_once(&mut self, rt: &impl Wait) -> (FillEnd, bool)
         ensures leads { LeadsTo W.contents W.failed self.old.outlet self.old.writing
             self.new.outlet self.new.writing }
         ensures over { result.0 ≡ filling.Over → LeadsOutTo W.contents W.failed
@@ -205,7 +205,7 @@ where
         ensures flushed { IsFlushed self.new.writing }
     {
         self.drain(rt);
-        self.announce(rt);
+        self.grant_due(rt);
         let filled = self.writing.fill();
         self.say_last(rt, filled);
         let is_silent = self.writing.is_flushed();
@@ -250,15 +250,15 @@ where
             return false;
         };
         match self.writing.take_next(last) {
-            Took::Nothing => return false,
-            Took::Early => {
+            OrderStep::Nothing => return false,
+            OrderStep::Early => {
                 self.outlet.shared().reader.ring();
                 return false;
             }
-            Took::One => {}
-            Took::Ends(id) => self.cut(rt, id),
-            Took::Stops => self.stop(rt),
-            Took::Lost => self.give_up(rt),
+            OrderStep::One => {}
+            OrderStep::Ends(id) => self.cut(rt, id),
+            OrderStep::Stops => self.stop(rt),
+            OrderStep::Lost => self.give_up(rt),
         }
         true
     }
@@ -270,13 +270,13 @@ where
         ensures leads { LeadsOn W.contents W.failed self.old.writing self.new.writing }
     {
         match self.writing.look() {
-            Waiting::Nothing => None,
-            Waiting::Window => Some(self.outlet.last(rt)),
-            Waiting::Goaway => {
+            WaitingOrder::Nothing => None,
+            WaitingOrder::Window => Some(self.outlet.last(rt)),
+            WaitingOrder::Goaway => {
                 self.warn(rt);
                 Some(0)
             }
-            Waiting::Other => Some(0),
+            WaitingOrder::Other => Some(0),
         }
     }
 
@@ -309,7 +309,7 @@ where
     }
 
     /// Grants the peer the credit that is due, and warns the peer where the server drains.
-    fn announce(&mut self, rt: &impl Wait)
+    fn grant_due(&mut self, rt: &impl Wait)
         ensures leads { LeadsTo W.contents W.failed self.old.outlet self.old.writing
             self.new.outlet self.new.writing }
     {
@@ -318,17 +318,17 @@ where
             writing,
             ..
         } = self;
-        if outlet.announce(rt, writing) {
+        if outlet.grant_due(rt, writing) {
             writing.warn();
         }
     }
 
     /// Writes the last word of a writer that had no memory for a frame.
-    fn say_last(&mut self, rt: &impl Wait, filled: Filled)
+    fn say_last(&mut self, rt: &impl Wait, filled: FillEnd)
         ensures outlet { self.new.outlet ≡ self.old.outlet }
         ensures stays { Stays W.contents W.failed self.old.writing self.new.writing }
     {
-        if filled != Filled::Stopped {
+        if filled != FillEnd::Stopped {
             return;
         }
         let last = self.outlet.last(rt);
@@ -369,7 +369,7 @@ where
 
     /// Reports to the gate the streams whose last frame was in the buffer.
     fn tell_gate(&self) {
-        for id in self.writing.left() {
+        for id in self.writing.flushed_ends() {
             self.gate.trailers_written(*id);
         }
     }
@@ -405,32 +405,33 @@ where
 
 /// What a writing thread hands back at its end, with the share in which announced credit counts.
 #[derive(Drop)]
-pub(crate) struct Parted<C: Ledger, J: Naming, W: ConnWrite + Drop> {
-    pub(crate) written: Written<J, W>,
-    pub(crate) told: Share<C>,
+pub(crate) struct WriterParts<C: Ledger, J: Naming, W: ConnWrite + Drop> {
+    pub(crate) written: WriterResult<J, W>,
+    pub(crate) announced: Share<C>,
 }
 
 /// The device and the rings of a writer, as they were before. The writer's promise by them: it
 /// wrote the frames of a lawful run, which obeyed the orders that it took and granted as much
 /// credit on the connection as its share counts; and no sender is lost.
 #[derive(Drop)]
-pub(crate) struct Begun<J: Naming, W: ConnWrite> {
+pub(crate) struct WriterPromise<J: Naming, W: ConnWrite> {
     pub(crate) device: Snapshot<W>,
     pub(crate) orders: Snapshot<RingOut<Order<J>>>,
-    pub(crate) home: Snapshot<RingIn<Returning<J>>>,
+    pub(crate) home: Snapshot<RingIn<ReturningCall<J>>>,
 }
 
-impl<C: Ledger, J: Naming, W: ConnWrite + Drop> Promise<Parted<C, J, W>> for Begun<J, W> {
+impl<C: Ledger, J: Naming, W: ConnWrite + Drop> Promise<WriterParts<C, J, W>>
+    for WriterPromise<J, W> {
     ghost kept_by = { λ begun r. (out_name r.written.orders ≡ out_name begun.orders.value)
-        × (in_name r.written.rest.sends.home ≡ in_name begun.home.value)
-        × HasSent W.contents W.failed (W.contents begun.device.value) r.told.amount
-        (taken r.written.orders) r.written.rest (ending_told r.written.ending)
+        × (in_name r.written.senders.sends.home ≡ in_name begun.home.value)
+        × HasSent W.contents W.failed (W.contents begun.device.value) r.announced.amount
+        (taken r.written.orders) r.written.senders (ending_told r.written.ending)
         r.written.device
-        × (r.told.parts ≡ C.parts) };
+        × (r.announced.parts ≡ C.parts) };
 }
 
 /// The thread that writes, with its promise.
-pub(crate) type WriterHand<C, J, W> = PromisedHandle<Parted<C, J, W>, Begun<J, W>>;
+pub(crate) type WriterHand<C, J, W> = PromisedHandle<WriterParts<C, J, W>, WriterPromise<J, W>>;
 
 /// Starts the thread that writes. If it can't be made, the one order is that the input has ended,
 /// and the caller's thread writes what is to be written then. So Close, for which there may be no
@@ -441,12 +442,12 @@ pub(crate) fn start<A, B, C, J, N, W, G, R>(
     rt: R,
     alloc: Global,
     taking: RingOut<Order<J>>,
-    home: RingIn<Returning<J>>,
+    home: RingIn<ReturningCall<J>>,
     outlet: Outlet<A, B, C>,
     gate: Arc<G>,
     device: W,
     orders: &mut Orders<A, B, C, J, N>,
-) -> Result<WriterHand<C, J, W>, Parted<C, J, W>>
+) -> Result<WriterHand<C, J, W>, WriterParts<C, J, W>>
 where
     A: Ledger + Send + Sync + 'static,
     B: Ledger + Send + Sync + 'static,
@@ -469,11 +470,11 @@ where
     ensures none_left { OnErr result (orders.new.backlog.items ≡ []) }
     ensures name { IfErr result (λ parted. out_name parted.written.orders ≡ out_name taking) }
     ensures sent { IfErr result (λ parted. HasSent W.contents W.failed (W.contents device)
-        parted.told.amount (taken parted.written.orders) parted.written.rest
+        parted.announced.amount (taken parted.written.orders) parted.written.senders
         (ending_told parted.written.ending) parted.written.device) }
-    ensures parts { IfErr result (λ parted. parted.told.parts ≡ C.parts) }
+    ensures parts { IfErr result (λ parted. parted.announced.parts ≡ C.parts) }
 {
-    let begun = Begun {
+    let begun = WriterPromise {
         device: Snapshot::of(&device),
         orders: Snapshot::of(&taking),
         home: Snapshot::of(&home),
@@ -485,15 +486,16 @@ where
         writing,
         turns: TURNS,
     };
-    let write = move || -> Parted<C, J, W>
+    let write = move || -> WriterParts<C, J, W>
         ensures name { out_name result.written.orders ≡ out_name writer.writing.inbox.ring }
-        ensures way { in_name result.written.rest.sends.home ≡ in_name writer.writing.sends.home }
+        ensures way { in_name result.written.senders.sends.home
+            ≡ in_name writer.writing.sends.home }
         ensures sent { (before : Option (List ℕ))
             → Led W.contents W.failed before writer.outlet writer.writing
-            → HasSent W.contents W.failed before result.told.amount
-            (taken result.written.orders) result.written.rest
+            → HasSent W.contents W.failed before result.announced.amount
+            (taken result.written.orders) result.written.senders
             (ending_told result.written.ending) result.written.device }
-        ensures parts { result.told.parts ≡ C.parts }
+        ensures parts { result.announced.parts ≡ C.parts }
     { writer.write(&rt) };
     match Builder::new()
         .stack_size(STACK)
@@ -501,7 +503,7 @@ where
     {
         Ok(handle) => Ok(handle),
         Err(refused) => {
-            orders.put(&rt, Control::InputEnded);
+            orders.put(&rt, WriterOrder::InputEnded);
             orders.close(&rt);
             let write_here = refused.value;
             Err(write_here())

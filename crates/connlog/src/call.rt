@@ -4,7 +4,7 @@ ghost use Rattle.std.specs.Prelude.{◌≡◌, take, drop, codes, IfSome};
 ghost use Rattle.connlog.specs.Methods.{name_of};
 
 use crate::cause::{CallCause, Cause, HeadCause};
-use crate::malformed::{Malformed, fault_of_request};
+use crate::malformed::{MalformedMessage, fault_of_request};
 use crate::messages::Messages;
 use crate::text::escaped;
 use callhead::{first_value, read_timeout};
@@ -111,7 +111,7 @@ pub struct Call {
     /// What came of a request that isn't whole.
     kept: Vec<u8>,
     /// What is wrong with the first request that is malformed.
-    malformed: Option<Malformed>,
+    malformed: Option<MalformedMessage>,
 }
 
 impl Call {

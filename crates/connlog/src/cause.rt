@@ -3,10 +3,12 @@
 //! them.
 
 use crate::fields::FieldFault;
-use crate::malformed::Malformed;
-use crate::messages::{Cut, PrefixFault};
-use crate::place::Place;
-use figures::{ByteCount, FrameName, Grouped, KindName, byte_count, section_of, wanted_length};
+use crate::malformed::MalformedMessage;
+use crate::messages::{CutMessage, PrefixFault};
+use crate::place::BlockPlace;
+use figures::{
+    ByteCount, FrameName, GroupedNumber, KindName, byte_count, section_of, wanted_length,
+};
 use h2frame::{FrameFault, FrameHead, StreamId};
 use hpack_codec::HpackFault;
 use std::fmt;
@@ -53,7 +55,7 @@ pub enum BlockCause {
         stream: StreamId,
         length: usize,
         fault: HpackFault,
-        place: Option<Place>,
+        place: Option<BlockPlace>,
     },
 }
 
@@ -109,7 +111,7 @@ pub enum HeadCause {
 #[derive(Drop)]
 pub enum CallCause {
     /// Its stream ended inside a message.
-    Cut(Cut),
+    Cut(CutMessage),
     /// A prefix has a fault; and `grpc-encoding`.
     Prefix(PrefixFault, Option<String>),
     /// This many messages came, where one was wanted.
@@ -117,7 +119,7 @@ pub enum CallCause {
     /// `grpc-timeout` has this value.
     Deadline(String),
     /// A request isn't of its type.
-    Malformed(Malformed),
+    Malformed(MalformedMessage),
 }
 
 /// What the server ends streams for by its own bounds.
@@ -165,7 +167,7 @@ impl fmt::Display for FrameCause {
             }
             FrameCause::Fault(head, fault, padding) => write_fault(f, head, fault, padding),
             FrameCause::Setting { id, value } => {
-                let (value, wanted) = (Grouped(u64::from(value)), wanted_value(id));
+                let (value, wanted) = (GroupedNumber(u64::from(value)), wanted_value(id));
                 write!(
                     f,
                     "setting {id} is {value}, wanted {wanted} (RFC 9113, 6.5.2)"
@@ -265,10 +267,10 @@ impl fmt::Display for BlockCause {
 fn write_place<W: fmt::Write>(
     f: &mut fmt::Formatter<W>,
     length: usize,
-    place: Option<Place>,
+    place: Option<BlockPlace>,
 ) -> fmt::Result {
     match place {
-        Some(Place { at, byte, .. }) => write!(f, "byte {at} of the block ({byte:02x}): "),
+        Some(BlockPlace { at, byte, .. }) => write!(f, "byte {at} of the block ({byte:02x}): "),
         None => {
             let length = byte_count(length);
             write!(f, "a block of {length}: ")
@@ -280,11 +282,11 @@ fn write_place<W: fmt::Write>(
 fn write_hpack<W: fmt::Write>(
     f: &mut fmt::Formatter<W>,
     fault: HpackFault,
-    place: Option<Place>,
+    place: Option<BlockPlace>,
 ) -> fmt::Result {
     let number = match place {
-        Some(place) => Grouped(place.number),
-        None => Grouped(0),
+        Some(place) => GroupedNumber(place.number),
+        None => GroupedNumber(0),
     };
     match fault {
         HpackFault::Index => write!(f, "index {number} (RFC 7541, 6.1)"),
@@ -339,7 +341,7 @@ impl fmt::Display for WindowCause {
     fn fmt<W: fmt::Write>(&self, f: &mut fmt::Formatter<W>) -> fmt::Result {
         match *self {
             WindowCause::Stream(head, left) => {
-                let (length, left) = (ByteCount(u64::from(head.length)), Signed(left));
+                let (length, left) = (ByteCount(u64::from(head.length)), SignedNumber(left));
                 write!(
                     f,
                     "DATA of {length}, window of the stream {left} (RFC 9113, 6.9.1)"
@@ -347,7 +349,7 @@ impl fmt::Display for WindowCause {
             }
             WindowCause::Connection(head, left) => {
                 let (frame, length) = (FrameName(head), ByteCount(u64::from(head.length)));
-                let left = Signed(left);
+                let left = SignedNumber(left);
                 write!(
                     f,
                     "{frame} of {length}, window of the connection {left} (RFC 9113, 6.9.1)"
@@ -358,7 +360,10 @@ impl fmt::Display for WindowCause {
                 increment,
                 window,
             } => {
-                let (increment, window) = (Grouped(u64::from(increment)), Signed(window));
+                let (increment, window) = (
+                    GroupedNumber(u64::from(increment)),
+                    SignedNumber(window),
+                );
                 let of = if stream == 0 { "connection" } else { "stream" };
                 write!(
                     f,
@@ -366,7 +371,7 @@ impl fmt::Display for WindowCause {
                 )
             }
             WindowCause::Initial { size, grown } => {
-                let (size, grown) = (Grouped(u64::from(size)), Signed(grown));
+                let (size, grown) = (GroupedNumber(u64::from(size)), SignedNumber(grown));
                 write!(
                     f,
                     "setting 4 is {size}, which takes a window to {grown} (RFC 9113, 6.9.2)"
@@ -378,11 +383,11 @@ impl fmt::Display for WindowCause {
 
 /// A number with its sign, grouped.
 #[derive(Clone, Copy)]
-struct Signed(i64);
+struct SignedNumber(i64);
 
-impl fmt::Display for Signed {
+impl fmt::Display for SignedNumber {
     fn fmt<W: fmt::Write>(&self, f: &mut fmt::Formatter<W>) -> fmt::Result {
-        let size = Grouped(self.0.unsigned_abs());
+        let size = GroupedNumber(self.0.unsigned_abs());
         let sign = if self.0 < 0 { "-" } else { "" };
         write!(f, "{sign}{size}")
     }
@@ -415,14 +420,14 @@ impl fmt::Display for CallCause {
     fn fmt<W: fmt::Write>(&self, f: &mut fmt::Formatter<W>) -> fmt::Result {
         let rule = "(gRPC over HTTP/2, Length-Prefixed-Message)";
         match self {
-            CallCause::Cut(Cut::InPrefix(came)) => {
+            CallCause::Cut(CutMessage::InPrefix(came)) => {
                 write!(
                     f,
                     "the stream ended after {came} of 5 bytes of a prefix {rule}"
                 )
             }
-            CallCause::Cut(Cut::InMessage { said, came }) => {
-                let (said, came) = (ByteCount(u64::from(*said)), Grouped(u64::from(*came)));
+            CallCause::Cut(CutMessage::InMessage { said, came }) => {
+                let (said, came) = (ByteCount(u64::from(*said)), GroupedNumber(u64::from(*came)));
                 write!(
                     f,
                     "prefix says {said}, the stream ended after {came} {rule}"
@@ -448,7 +453,7 @@ impl fmt::Display for CallCause {
                 write!(f, "prefix says {said}, at most 4,194,304")
             }
             CallCause::Count(count) => {
-                let count = Grouped(*count);
+                let count = GroupedNumber(*count);
                 write!(f, "{count} messages came, wanted 1")
             }
             CallCause::Malformed(malformed) => write!(f, "{malformed}"),

@@ -2,13 +2,13 @@
 
 use crate::call::Call;
 use crate::cause::{BlockCause, Cause, FrameCause, StreamCause, WindowCause};
+use crate::conn_state::{ConnState, traffic_of};
 use crate::fields::{request_fault, trailers_fault};
 use crate::line::Event;
 use crate::place::place_of;
-use crate::seen::{Seen, traffic_of};
 use crate::text::escaped;
 use crate::walk::{Part, fragment_of};
-use flow::{HalfVerdict, MAX_WINDOW};
+use flow::{FrameAction, MAX_WINDOW};
 use h2frame::{ErrorCode, Flags, FrameFault, FrameHead, FrameKind, SettingId, StreamId};
 use hpack_codec::HpackFault;
 use lists::Field;
@@ -20,7 +20,7 @@ const MOST_BLOCK: usize = 65_536;
 /// The bytes of a parameter in SETTINGS.
 const PARAMETER_LEN: usize = 6;
 
-impl Seen {
+impl ConnState {
     /// The client sent this.
     pub fn client_sent(&mut self, part: Part<'_>) -> Result<(), AllocError> {
         match part {
@@ -120,10 +120,10 @@ impl Seen {
     fn request_block(
         &mut self,
         head: &FrameHead,
-        verdict: HalfVerdict,
+        verdict: FrameAction,
         block: &[u8],
     ) -> Result<(), AllocError> {
-        if let (HalfVerdict::Open, Some(method)) = (verdict, self.plain_requests.get(block)) {
+        if let (FrameAction::Open, Some(method)) = (verdict, self.plain_requests.get(block)) {
             return self.begin_call(head, Call::plain(self.alloc, method, self.now));
         }
         let fields = match self.requests.block(block) {
@@ -131,13 +131,13 @@ impl Seen {
             Err(HpackFault::OutOfMemory) => return Err(AllocError),
             Err(fault) => return self.block_fault(head.stream, block, fault),
         };
-        if verdict != HalfVerdict::Open {
+        if verdict != FrameAction::Open {
             self.plain_requests.learn(block, None)?;
         }
         match verdict {
-            HalfVerdict::Open => self.begin(head, block, fields.as_slice()),
-            HalfVerdict::Accept => self.client_trailers(head, fields.as_slice()),
-            HalfVerdict::StreamError(error) => {
+            FrameAction::Open => self.begin(head, block, fields.as_slice()),
+            FrameAction::Accept => self.client_trailers(head, fields.as_slice()),
+            FrameAction::StreamError(error) => {
                 let cause = match error {
                     ErrorCode::StreamClosed => StreamCause::BehindEnd(*head),
                     _ => StreamCause::OpenTrailers,
@@ -245,8 +245,8 @@ impl Seen {
             self.blame(0, ErrorCode::FlowControlError, cause)?;
         }
         match verdict {
-            HalfVerdict::Accept => self.data_of_call(&head),
-            HalfVerdict::StreamError(error) => {
+            FrameAction::Accept => self.data_of_call(&head),
+            FrameAction::StreamError(error) => {
                 let cause = Cause::Stream(StreamCause::BehindEnd(head));
                 self.blame(head.stream, error, cause)
             }
@@ -294,7 +294,7 @@ impl Seen {
     // ---- frames that carry numbers
 
     fn client_reset(&mut self, head: &FrameHead, payload: &[u8]) -> Result<(), AllocError> {
-        if self.judge(head)? != HalfVerdict::Accept {
+        if self.judge(head)? != FrameAction::Accept {
             return Ok(());
         }
         let stream = head.stream;
@@ -336,7 +336,7 @@ impl Seen {
             self.sends = window.saturating_add(i64::from(increment));
             return self.check_credit(0, increment, window);
         }
-        if self.judge(head)? != HalfVerdict::Accept {
+        if self.judge(head)? != FrameAction::Accept {
             return Ok(());
         }
         if increment == 0 {

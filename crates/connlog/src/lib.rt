@@ -9,27 +9,27 @@
 //! Read `walk`, the frames of one direction, and `messages`, those of a call's DATA; `cause`, each
 //! rule with its figures and its text; `fields` and `place`, which field and which byte of a header
 //! block a cause is about; `malformed`, what is wrong with a message; `text`, bytes as a line shows
-//! them; `call`, what is known of a call; `tables` and `known`, blocks that were read before;
-//! `json`, objects; `line`, what a line says; then `seen` with `client` and `server`, what the
-//! frames of both sides mean, and `observer`.
+//! them; `call`, what is known of a call; `tables` and `known_block`, blocks that were read before;
+//! `json`, objects; `line`, what a line says; then `conn_state` with `client` and `server`, what
+//! the frames of both sides mean, and `observer`.
 #![tactic(auto)]
 
 mod call;
 mod cause;
 mod client;
+mod conn_state;
 mod fields;
 pub mod json;
-mod known;
+mod known_block;
 mod line;
 mod malformed;
 mod messages;
 mod observer;
 mod place;
-mod seen;
 mod server;
 mod tables;
 mod text;
 mod walk;
 
-pub use line::{Ended, Line};
+pub use line::{ConnEnding, Line};
 pub use observer::Observer;

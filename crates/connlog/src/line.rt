@@ -4,7 +4,7 @@ use crate::call::MethodName;
 use crate::cause::Cause;
 use crate::json;
 use crate::messages::Messages;
-use figures::{ByteCount, ErrorName, Grouped};
+use figures::{ByteCount, ErrorName, GroupedNumber};
 use h2frame::StreamId;
 use std::alloc::{AllocError, Global};
 use std::fmt;
@@ -43,15 +43,15 @@ pub enum Event {
         debug: String,
     },
     /// Nothing came on the call, and nothing was sent on it, for this many seconds.
-    Waits(MethodName, u64, Waiting),
+    Waits(MethodName, u64, CallWait),
     /// The deadline of the call has passed while its replies wait for a window.
-    Overdue(MethodName, Waiting),
+    Overdue(MethodName, CallWait),
     /// The connection ended before the call.
     Left(MethodName, Traffic),
     /// The connection has ended in this way, with this many calls. It was followed to its end, or
     /// memory ran out before.
     Ended {
-        how: Ended,
+        how: ConnEnding,
         calls: u64,
         is_followed: bool,
     },
@@ -59,7 +59,7 @@ pub enum Event {
 
 /// How a connection ended.
 #[derive(Clone, Copy, Debug, PartialEq, Eq)]
-pub enum Ended {
+pub enum ConnEnding {
     Input,
     PeerGoaway,
     ProtocolError,
@@ -87,7 +87,7 @@ pub struct Traffic {
 
 /// What a call waits for.
 #[derive(Clone, Copy, Debug, PartialEq, Eq)]
-pub enum Waiting {
+pub enum CallWait {
     /// The client's end of the stream, and how many messages came.
     End(u64),
     /// Credit on the stream, whose window is this.
@@ -98,23 +98,23 @@ pub enum Waiting {
     Method,
 }
 
-impl Waiting {
+impl CallWait {
     /// Whether it is credit.
     pub fn is_window(self) -> bool {
-        matches!(self, Waiting::Stream(_) | Waiting::Connection(_))
+        matches!(self, CallWait::Stream(_) | CallWait::Connection(_))
     }
 }
 
-impl Ended {
+impl ConnEnding {
     pub fn text(self) -> &'static str {
         match self {
-            Ended::Input => "input-ended",
-            Ended::PeerGoaway => "goaway",
-            Ended::ProtocolError => "protocol-error",
-            Ended::ReadFailed => "read-failed",
-            Ended::WriteFailed => "write-failed",
-            Ended::OutOfMemory => "out-of-memory",
-            Ended::Drained => "drained",
+            ConnEnding::Input => "input-ended",
+            ConnEnding::PeerGoaway => "goaway",
+            ConnEnding::ProtocolError => "protocol-error",
+            ConnEnding::ReadFailed => "read-failed",
+            ConnEnding::WriteFailed => "write-failed",
+            ConnEnding::OutOfMemory => "out-of-memory",
+            ConnEnding::Drained => "drained",
         }
     }
 }
@@ -141,22 +141,25 @@ impl fmt::Display for Status {
 
 impl fmt::Display for Traffic {
     fn fmt<W: fmt::Write>(&self, f: &mut fmt::Formatter<W>) -> fmt::Result {
-        let (came, took) = (Grouped(self.requests.count), ByteCount(self.requests.bytes));
+        let (came, took) = (
+            GroupedNumber(self.requests.count),
+            ByteCount(self.requests.bytes),
+        );
         let (went, gave) = (
-            Grouped(self.replies.count),
+            GroupedNumber(self.replies.count),
             ByteCount(self.replies.content()),
         );
         write!(f, "in {came} of {took}, out {went} of {gave}")
     }
 }
 
-impl fmt::Display for Waiting {
+impl fmt::Display for CallWait {
     fn fmt<W: fmt::Write>(&self, f: &mut fmt::Formatter<W>) -> fmt::Result {
         match *self {
-            Waiting::End(count) => write!(f, "no END_STREAM, messages so far {count}"),
-            Waiting::Stream(window) => write!(f, "window of the stream {window}"),
-            Waiting::Connection(window) => write!(f, "window of the connection {window}"),
-            Waiting::Method => write!(f, "its method"),
+            CallWait::End(count) => write!(f, "no END_STREAM, messages so far {count}"),
+            CallWait::Stream(window) => write!(f, "window of the stream {window}"),
+            CallWait::Connection(window) => write!(f, "window of the connection {window}"),
+            CallWait::Method => write!(f, "its method"),
         }
     }
 }
@@ -267,7 +270,7 @@ fn write_event(text: &mut String, stream: StreamId, event: &Event) -> Result<(),
 
 fn write_end(
     text: &mut String,
-    how: Ended,
+    how: ConnEnding,
     calls: u64,
     is_followed: bool,
 ) -> Result<(), AllocError> {
@@ -354,7 +357,7 @@ fn name_of(event: &Event) -> &'static str {
     }
 }
 
-fn write_waiting(alloc: Global, text: &mut String, waiting: Waiting) -> Result<(), AllocError> {
+fn write_waiting(alloc: Global, text: &mut String, waiting: CallWait) -> Result<(), AllocError> {
     let waiting = format!(in alloc; "{waiting}")?;
     json::string(alloc, text, "for", waiting.as_str())
 }

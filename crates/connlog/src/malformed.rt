@@ -7,7 +7,7 @@ use std::{fmt, str};
 
 /// What is wrong with a message, and where.
 #[derive(Clone, Copy, Debug, PartialEq, Eq)]
-pub struct Malformed {
+pub struct MalformedMessage {
     /// Which message of the call it is, from 1 on.
     pub message: u64,
     /// The field of an embedded message in which it is; 0 is the message itself.
@@ -83,7 +83,7 @@ pub fn fault_of_request(
     method: MethodName,
     message: u64,
     bytes: &[u8],
-) -> Result<Option<Malformed>, AllocError> {
+) -> Result<Option<MalformedMessage>, AllocError> {
     let mut tasks = Vec::new(alloc);
     tasks.push(Task {
         kind: Kind::of_request(method),
@@ -96,7 +96,7 @@ pub fn fault_of_request(
         };
         let found = look(&mut tasks, task)?;
         if let Some((before, fault)) = found {
-            return Ok(Some(Malformed {
+            return Ok(Some(MalformedMessage {
                 message,
                 inside: task.inside,
                 before,
@@ -142,9 +142,9 @@ fn look<'a>(
     Ok(None)
 }
 
-impl fmt::Display for Malformed {
+impl fmt::Display for MalformedMessage {
     fn fmt<W: fmt::Write>(&self, f: &mut fmt::Formatter<W>) -> fmt::Result {
-        let Malformed {
+        let MalformedMessage {
             message,
             inside,
             before,

@@ -20,7 +20,7 @@ pub enum PrefixFault {
 
 /// How a stream ended inside a message.
 #[derive(Clone, Copy, Debug, PartialEq, Eq)]
-pub enum Cut {
+pub enum CutMessage {
     /// After this many bytes of the prefix.
     InPrefix(usize),
     /// The prefix said one length, and another number of bytes came.
@@ -134,14 +134,14 @@ impl Messages {
     }
 
     /// Where the bytes so far end inside a message, if they do.
-    pub fn cut(&self) -> Option<Cut> {
+    pub fn cut(&self) -> Option<CutMessage> {
         if self.prefixed > 0 {
-            return Some(Cut::InPrefix(self.prefixed));
+            return Some(CutMessage::InPrefix(self.prefixed));
         }
         if self.left == 0 {
             return None;
         }
-        Some(Cut::InMessage {
+        Some(CutMessage::InMessage {
             said: self.said,
             came: self.said.saturating_sub(self.left),
         })

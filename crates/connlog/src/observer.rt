@@ -2,8 +2,8 @@
 //! its server does.
 
 use crate::cause::{Cause, FrameCause};
-use crate::line::{Ended, Event, Line};
-use crate::seen::Seen;
+use crate::conn_state::ConnState;
+use crate::line::{ConnEnding, Event, Line};
 use crate::walk::Walk;
 use h2frame::ErrorCode;
 use std::alloc::{AllocError, Global};
@@ -19,7 +19,7 @@ pub struct Observer {
     server: Walk,
     /// How many bytes of the preface came.
     preface: usize,
-    seen: Seen,
+    seen: ConnState,
     is_lost: bool,
 }
 
@@ -30,7 +30,7 @@ impl Observer {
             client: Walk::new(alloc),
             server: Walk::new(alloc),
             preface: 0,
-            seen: Seen::new(alloc),
+            seen: ConnState::new(alloc),
             is_lost: false,
         }
     }
@@ -66,7 +66,7 @@ impl Observer {
     }
 
     /// The connection has ended.
-    pub fn ended(&mut self, how: Ended) {
+    pub fn ended(&mut self, how: ConnEnding) {
         let is_followed = !self.is_lost;
         let told = self.seen.end(how, is_followed);
         self.note(told);

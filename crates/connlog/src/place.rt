@@ -21,7 +21,7 @@ const MOST_BYTES: usize = 6;
 /// The place of a fault: this byte of the block, which begins a field or a size update with this
 /// number.
 #[derive(Clone, Copy, Debug, PartialEq, Eq)]
-pub struct Place {
+pub struct BlockPlace {
     pub at: usize,
     pub byte: u8,
     pub number: u64,
@@ -44,21 +44,21 @@ struct Item {
 }
 
 /// The place of this fault, the first of the block.
-pub fn place_of(alloc: Global, block: &[u8], fault: HpackFault) -> Option<Place> {
+pub fn place_of(alloc: Global, block: &[u8], fault: HpackFault) -> Option<BlockPlace> {
     let mut rest = block;
     let mut is_behind = false;
-    let mut greatest: Option<Place> = None;
+    let mut greatest: Option<BlockPlace> = None;
     for _ in 0..block.len() {
         let first = rest.first()?;
         let at = block.len().saturating_sub(rest.len());
         let Some(item) = item_at(rest) else {
-            return greatest.or(Some(Place {
+            return greatest.or(Some(BlockPlace {
                 at,
                 byte: *first,
                 number: 0,
             }));
         };
-        let place = Place {
+        let place = BlockPlace {
             at,
             byte: *first,
             number: item.number,
@@ -76,7 +76,7 @@ pub fn place_of(alloc: Global, block: &[u8], fault: HpackFault) -> Option<Place>
 }
 
 /// Whether the item has an index over those of the static table, and over that of this place.
-fn is_greater(item: &Item, place: Option<Place>) -> bool {
+fn is_greater(item: &Item, place: Option<BlockPlace>) -> bool {
     let greatest = match place {
         Some(place) => place.number,
         None => STATIC,

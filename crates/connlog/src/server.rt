@@ -1,17 +1,17 @@
 //! What the server's frames say.
 
 use crate::client::number;
+use crate::conn_state::ConnState;
 use crate::line::Status;
-use crate::seen::Seen;
 use crate::tables::keeps_tables;
 use crate::walk::Part;
 use callhead::{first_value, read_status};
-use flow::{HalfVerdict, MAX_WINDOW};
+use flow::{FrameAction, MAX_WINDOW};
 use h2frame::{ErrorCode, Flags, FrameHead, FrameKind};
 use lists::Field;
 use std::alloc::{AllocError, Global};
 
-impl Seen {
+impl ConnState {
     /// The server sent this.
     pub fn server_sent(&mut self, part: Part<'_>) -> Result<(), AllocError> {
         match part {
@@ -37,7 +37,7 @@ impl Seen {
             }
             FrameKind::Headers => {
                 self.response.bytes.clear();
-                self.response.begun = Some((head, HalfVerdict::Accept));
+                self.response.begun = Some((head, FrameAction::Accept));
                 self.response.bytes.extend_from_slice(payload)
             }
             FrameKind::Continuation => self.reply_continuation(&head, payload),

@@ -6,7 +6,7 @@ ghost use Rattle.connlog.specs.Blocks.{behind, behind_first, keeps_tables, value
 
 /// What comes next in a block.
 #[derive(Clone, Copy, Debug, PartialEq, Eq)]
-pub enum Expected {
+pub enum ExpectedPart {
     /// A field.
     Field,
     /// The length of a field's value.
@@ -22,47 +22,47 @@ pub enum Expected {
 pub fn keeps_tables(block: &[u8]) -> bool
     ensures { result ≡ keeps_tables block.now }
 {
-    let mut expected = Expected::Field;
+    let mut expected = ExpectedPart::Field;
     for byte in block {
         expected = behind(expected, *byte);
     }
     match expected {
-        Expected::Field => true,
-        Expected::Length | Expected::Value(_) | Expected::Other => false,
+        ExpectedPart::Field => true,
+        ExpectedPart::Length | ExpectedPart::Value(_) | ExpectedPart::Other => false,
     }
 }
 
-fn behind(expected: Expected, byte: u8) -> Expected
+fn behind(expected: ExpectedPart, byte: u8) -> ExpectedPart
     ensures { result ≡ behind expected byte }
 {
     match expected {
-        Expected::Field => behind_first(byte),
-        Expected::Length => value_of(byte % 128),
-        Expected::Value(left) => value_of(left.saturating_sub(1)),
-        Expected::Other => Expected::Other,
+        ExpectedPart::Field => behind_first(byte),
+        ExpectedPart::Length => value_of(byte % 128),
+        ExpectedPart::Value(left) => value_of(left.saturating_sub(1)),
+        ExpectedPart::Other => ExpectedPart::Other,
     }
 }
 
-fn behind_first(byte: u8) -> Expected
+fn behind_first(byte: u8) -> ExpectedPart
     ensures { result ≡ behind_first byte }
 {
     if 0x80 <= byte && byte < 0xff {
-        Expected::Field
+        ExpectedPart::Field
     } else if 0 < byte && byte < 0x0f {
-        Expected::Length
+        ExpectedPart::Length
     } else {
-        Expected::Other
+        ExpectedPart::Other
     }
 }
 
-fn value_of(length: u8) -> Expected
+fn value_of(length: u8) -> ExpectedPart
     ensures { result ≡ value_of length }
 {
     if length == 0 {
-        Expected::Field
+        ExpectedPart::Field
     } else if length == 127 {
-        Expected::Other
+        ExpectedPart::Other
     } else {
-        Expected::Value(length)
+        ExpectedPart::Value(length)
     }
 }

@@ -8,14 +8,14 @@
 //!   are known, and of the mark.
 //! - `whole`: `read_all` reads to the end of the input, and `write_all` writes all bytes; after a
 //!   fault a prefix of them.
-//! - `marked`: `Marked` makes a device of any reader or writer of std. What a signal interrupts is
-//!   tried again.
+//! - `std_device`: `StdDevice` makes a device of any reader or writer of std. What a signal
+//!   interrupts is tried again.
 #![tactic(auto)]
 
 mod conn;
-mod marked;
+mod std_device;
 mod whole;
 
 pub use conn::{ConnRead, ConnWrite, DeviceFault};
-pub use marked::Marked;
+pub use std_device::StdDevice;
 pub use whole::{ReadFault, read_all, write_all};

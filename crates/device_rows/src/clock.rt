@@ -19,16 +19,16 @@ pub enum Pace {
 
 /// A runtime whose monotonic clock goes at a pace.
 #[derive(Clone, Copy)]
-pub struct Timed<R> {
+pub struct TimedRuntime<R> {
     pub rt: R,
     pub pace: Pace,
 }
 
-impl<R: Wait> Wait for Timed<R> {}
+impl<R: Wait> Wait for TimedRuntime<R> {}
 
-impl<R: Threads> Threads for Timed<R> {}
+impl<R: Threads> Threads for TimedRuntime<R> {}
 
-impl<R: Clock> Clock for Timed<R> {
+impl<R: Clock> Clock for TimedRuntime<R> {
     fn monotonic(&self) -> io::Result<Duration> {
         let time = self.rt.monotonic()?;
         match self.pace {

@@ -3,10 +3,10 @@
 ghost use Rattle.std.specs.Prelude.{◌≡◌, ◌<◌};
 
 use crate::devices::Sink;
-use crate::gates::{Draining, MOST};
+use crate::gates::{DrainGate, MOST};
 use crate::plan::Plan;
 use anyhow::{Context, Result};
-use connection::{Drainer, Ending, Served, serve_connection};
+use connection::{Drainer, Ending, ServedConn, serve_connection};
 use handlers::Methods;
 use std::alloc::Global;
 use std::marker::Brand;
@@ -28,7 +28,7 @@ where
     R: Threads + Wait + Clock + Copy + Send + Sync + Drop + 'static,
 {
     for at in 0..MOST {
-        let gate = Arc::new(alloc, Draining::new(rt, at))?;
+        let gate = Arc::new(alloc, DrainGate::new(rt, at))?;
         let plan = Plan::read(alloc, line)?;
         let served = drain_at(rt, alloc, Arc::try_clone(methods)?, plan, &gate)?;
         if !are_answered(&served) {
@@ -43,7 +43,7 @@ where
 
 /// Whether the connection ended with its input or by the drain, and each call that was admitted is
 /// answered.
-fn are_answered(served: &Served<Sink>) -> bool {
+fn are_answered(served: &ServedConn<Sink>) -> bool {
     if !matches!(served.report.ending, Ending::InputEnded | Ending::Drained) {
         return false;
     }
@@ -65,8 +65,8 @@ fn drain_at<R>(
     alloc: Global,
     methods: Arc<Methods>,
     plan: Plan,
-    gate: &Arc<Draining<R>>,
-) -> Result<Served<Sink>>
+    gate: &Arc<DrainGate<R>>,
+) -> Result<ServedConn<Sink>>
 where
     R: Threads + Wait + Clock + Copy + Send + Sync + Drop + 'static,
 {
@@ -81,8 +81,8 @@ fn drain_over<A, B, C, R>(
     blanks: (Blank, Blank, Blank),
     methods: Arc<Methods>,
     plan: Plan,
-    gate: &Arc<Draining<R>>,
-) -> Result<Served<Sink>>
+    gate: &Arc<DrainGate<R>>,
+) -> Result<ServedConn<Sink>>
 where
     A: Ledger + Send + Sync + 'static,
     B: Ledger + Send + Sync + 'static,

@@ -18,14 +18,14 @@ const SECOND: StreamId = 3;
 
 /// Refuses the first call until the second was answered.
 #[derive(Drop)]
-pub struct Refusing {
+pub struct RefuseGate {
     is_answered: AtomicBool,
     refusals: AtomicU32,
 }
 
-impl Refusing {
-    pub fn new() -> Refusing {
-        Refusing {
+impl RefuseGate {
+    pub fn new() -> RefuseGate {
+        RefuseGate {
             is_answered: AtomicBool::new(false),
             refusals: AtomicU32::new(0),
         }
@@ -37,7 +37,7 @@ impl Refusing {
     }
 }
 
-impl Gate for Refusing {
+impl Gate for RefuseGate {
     fn may_go(&self, id: StreamId) -> bool {
         if id != FIRST || self.is_answered.load(Ordering::SeqCst) {
             return true;
@@ -57,7 +57,7 @@ impl Gate for Refusing {
 
 /// Keeps the first call's worker until the second call was answered.
 #[derive(Drop)]
-pub struct Keeping<R: Wait + Drop> {
+pub struct KeepGate<R: Wait + Drop> {
     rt: R,
     is_answered: AtomicBool,
     /// Rung once it is.
@@ -65,9 +65,9 @@ pub struct Keeping<R: Wait + Drop> {
     turns: AtomicU32,
 }
 
-impl<R: Wait + Drop> Keeping<R> {
-    pub fn new(rt: R) -> Keeping<R> {
-        Keeping {
+impl<R: Wait + Drop> KeepGate<R> {
+    pub fn new(rt: R) -> KeepGate<R> {
+        KeepGate {
             rt,
             is_answered: AtomicBool::new(false),
             answered: Bell::new(),
@@ -81,7 +81,7 @@ impl<R: Wait + Drop> Keeping<R> {
     }
 }
 
-impl<R: Wait + Drop> Gate for Keeping<R> {
+impl<R: Wait + Drop> Gate for KeepGate<R> {
     fn may_go(&self, id: StreamId) -> bool {
         if id != FIRST {
             return true;
@@ -110,7 +110,7 @@ impl<R: Wait + Drop> Gate for Keeping<R> {
 
 /// At one of its turns another thread drains the connection, and the turn waits for that.
 #[derive(Drop)]
-pub struct Draining<R: Wait + Drop> {
+pub struct DrainGate<R: Wait + Drop> {
     rt: R,
     /// How many turns are before that one.
     at: u32,
@@ -121,9 +121,9 @@ pub struct Draining<R: Wait + Drop> {
     bell: Bell,
 }
 
-impl<R: Wait + Drop> Draining<R> {
-    pub fn new(rt: R, at: u32) -> Draining<R> {
-        Draining {
+impl<R: Wait + Drop> DrainGate<R> {
+    pub fn new(rt: R, at: u32) -> DrainGate<R> {
+        DrainGate {
             rt,
             at,
             turns: AtomicU32::new(0),
@@ -170,7 +170,7 @@ impl<R: Wait + Drop> Draining<R> {
     }
 }
 
-impl<R: Wait + Drop> Gate for Draining<R> {
+impl<R: Wait + Drop> Gate for DrainGate<R> {
     fn may_go(&self, _id: StreamId) -> bool {
         if self.turns.fetch_add(1, Ordering::SeqCst) == self.at {
             self.want();

@@ -30,11 +30,11 @@ mod plan;
 mod report;
 
 use anyhow::Result;
-use clock::Timed;
-use connection::{Drainer, Gate, OpenGate, Served, serve_connection};
+use clock::TimedRuntime;
+use connection::{Drainer, Gate, OpenGate, ServedConn, serve_connection};
 use devices::{DrainedSource, Sink, Source};
 use drained::drain_at_each_turn;
-use gates::{Keeping, Refusing};
+use gates::{KeepGate, RefuseGate};
 use handlers::{
     CacheableUnaryCall, EmptyCall, FullDuplexCall, HalfDuplexCall, Method, Methods,
     StreamingInputCall, StreamingOutputCall, UnaryCall,
@@ -66,12 +66,12 @@ where
             print_served(&rt, alloc, &source, &served)
         }
         Hold::Refusing => {
-            let gate = Arc::new(alloc, Refusing::new())?;
+            let gate = Arc::new(alloc, RefuseGate::new())?;
             let (_, served) = serve(rt, alloc, theirs, plan, Arc::try_clone(&gate)?)?;
             print_held(&rt, gate.refusals(), &served)
         }
         Hold::Keeping => {
-            let gate = Arc::new(alloc, Keeping::new(rt))?;
+            let gate = Arc::new(alloc, KeepGate::new(rt))?;
             let (_, served) = serve(rt, alloc, theirs, plan, Arc::try_clone(&gate)?)?;
             print_held(&rt, gate.turns(), &served)
         }
@@ -91,7 +91,7 @@ fn serve<R, G>(
     methods: Arc<Methods>,
     plan: Plan,
     gate: Arc<G>,
-) -> Result<(Source, Served<Sink>)>
+) -> Result<(Source, ServedConn<Sink>)>
 where
     R: Threads + Wait + Clock + Copy + Send + Sync + Drop + 'static,
     G: Gate + Send + Sync + Drop + 'static,
@@ -108,7 +108,7 @@ fn serve_over<A, B, C, R, G>(
     methods: Arc<Methods>,
     plan: Plan,
     gate: Arc<G>,
-) -> Result<(Source, Served<Sink>)>
+) -> Result<(Source, ServedConn<Sink>)>
 where
     A: Ledger + Send + Sync + 'static,
     B: Ledger + Send + Sync + 'static,
@@ -126,7 +126,7 @@ where
         drain,
         ..
     } = plan;
-    let timed = Timed { rt, pace };
+    let timed = TimedRuntime { rt, pace };
     let (drainer, seat) = Drainer::<A, B, C>::new(alloc, blanks)?;
     if drain == Some(0) {
         drainer.drain(&rt);

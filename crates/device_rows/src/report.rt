@@ -2,9 +2,9 @@
 
 use crate::devices::{Sink, Source};
 use crate::gates::MOST;
-use account::Told;
+use account::RequestEnd;
 use anyhow::Result;
-use connection::{Accounts, CallAccount, Served, Traffic};
+use connection::{Accounts, CallAccount, ServedConn, Traffic};
 use std::alloc::Global;
 
 /// Prints what became of a connection that was read from here. Where there is no memory for that it
@@ -13,7 +13,7 @@ pub fn print_served(
     rt: &impl Print,
     alloc: Global,
     source: &Source,
-    served: &Served<Sink>,
+    served: &ServedConn<Sink>,
 ) -> Result<()> {
     print_written(rt, alloc, &served.output)?;
     println!(rt; "read {}{}", source.at, failure(source.has_failed))?;
@@ -25,7 +25,7 @@ pub fn print_served(
 
 /// Prints whether a gate needn't have given up, how often it was asked in vain, and what became of
 /// the calls after it.
-pub fn print_held(rt: &impl Print, times: u32, served: &Served<Sink>) -> Result<()> {
+pub fn print_held(rt: &impl Print, times: u32, served: &ServedConn<Sink>) -> Result<()> {
     println!(rt; "held {}", times < MOST)?;
     print_calls(rt, &served.report.calls)?;
     println!(rt; "over")?;
@@ -89,9 +89,9 @@ fn print_call(rt: &impl Print, call: &CallAccount) -> Result<()> {
         reply_bytes,
     } = traffic;
     let told = match input.told {
-        Some(Told::End) => "end",
-        Some(Told::Reset(_)) => "reset",
-        Some(Told::Fault(_)) => "fault",
+        Some(RequestEnd::End) => "end",
+        Some(RequestEnd::Reset(_)) => "reset",
+        Some(RequestEnd::Fault(_)) => "fault",
         None => "nothing",
     };
     print!(rt; "call {id} {method} {messages} {bytes} {told} {replies} {reply_bytes} ")?;

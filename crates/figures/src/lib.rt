@@ -1,4 +1,4 @@
-//! Names of frames and errors, counts, and which rule a field breaks.
+//! Names of frames and errors, numbers in words, and the rule that a field breaks.
 //!
 //! Read `numbers` for counts and lengths, `names` for frames and error codes (RFC 9113, sections 6
 //! and 7), `rules` for what is wanted of a frame by itself, `fields` for which rule a field breaks,
@@ -13,6 +13,6 @@ mod text;
 
 pub use fields::{BrokenRule, FieldRule, field_rule};
 pub use names::{ErrorName, FrameName, KindName, error_name};
-pub use numbers::{ByteCount, Grouped, byte_count};
+pub use numbers::{ByteCount, GroupedNumber, byte_count};
 pub use rules::{section_of, wanted_length};
 pub use text::shown;

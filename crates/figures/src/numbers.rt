@@ -6,9 +6,9 @@ use std::fmt;
 
 /// A number, with a comma before each three digits.
 #[derive(Clone, Copy)]
-pub struct Grouped(pub u64);
+pub struct GroupedNumber(pub u64);
 
-impl fmt::Display for Grouped {
+impl fmt::Display for GroupedNumber {
     fn fmt<W: fmt::Write>(&self, f: &mut fmt::Formatter<W>) -> fmt::Result {
         let number = self.0;
         let (ones, thousands) = (number % 1_000, number / 1_000 % 1_000);
@@ -31,7 +31,7 @@ pub struct ByteCount(pub u64);
 
 impl fmt::Display for ByteCount {
     fn fmt<W: fmt::Write>(&self, f: &mut fmt::Formatter<W>) -> fmt::Result {
-        let count = Grouped(self.0);
+        let count = GroupedNumber(self.0);
         if self.0 == 1 {
             write!(f, "{count} byte")
         } else {

@@ -55,7 +55,16 @@ use Rattle.std.proofs.lemmas.Map.Views.{
   IfSome-lookup_from_All,
 }
 use Rattle.flow.proofs.Entries.{apart-set}
-use Rattle.flow.specs.Windows.{Windows, Shared, balance, IsBalance, IsWithin, Fits, FitsAt, lesser}
+use Rattle.flow.specs.Windows.{
+  Windows,
+  SharedWindow,
+  balance,
+  IsBalance,
+  IsWithin,
+  Fits,
+  FitsAt,
+  lesser,
+}
 
 pub all_fit : (n : ℕ) (bs : List ℤ) → list_all (λ b. int_le (pos n +ℤ b) (pos 2147483647)) bs ≡ true
     → All (λ b. Fits (pos n +ℤ b)) bs
@@ -134,7 +143,7 @@ spent_from connection initial len balance (negsuc n) e within size old =
     (high, low)
 
 -- what both windows let through is taken out of them
-pub spend_keeps : (es after : List (ℕ × ℤ)) (id n : ℕ) (shared left : Shared) (b next : ℤ)
+pub spend_keeps : (es after : List (ℕ × ℤ)) (id n : ℕ) (shared left : SharedWindow) (b next : ℤ)
     → IsWithin shared.connection shared.initial es → lookup (nat_eq id) es ≡ Some b
     → after ≡ set_value (nat_eq id) es next
     → left ≡ record { connection = shared.connection - n; initial = shared.initial }
@@ -145,7 +154,7 @@ spend_keeps es after id n shared left b next within at written is lowered room =
     let new =
     spent_from shared.connection shared.initial n b (pos shared.initial +ℤ b) refl room
     within.initial_fits (found es id shared.initial b within.each at) in
-    subst (λ (s : Shared). IsWithin s.connection s.initial after) (sym is)
+    subst (λ (s : SharedWindow). IsWithin s.connection s.initial after) (sym is)
     (set_keeps es after id shared.connection (shared.connection - n) shared.initial b next within at
     written (omega arith) (subst (IsBalance shared.initial) (sym lowered) new))
 

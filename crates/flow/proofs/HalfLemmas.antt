@@ -48,9 +48,9 @@ use Rattle.flow.proofs.Entries.{
   lookup-set,
 }
 use Rattle.flow.specs.declared.TheConstants.{MAX_STREAMS}
-use Rattle.flow.specs.declared.halves.Half.{Half}
-use Rattle.flow.specs.declared.halves.Half.TheVariants.{Opened, Ended, Reset}
-use Rattle.flow.specs.declared.halves.HalfVerdict.{HalfVerdict}
+use Rattle.flow.specs.declared.halves.HalfState.{HalfState}
+use Rattle.flow.specs.declared.halves.HalfState.TheVariants.{Opened, Ended, Reset}
+use Rattle.flow.specs.declared.halves.FrameAction.{FrameAction}
 use Rattle.flow.specs.Halves.{
   Event,
   Received,
@@ -253,7 +253,7 @@ module _ (h : List Event) (s : Streams) (stands : Stands h s) where
           cc
 
   -- and any other was
-  course-Some : (id : ℕ) (now : Half) → half_of s id ≡ Some now
+  course-Some : (id : ℕ) (now : HalfState) → half_of s id ≡ Some now
       → (c : Course) × (course id h ≡ Some c) × (half id c ≡ now)
   course-Some id now some = by (course id h) refl
     where
@@ -269,7 +269,7 @@ module _ (h : List Event) (s : Streams) (stands : Stands h s) where
           (c, p, cc)
 
   -- each stream's half stands, where that of the event's stream does and the others are kept
-  each-from : (e : Event) (halves : List (ℕ × Half))
+  each-from : (e : Event) (halves : List (ℕ × HalfState))
       → lookup (nat_eq (stream_of e)) halves ≡ kept (state (stream_of e) (e ∷ h))
       → ((id : ℕ) → nat_eq id (stream_of e) ≡ false → lookup (nat_eq id) halves ≡ half_of s id)
       → (id : ℕ) → lookup (nat_eq id) halves ≡ kept (state id (e ∷ h))
@@ -285,7 +285,7 @@ module _ (h : List Event) (s : Streams) (stands : Stands h s) where
   begun-kept : (e : Event) → begins e (begun h) ≡ false → begun (e ∷ h) ≡ begun h
   begun-kept e b = ap (λ beginning. if beginning then stream_of e ∷ begun h else begun h) b
 
-  no_beginning : (e : Event) (now : Half) → half_of s (stream_of e) ≡ Some now
+  no_beginning : (e : Event) (now : HalfState) → half_of s (stream_of e) ≡ Some now
       → begins e (begun h) ≡ false
   no_beginning e now some = by (begins e (begun h)) refl
     where
@@ -309,7 +309,7 @@ module _ (h : List Event) (s : Streams) (stands : Stands h s) where
   }
 
   -- an event on a begun stream
-  pub Stands-begun : (e : Event) (now : Half) → half_of s (stream_of e) ≡ Some now
+  pub Stands-begun : (e : Event) (now : HalfState) → half_of s (stream_of e) ≡ Some now
       → Stands (e ∷ h) (record {
         greatest = s.greatest;
         halves = set_value (nat_eq (stream_of e)) s.halves (half_after now e);
@@ -363,16 +363,16 @@ module _ (h : List Event) (s : Streams) (stands : Stands h s) where
 -- ---- what a call on a begun stream leaves
 
 -- the answer where the stream was begun, and its half
-pub begun-answer : (o : Option Half) (answer : HalfVerdict) (head : FrameHead)
+pub begun-answer : (o : Option HalfState) (answer : FrameAction) (head : FrameHead)
     → MatchOption o (Some answer ≡ None) (λ now. Some answer ≡ Some (on_begun now head))
-    → (now : Half) × (o ≡ Some now) × (answer ≡ on_begun now head)
+    → (now : HalfState) × (o ≡ Some now) × (answer ≡ on_begun now head)
 begun-answer None answer head h = cc
 begun-answer (Some now) answer head h = (now, refl, cc)
 
-abbrev nothing : Option HalfVerdict
+abbrev nothing : Option FrameAction
 nothing = None
 
-unbegun-answer : (o : Option Half) (head : FrameHead)
+unbegun-answer : (o : Option HalfState) (head : FrameHead)
     → MatchOption o (nothing ≡ None) (λ now. nothing ≡ Some (on_begun now head)) → o ≡ None
 unbegun-answer None head h = refl
 unbegun-answer (Some now) head h = cc
@@ -390,20 +390,20 @@ ended-error Data last h = refl
 ended-error Headers last h = refl
 ended-error _ last h = absurd (true≢false (sym h))
 
-error-kept : (now : Half) (head : FrameHead) → is_error (on_begun now head) ≡ true
+error-kept : (now : HalfState) (head : FrameHead) → is_error (on_begun now head) ≡ true
     → half_after now (Received head) ≡ now
 error-kept Opened head h = opened-error head.kind (has end_stream head.flags) h
 error-kept Ended head h = ended-error head.kind (has end_stream head.flags) h
 error-kept Reset head h = refl
 
-module _ (s : Streams) (after : List (ℕ × Half)) (head : FrameHead) (answer : HalfVerdict)
+module _ (s : Streams) (after : List (ℕ × HalfState)) (head : FrameHead) (answer : FrameAction)
     (is :
     MatchOption (half_of s head.stream) (Some answer ≡ None)
     (λ now. Some answer ≡ Some (on_begun now head)))
     (left :
     MatchOption (half_of s head.stream) (after ≡ s.halves)
     (λ now. after ≡ set_value (nat_eq head.stream) s.halves (half_after now (Received head)))) where
-  written : (now : Half) → half_of s head.stream ≡ Some now
+  written : (now : HalfState) → half_of s head.stream ≡ Some now
       → after ≡ set_value (nat_eq head.stream) s.halves (half_after now (Received head))
   written now some =
       subst (λ o.
@@ -445,7 +445,7 @@ module _ (s : Streams) (after : List (ℕ × Half)) (head : FrameHead) (answer :
 
 -- ---- what a call on another stream leaves
 
-module _ (s : Streams) (after : List (ℕ × Half)) (head : FrameHead)
+module _ (s : Streams) (after : List (ℕ × HalfState)) (head : FrameHead)
     (is :
     MatchOption (half_of s head.stream) (nothing ≡ None)
     (λ now. nothing ≡ Some (on_begun now head)))
@@ -483,7 +483,7 @@ beginning h s stands head positive =
 
 pub new-follows : (s : Streams) (head : FrameHead) → 0 < head.stream → half_of s head.stream ≡ None
     → begins_by s head ≡ true
-    → (after : List (ℕ × Half)) (new : Half) → new ≡ half_of_new (Received head)
+    → (after : List (ℕ × HalfState)) (new : HalfState) → new ≡ half_of_new (Received head)
     → after ≡ s.halves ++ (head.stream, new) ∷ []
     → (h : List Event) → Stands h s
     → Stands (Received head ∷ h) (record { greatest = head.stream; halves = after })

@@ -4,8 +4,8 @@ use Rattle.h2frame.specs.declared.error_code.ErrorCode.TheVariants.{ProtocolErro
 use Rattle.h2frame.specs.declared.frame.FrameHead.{FrameHead}
 use Rattle.h2frame.specs.declared.kind.FrameKind.{FrameKind}
 use Rattle.h2frame.specs.declared.kind.FrameKind.TheVariants.{Data, Headers, WindowUpdate}
-use Rattle.flow.specs.declared.halves.Half.TheVariants.{Opened, Ended, Reset}
-use Rattle.flow.specs.declared.halves.HalfVerdict.TheVariants.{
+use Rattle.flow.specs.declared.halves.HalfState.TheVariants.{Opened, Ended, Reset}
+use Rattle.flow.specs.declared.halves.FrameAction.TheVariants.{
   Open,
   Accept,
   Discard,

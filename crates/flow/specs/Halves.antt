@@ -36,10 +36,10 @@ use Rattle.h2frame.specs.declared.kind.FrameKind.TheVariants.{
 }
 use Rattle.h2frame.specs.Flags.{has, end_stream}
 use Rattle.flow.specs.declared.TheConstants.{MAX_STREAMS}
-use Rattle.flow.specs.declared.halves.Half.{Half}
-use Rattle.flow.specs.declared.halves.Half.TheVariants.{Opened, Ended, Reset}
-use Rattle.flow.specs.declared.halves.HalfVerdict.{HalfVerdict}
-use Rattle.flow.specs.declared.halves.HalfVerdict.TheVariants.{
+use Rattle.flow.specs.declared.halves.HalfState.{HalfState}
+use Rattle.flow.specs.declared.halves.HalfState.TheVariants.{Opened, Ended, Reset}
+use Rattle.flow.specs.declared.halves.FrameAction.{FrameAction}
+use Rattle.flow.specs.declared.halves.FrameAction.TheVariants.{
   Open,
   Accept,
   Discard,
@@ -136,7 +136,7 @@ abbrev pub is_on : (Event → Bool) → ℕ → Event → Bool
 is_on test id event = nat_eq id (stream_of event) && test event
 
 -- a begun stream counts as reset from its reset on, else as ended from its end on
-abbrev pub half : ℕ → Course → Half
+abbrev pub half : ℕ → Course → HalfState
 half id course =
     if list_any (is_on resets id) course.since then Reset
     else (if list_any (is_on ends id) course.since then Ended
@@ -146,7 +146,7 @@ half id course =
 pub data State : Type 0 where
   Idle : State
   Skipped : State
-  Begun : Half → State
+  Begun : HalfState → State
 
 abbrev pub state_of : ℕ → List Event → Option Course → State
 state_of id history (Some course) = Begun (half id course)
@@ -158,35 +158,35 @@ state id history = state_of id history (course id history)
 -- On an idle stream only HEADERS are lawful, with an odd number. Once 4,096 streams were begun,
 -- whatever comes on an odd one is dropped: its number is above that of the last stream that the
 -- server serves (section 6.8).
-abbrev pub on_idle : Bool → Bool → Bool → HalfVerdict
+abbrev pub on_idle : Bool → Bool → Bool → FrameAction
 on_idle odd headers few =
     if odd then (if few then (if headers then Open else ConnectionError ProtocolError) else Discard)
     else ConnectionError ProtocolError
 
 -- on an open stream further HEADERS are trailers, which end it (section 8.1)
-abbrev pub on_opened : FrameKind → Bool → HalfVerdict
+abbrev pub on_opened : FrameKind → Bool → FrameAction
 on_opened Headers false = StreamError ProtocolError
 on_opened _ _ = Accept
 
 -- a half that has ended has no more DATA and HEADERS (section 5.1, half-closed)
-abbrev pub on_ended : FrameKind → HalfVerdict
+abbrev pub on_ended : FrameKind → FrameAction
 on_ended Data = StreamError StreamClosed
 on_ended Headers = StreamError StreamClosed
 on_ended _ = Accept
 
-abbrev pub on_begun : Half → FrameHead → HalfVerdict
+abbrev pub on_begun : HalfState → FrameHead → FrameAction
 on_begun Opened head = on_opened head.kind (has end_stream head.flags)
 on_begun Ended head = on_ended head.kind
 on_begun Reset head = Discard
 
-abbrev pub judged : State → FrameHead → ℕ → HalfVerdict
+abbrev pub judged : State → FrameHead → ℕ → FrameAction
 judged Idle head count =
     on_idle (is_odd head.stream) (is_headers head.kind) (nat_lt count MAX_STREAMS)
 judged Skipped head count = ConnectionError ProtocolError
 judged (Begun half) head count = on_begun half head
 
 -- the verdict of a frame, given the events before it
-abbrev pub verdict : List Event → FrameHead → HalfVerdict
+abbrev pub verdict : List Event → FrameHead → FrameAction
 verdict history head = judged (state head.stream history) head (length (begun history))
 
 -- ---- what is kept of a history
@@ -194,16 +194,16 @@ verdict history head = judged (state head.stream history) head (length (begun hi
 -- the greatest number of a begun stream, and the half of each begun stream
 pub record Streams : Type 0 where
   pub greatest : ℕ
-  pub halves : List (ℕ × Half)
+  pub halves : List (ℕ × HalfState)
 
 -- what is kept of a stream
-abbrev pub kept : State → Option Half
+abbrev pub kept : State → Option HalfState
 kept Idle = None
 kept Skipped = None
 kept (Begun half) = Some half
 
 -- what is kept is of no more streams than may be begun
-abbrev pub IsSmall : List (ℕ × Half) → Type 0
+abbrev pub IsSmall : List (ℕ × HalfState) → Type 0
 IsSmall halves = length halves ≤ MAX_STREAMS
 
 -- what is kept after a history
@@ -213,35 +213,35 @@ pub record Stands (history : List Event) (streams : Streams) : Type 0 where
   pub each : (id : ℕ) → lookup (nat_eq id) streams.halves ≡ kept (state id history)
 
 -- what is kept of a stream's half, if the stream was begun
-abbrev pub half_of : Streams → ℕ → Option Half
+abbrev pub half_of : Streams → ℕ → Option HalfState
 half_of streams id = lookup (nat_eq id) streams.halves
 
 -- an answer after which nothing has changed
-abbrev pub is_error : HalfVerdict → Bool
+abbrev pub is_error : FrameAction → Bool
 is_error (StreamError code) = true
 is_error (ConnectionError code) = true
 is_error _ = false
 
 -- a verdict that a frame may have on a stream which wasn't begun, if it doesn't begin it: the
 -- stream is unknown
-abbrev pub may_be_unbegun : HalfVerdict → Bool
+abbrev pub may_be_unbegun : FrameAction → Bool
 may_be_unbegun Discard = true
 may_be_unbegun (ConnectionError code) = true
 may_be_unbegun _ = false
 
-abbrev pub is_connection_error : HalfVerdict → Bool
+abbrev pub is_connection_error : FrameAction → Bool
 is_connection_error (ConnectionError code) = true
 is_connection_error _ = false
 
 -- ---- one frame, on a begun stream and on a new one
 
-abbrev pub moved : Half → Bool → Bool → Half
+abbrev pub moved : HalfState → Bool → Bool → HalfState
 moved Opened reset last = if reset then Reset else (if last then Ended else Opened)
 moved Ended reset last = if reset then Reset else Ended
 moved Reset reset last = Reset
 
-abbrev pub half_after : Half → Event → Half
+abbrev pub half_after : HalfState → Event → HalfState
 half_after before event = moved before (resets event) (ends event)
 
-abbrev pub half_of_new : Event → Half
+abbrev pub half_of_new : Event → HalfState
 half_of_new event = if ends event then Ended else Opened

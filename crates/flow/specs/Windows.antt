@@ -50,7 +50,7 @@ code_of Unknown = 3
 code_of OutOfMemory = 4
 
 -- what all streams share: the connection's window, and the initial size of a stream's
-pub record Shared : Type 0 where
+pub record SharedWindow : Type 0 where
   pub connection : ℕ
   pub initial : ℕ
 
@@ -83,7 +83,7 @@ abbrev pub room : Windows → ℕ → ℕ
 room w id = lesser_if_open w.connection (window w id)
 
 -- a new connection
-abbrev pub new_shared : Shared
+abbrev pub new_shared : SharedWindow
 new_shared = record { connection = INITIAL_WINDOW; initial = INITIAL_WINDOW }
 
 abbrev pub new_windows : Windows
@@ -106,7 +106,7 @@ abbrev pub Fits : ℤ → Type 0
 Fits size = size ≤ℤ pos MAX_WINDOW
 
 -- what all streams share is lawful
-pub record AreLawful (shared : Shared) : Type 0 where
+pub record AreLawful (shared : SharedWindow) : Type 0 where
   pub connection_fits : shared.connection ≤ MAX_WINDOW
   pub initial_fits : shared.initial ≤ MAX_WINDOW
 

@@ -72,9 +72,9 @@ pub struct ConnectionWindow {
 }
 
 impl Model for ConnectionWindow {
-    ghost use Rattle.flow.specs.Windows.{Shared, AreLawful};
+    ghost use Rattle.flow.specs.Windows.{SharedWindow, AreLawful};
 
-    ghost Value = { Shared };
+    ghost Value = { SharedWindow };
 
     ghost view = { λ s. record { connection = s.connection; initial = s.initial } };
 

@@ -4,8 +4,8 @@
 //! greatest begun begin nothing. There is no state for skipped streams: what isn't in the map is
 //! idle or skipped, and there the only lawful frame is HEADERS on an odd number above the greatest.
 //! Once 4,096 streams were begun, what comes on an odd number above the greatest is dropped, and
-//! nothing of it is kept. So memory is bounded, whatever a client sends. `Half` is public since
-//! contracts see it.
+//! nothing of it is kept. So memory is bounded, whatever a client sends. `HalfState` is public
+//! since contracts see it.
 //!
 //! `cut` requires that the stream was begun. `on` says so for each answer that is neither Discard
 //! nor an error of the connection (clause `begun`).
@@ -33,7 +33,7 @@ ghost use Rattle.std.specs.Prelude.{
   MatchOption,
 };
 ghost use Rattle.std.specs.Map.{lookup, set_value};
-ghost use Rattle.flow.specs.declared.halves.HalfVerdict.TheVariants.{Open};
+ghost use Rattle.flow.specs.declared.halves.FrameAction.TheVariants.{Open};
 ghost use Rattle.flow.specs.Halves.{
   Event,
   Received,
@@ -62,7 +62,7 @@ use std::marker::Model;
 
 /// The state of the receiving half of a begun stream.
 #[derive(Clone, Copy, Debug, PartialEq, Eq)]
-pub enum Half {
+pub enum HalfState {
     /// More frames may come.
     Opened,
     /// The client sent its last frame.
@@ -73,7 +73,7 @@ pub enum Half {
 
 /// What is to become of a frame.
 #[derive(Clone, Copy, Debug, PartialEq, Eq)]
-pub enum HalfVerdict {
+pub enum FrameAction {
     /// It opens its stream.
     Open,
     /// It is lawful on its stream.
@@ -90,7 +90,7 @@ pub enum HalfVerdict {
 #[derive(Drop)]
 pub struct Halves {
     greatest: StreamId,
-    halves: IndexMap<StreamId, Half>,
+    halves: IndexMap<StreamId, HalfState>,
 }
 
 impl Model for Halves {
@@ -116,7 +116,7 @@ impl Halves {
     }
 
     /// Judges a frame by what came before it. Only the HEADERS that open a stream take memory.
-    pub fn on(&mut self, head: &FrameHead) -> Result<HalfVerdict, AllocError>
+    pub fn on(&mut self, head: &FrameHead) -> Result<FrameAction, AllocError>
         requires { IsJudged head.now }
         ensures verdict { IfOk result
             (λ answer. (history : List Event) → Stands history self.old → answer
@@ -142,17 +142,17 @@ impl Halves {
             return Ok(verdict);
         }
         if !may_begin(head.stream, self.greatest) {
-            return Ok(HalfVerdict::ConnectionError(ErrorCode::ProtocolError));
+            return Ok(FrameAction::ConnectionError(ErrorCode::ProtocolError));
         }
         if self.halves.len() >= MAX_STREAMS {
-            return Ok(HalfVerdict::Discard);
+            return Ok(FrameAction::Discard);
         }
         if head.kind != FrameKind::Headers {
-            return Ok(HalfVerdict::ConnectionError(ErrorCode::ProtocolError));
+            return Ok(FrameAction::ConnectionError(ErrorCode::ProtocolError));
         }
         self.halves.insert(head.stream, new_half(head))?;
         self.greatest = head.stream;
-        Ok(HalfVerdict::Open)
+        Ok(FrameAction::Open)
     }
 
     /// Marks a begun stream as reset by the server.
@@ -163,13 +163,13 @@ impl Halves {
         ensures few { length self.new.halves ≤ MAX_STREAMS }
     {
         if let Some(half) = self.halves.get_mut(&id) {
-            *half = Half::Reset;
+            *half = HalfState::Reset;
         }
     }
 }
 
 /// Judges a frame on a begun stream, and moves its half on. On another stream there is no verdict.
-fn judge_begun(halves: &mut IndexMap<StreamId, Half>, head: &FrameHead) -> Option<HalfVerdict>
+fn judge_begun(halves: &mut IndexMap<StreamId, HalfState>, head: &FrameHead) -> Option<FrameAction>
     ensures begun { MatchOption (lookup (nat_eq head.now.stream) halves.old.entries) (result ≡ None)
         (λ half. result ≡ Some (on_begun half head.now)) }
     ensures half { MatchOption (lookup (nat_eq head.now.stream) halves.old.entries)
@@ -183,31 +183,31 @@ fn judge_begun(halves: &mut IndexMap<StreamId, Half>, head: &FrameHead) -> Optio
     Some(verdict)
 }
 
-impl Half {
+impl HalfState {
     /// The verdict of a frame on a stream with this half.
-    fn verdict(self, head: &FrameHead) -> HalfVerdict
+    fn verdict(self, head: &FrameHead) -> FrameAction
         ensures { result ≡ on_begun self head.now }
     {
         match (self, head.kind) {
-            (Half::Reset, _) => HalfVerdict::Discard,
-            (Half::Ended, FrameKind::Data | FrameKind::Headers) => {
-                HalfVerdict::StreamError(ErrorCode::StreamClosed)
+            (HalfState::Reset, _) => FrameAction::Discard,
+            (HalfState::Ended, FrameKind::Data | FrameKind::Headers) => {
+                FrameAction::StreamError(ErrorCode::StreamClosed)
             }
-            (Half::Opened, FrameKind::Headers) if !is_last(head) => {
-                HalfVerdict::StreamError(ErrorCode::ProtocolError)
+            (HalfState::Opened, FrameKind::Headers) if !is_last(head) => {
+                FrameAction::StreamError(ErrorCode::ProtocolError)
             }
-            _ => HalfVerdict::Accept,
+            _ => FrameAction::Accept,
         }
     }
 
     /// The half after a frame.
-    fn after(self, head: &FrameHead) -> Half
+    fn after(self, head: &FrameHead) -> HalfState
         ensures { result ≡ half_after self (Received head.now) }
     {
         match self {
-            Half::Reset => Half::Reset,
-            _ if head.kind == FrameKind::RstStream => Half::Reset,
-            Half::Opened if is_last(head) => Half::Ended,
+            HalfState::Reset => HalfState::Reset,
+            _ if head.kind == FrameKind::RstStream => HalfState::Reset,
+            HalfState::Opened if is_last(head) => HalfState::Ended,
             half => half,
         }
     }
@@ -231,12 +231,12 @@ fn may_begin(id: StreamId, greatest: StreamId) -> bool
 }
 
 /// The half of a stream after the HEADERS that begin it.
-fn new_half(head: &FrameHead) -> Half
+fn new_half(head: &FrameHead) -> HalfState
     ensures { result ≡ half_of_new (Received head.now) }
 {
     if is_last(head) {
-        Half::Ended
+        HalfState::Ended
     } else {
-        Half::Opened
+        HalfState::Opened
     }
 }

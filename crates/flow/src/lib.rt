@@ -23,7 +23,7 @@ pub mod send_windows;
 
 pub use book::{Book, BookFault, Marks};
 pub use connection_window::{Balance, ConnectionWindow};
-pub use halves::{Half, HalfVerdict, Halves};
+pub use halves::{FrameAction, HalfState, Halves};
 pub use send_windows::{SendWindows, WindowFault};
 
 /// How many streams a client may open on a connection. What comes on streams after the last of them

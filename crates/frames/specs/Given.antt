@@ -2,7 +2,7 @@
 use Rattle.std.specs.Prelude.{◌≡◌, List, [], ◌∷◌}
 use Rattle.capture.specs.declared.conversation.Side.{Side}
 use Rattle.capture.specs.declared.conversation.Side.TheVariants as sides
-use Rattle.trace.specs.declared.input.Sent.{Sent}
+use Rattle.trace.specs.declared.input.SentBytes.{SentBytes}
 use Rattle.words.specs.declared.frames.Side.{Side as Named}
 use Rattle.words.specs.declared.frames.Side.TheVariants as named
 
@@ -12,7 +12,7 @@ side_of named.Client = sides.Client
 side_of named.Server = sides.Server
 
 -- what the client sent, and then what the server sent
-abbrev pub AreBoth : List Sent → Type 0
+abbrev pub AreBoth : List SentBytes → Type 0
 AreBoth [] = ⊥
 AreBoth (first ∷ []) = ⊥
 AreBoth (first ∷ second ∷ []) = (first.side ≡ sides.Client) × (second.side ≡ sides.Server)

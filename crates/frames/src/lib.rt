@@ -4,13 +4,13 @@
 //! `trace::sent_of` reads: what both sides of a connection sent, or one side, as text or as it is.
 //! Two files have a side each.
 //!
-//! Read `given` for what files have, `printing` for lines, `captured` for those of a capture, and
-//! `run` for the command.
+//! Read `file_content` for what files have, `printing` for lines, `captured` for those of a
+//! capture, and `run` for the command.
 #![tactic(auto)]
 
 mod captured;
 mod fault;
-mod given;
+mod file_content;
 mod printing;
 mod run;
 

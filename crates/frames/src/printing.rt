@@ -4,7 +4,7 @@ use crate::fault::FramesFault;
 use capture::Side;
 use device::{ConnWrite, write_all};
 use std::alloc::Global;
-use trace::{Form, Line, Shown, Trace};
+use trace::{Form, Line, ShownLine, Trace};
 
 /// The microseconds of a second.
 const SECOND: u64 = 1_000_000;
@@ -101,7 +101,7 @@ fn print<W: ConnWrite>(
 ) -> Result<(), FramesFault> {
     let mut text = String::new(alloc);
     for line in lines {
-        let shown = Shown { line, form };
+        let shown = ShownLine { line, form };
         writeln!(text, "conn {number} {shown}")?;
     }
     write_all(output, text.as_bytes())?;

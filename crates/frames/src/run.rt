@@ -2,13 +2,13 @@
 
 use crate::captured::print_capture;
 use crate::fault::FramesFault;
-use crate::given::{Given, both_of, given_by};
+use crate::file_content::{FileContent, both_of, given_by};
 use crate::printing::Printing;
 use device::{ConnRead, ConnWrite, read_all};
 use std::alloc::Global;
 use std::fs;
 use std::rt::Files;
-use trace::{Form, Sent};
+use trace::{Form, SentBytes};
 use words::FramesWords;
 
 /// Prints the frames in the files that the words name, or else in the input.
@@ -44,14 +44,14 @@ where
         }
     };
     match given_by(alloc, file.as_slice(), words.side)? {
-        Given::Packets(packets, fault) => {
+        FileContent::Packets(packets, fault) => {
             print_capture(alloc, packets.as_slice(), form, output)?;
             match fault {
                 Some(fault) => Err(FramesFault::BadInput(fault)),
                 None => Ok(()),
             }
         }
-        Given::Pieces(pieces) => print_pieces(alloc, pieces.as_slice(), form, output),
+        FileContent::Pieces(pieces) => print_pieces(alloc, pieces.as_slice(), form, output),
     }
 }
 
@@ -69,7 +69,7 @@ fn read_file<R: Files + Eprint + AllocGlobal>(rt: &R, name: &str) -> Result<Vec<
 /// Prints the frames of what the sides of one connection sent.
 fn print_pieces<W: ConnWrite>(
     alloc: Global,
-    pieces: &[Sent],
+    pieces: &[SentBytes],
     form: Form,
     output: &mut W,
 ) -> Result<(), FramesFault> {

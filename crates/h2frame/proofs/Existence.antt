@@ -40,7 +40,7 @@ use Rattle.h2frame.specs.declared.frame.Frame.{Frame}
 use Rattle.h2frame.specs.declared.span.Span.{Span}
 use Rattle.h2frame.specs.Flags.{is_padded, has_priority}
 use Rattle.h2frame.specs.Faults.{lacks_increment, frame_fault}
-use Rattle.h2frame.specs.Spelling.{Skipped, IsHead, head_text, spelled}
+use Rattle.h2frame.specs.Spelling.{SkippedParts, IsHead, head_text, spelled}
 use Rattle.h2frame.specs.FrameList.{Entry, Whole, NoIncrement, Spells, Joined, Ends, FrameList}
 use Rattle.h2frame.specs.Reading.{span_at, frame_in, IsSpelledAt, IsFront}
 use Rattle.h2frame.proofs.Heads.{AreBytes}
@@ -120,7 +120,7 @@ each_has_list bytes all =
 
 -- ---- what is written
 
-nothing : Skipped
+nothing : SkippedParts
 nothing = record { reserved = 0; priority = []; padding = [] }
 
 unpadded_payload : (p : Bool) (content : List ℕ) → p ≡ false

@@ -50,7 +50,7 @@ use Rattle.h2frame.specs.declared.frame.FrameHead.{FrameHead}
 use Rattle.h2frame.specs.declared.span.Span.{Span}
 use Rattle.h2frame.specs.Flags.{is_padded, has_priority}
 use Rattle.h2frame.specs.Faults.{max_payload, may_be_on, may_have_length, overhead, head_fault}
-use Rattle.h2frame.specs.Spelling.{Skipped, IsHead, Fits, head_text, spelling}
+use Rattle.h2frame.specs.Spelling.{SkippedParts, IsHead, Fits, head_text, spelling}
 use Rattle.h2frame.specs.FrameList.{BeginsWith, HasFaultyHead, IsOverpadded, IsFaulty}
 use Rattle.h2frame.specs.Reading.{
   head_at,
@@ -187,7 +187,7 @@ spelled_at head bytes begun fine whole le =
     ∙ ap (λ (ys : List ℕ). take m ys) (drop-drop o 9 bytes) in
     let q : Parts (is_padded head) (has_priority head) payload (take m (drop (9 + o) bytes)) =
     subst (λ (c : List ℕ). Parts (is_padded head) (has_priority head) payload c) content p in
-    let skipped : Skipped =
+    let skipped : SkippedParts =
     record { reserved = begun.0; priority = q.priority; padding = q.padding } in
     let rest = drop (9 + head.length) bytes in
     let text : bytes ≡ (head_text begun.0 head ++ payload) ++ rest =

@@ -52,7 +52,7 @@ use Rattle.h2frame.specs.Faults.{
   head_fault,
   lacks_increment,
 }
-use Rattle.h2frame.specs.Spelling.{Skipped, Fits, head_text, payload_text, spelling}
+use Rattle.h2frame.specs.Spelling.{SkippedParts, Fits, head_text, payload_text, spelling}
 use Rattle.h2frame.specs.FrameList.{
   Entry,
   Whole,
@@ -176,7 +176,7 @@ frame_read bytes head content padding payload rest begun fine size read =
     judged (record { head = head; content = ys }) (drop (9 + head.length) bytes)) middle
     ∙ ap (λ (ys : List ℕ). judged (record { head = head; content = content }) ys) left
 
-front_of_frame : (frame : Frame) (skipped : Skipped) (rest : List ℕ) → Fits frame skipped
+front_of_frame : (frame : Frame) (skipped : SkippedParts) (rest : List ℕ) → Fits frame skipped
     → head_fault frame.head ≡ None → front_of (spelling frame skipped ++ rest) ≡ judged frame rest
 front_of_frame frame skipped rest fits fine =
     let payload = payload_text frame.head skipped frame.content in

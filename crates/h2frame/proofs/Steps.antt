@@ -46,7 +46,7 @@ use Rattle.h2frame.specs.declared.frame.FrameHead.{FrameHead}
 use Rattle.h2frame.specs.declared.span.Span.{Span}
 use Rattle.h2frame.specs.Flags.{is_padded, has_priority}
 use Rattle.h2frame.specs.Faults.{overhead, head_fault, lacks_increment, frame_fault}
-use Rattle.h2frame.specs.Spelling.{Skipped, spelling}
+use Rattle.h2frame.specs.Spelling.{SkippedParts, spelling}
 use Rattle.h2frame.specs.FrameList.{
   Entry,
   Whole,
@@ -328,7 +328,7 @@ no_overhead true q content padding total a b c e = absurd cc
 no_overhead false true content padding total a b c e = absurd cc
 no_overhead false false content padding total a b c e = omega arith
 
-all_content : (p q : Bool) (o : ℕ) (head : FrameHead) (skipped : Skipped) (content : List ℕ)
+all_content : (p q : Bool) (o : ℕ) (head : FrameHead) (skipped : SkippedParts) (content : List ℕ)
     → cond p 1 0 + cond q 5 0 ≡ o → length skipped.priority ≡ cond q 5 0
     → (p ≡ false → skipped.padding ≡ [])
     → length

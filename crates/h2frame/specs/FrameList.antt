@@ -35,7 +35,7 @@ use Rattle.h2frame.specs.declared.frame.Frame.{Frame}
 use Rattle.h2frame.specs.declared.frame.FrameHead.{FrameHead}
 use Rattle.h2frame.specs.Flags.{is_padded, has_priority}
 use Rattle.h2frame.specs.Faults.{overhead, head_fault, frame_fault}
-use Rattle.h2frame.specs.Spelling.{Skipped, IsHead, Fits, head_text, spelling}
+use Rattle.h2frame.specs.Spelling.{SkippedParts, IsHead, Fits, head_text, spelling}
 
 -- a frame, or the stream of a WINDOW_UPDATE without an increment, which is an error of that stream
 -- alone
@@ -46,7 +46,7 @@ pub data Entry : Type 0 where
 -- the text spells the frame, and this is its first fault
 abbrev pub IsSpelling : List ℕ → Frame → Option FrameFault → Type 0
 IsSpelling text frame fault =
-    (skipped : Skipped) × Fits frame skipped × (text ≡ spelling frame skipped)
+    (skipped : SkippedParts) × Fits frame skipped × (text ≡ spelling frame skipped)
     × (frame_fault frame ≡ fault)
 
 abbrev pub Spells : List ℕ → Entry → Type 0

@@ -32,7 +32,7 @@ use Rattle.h2frame.specs.declared.span.Span.{Span}
 use Rattle.h2frame.specs.Flags.{is_padded}
 use Rattle.h2frame.specs.Faults.{overhead, head_fault}
 use Rattle.h2frame.specs.Kind.{kind_of}
-use Rattle.h2frame.specs.Spelling.{Skipped, Fits, spelling}
+use Rattle.h2frame.specs.Spelling.{SkippedParts, Fits, spelling}
 use Rattle.h2frame.specs.FrameList.{Joined, IsUnfinished, IsFaulty, answered, HasCause}
 
 -- the head that nine bytes spell
@@ -84,7 +84,7 @@ frame_in span bytes = record { head = span.head; content = take span.len (drop s
 -- the bytes begin with a spelling of the frame that is in them
 abbrev pub IsSpelledAt : Span → List ℕ → Type 0
 IsSpelledAt span bytes =
-    (skipped : Skipped) × Fits (frame_in span bytes) skipped × (head_fault span.head ≡ None)
+    (skipped : SkippedParts) × Fits (frame_in span bytes) skipped × (head_fault span.head ≡ None)
     × (bytes ≡ spelling (frame_in span bytes) skipped ++ drop (9 + span.head.length) bytes)
 
 -- what the answer says of the bytes

@@ -21,7 +21,7 @@ use Rattle.h2frame.specs.Flags.{is_padded, has_priority}
 use Rattle.h2frame.specs.Kind.{code_of, kind_of}
 
 -- what a spelling has beside its frame, which no reader keeps
-pub record Skipped : Type 0 where
+pub record SkippedParts : Type 0 where
   -- the reserved bit, 0 or 1
   pub reserved : ℕ
   -- the priority of HEADERS, which is deprecated
@@ -37,12 +37,12 @@ head_text reserved head =
 
 -- the content, after the padding's length and the priority if the flags have them, and before the
 -- padding
-abbrev pub payload_text : FrameHead → Skipped → List ℕ → List ℕ
+abbrev pub payload_text : FrameHead → SkippedParts → List ℕ → List ℕ
 payload_text head skipped content =
     (if is_padded head then length skipped.padding ∷ [] else [])
     ++ (skipped.priority ++ (content ++ skipped.padding))
 
-abbrev pub spelling : Frame → Skipped → List ℕ
+abbrev pub spelling : Frame → SkippedParts → List ℕ
 spelling frame skipped =
     head_text skipped.reserved frame.head ++ payload_text frame.head skipped frame.content
 
@@ -53,7 +53,7 @@ pub record IsHead (head : FrameHead) : Type 0 where
   pub length : head.length < 2 ^ 24
 
 -- the frame can be spelled with these skipped parts
-pub record Fits (frame : Frame) (skipped : Skipped) : Type 0 where
+pub record Fits (frame : Frame) (skipped : SkippedParts) : Type 0 where
   pub head : IsHead frame.head
   pub reserved : skipped.reserved < 2
   pub priority : length skipped.priority ≡ (if has_priority frame.head then 5 else 0)

@@ -1,4 +1,4 @@
-//! HTTP/2 frames: reading and writing (RFC 9113, sections 4 and 6).
+//! Reads and writes HTTP/2 frames (RFC 9113, sections 4 and 6).
 //!
 //! `FrameReader` reads frames from the bytes after a connection's preface, in whatever pieces they
 //! come, and `write_frame` writes one. The meaning of bytes is defined apart from both:

@@ -25,7 +25,7 @@ use Rattle.std.proofs.Common.{
 }
 use Rattle.handlers.specs.declared.status.Status.{Status}
 use Rattle.handlers.specs.declared.reply.Reply.{Reply}
-use Rattle.handlers.specs.declared.step.Step.{Step}
+use Rattle.handlers.specs.declared.step.MethodStep.{MethodStep}
 use Rattle.handlers.specs.Steps.{done, replying}
 use Rattle.handlers.specs.Requests.{OutputVerdict}
 use Rattle.handlers.specs.Answers.{
@@ -56,8 +56,8 @@ GoesOn replies all = (rest : List Reply) × (all ≡ replies ++ rest)
 
 -- ---- methods that reply at the end alone
 
-silent : (judged : List (List ℕ) → Bool → Step → Type 0)
-    → ((messages : List (List ℕ)) (answer : Step) → judged messages false answer
+silent : (judged : List (List ℕ) → Bool → MethodStep → Type 0)
+    → ((messages : List (List ℕ)) (answer : MethodStep) → judged messages false answer
     → answer.replies ≡ [])
     → HasGrowingReplies judged
 silent judged none messages more ended answer later is also =
@@ -70,11 +70,11 @@ no_single (Ok replies) [] = refl
 no_single (Ok replies) (second ∷ others) = refl
 
 none_of_single : (judged : List ℕ → Result (List Reply) Status → Type 0)
-    (messages : List (List ℕ)) (answer : Step)
+    (messages : List (List ℕ)) (answer : MethodStep)
     → AnswersSingle judged messages false answer → answer.replies ≡ []
-none_of_single judged [] answer is = ap (λ (s : Step). s.replies) is
+none_of_single judged [] answer is = ap (λ (s : MethodStep). s.replies) is
 none_of_single judged (message ∷ others) answer is =
-    ap (λ (s : Step). s.replies) is.2 ∙ no_single is.0 others
+    ap (λ (s : MethodStep). s.replies) is.2 ∙ no_single is.0 others
 
 pub single_grows : (judged : List ℕ → Result (List Reply) Status → Type 0)
     → HasGrowingReplies (AnswersSingle judged)
@@ -83,13 +83,13 @@ single_grows judged = silent (AnswersSingle judged) (none_of_single judged)
 pub half_grows : (judged : List ℕ → Result (List Reply) Status → Type 0)
     → HasGrowingReplies (AnswersHalf judged)
 half_grows judged =
-    silent (AnswersHalf judged) (λ messages answer is. ap (λ (s : Step). s.replies) is)
+    silent (AnswersHalf judged) (λ messages answer is. ap (λ (s : MethodStep). s.replies) is)
 
 none_of_sum : (judged : List ℕ → Result ℕ Status → Type 0)
-    (messages : List (List ℕ)) (answer : Step)
+    (messages : List (List ℕ)) (answer : MethodStep)
     → AnswersSum judged messages false answer → answer.replies ≡ []
-none_of_sum judged messages answer (inl all) = ap (λ (s : Step). s.replies) all.2
-none_of_sum judged messages answer (inr by) = ap (λ (s : Step). s.replies) by.8
+none_of_sum judged messages answer (inl all) = ap (λ (s : MethodStep). s.replies) all.2
+none_of_sum judged messages answer (inr by) = ap (λ (s : MethodStep). s.replies) by.8
 
 pub sum_grows : (judged : List ℕ → Result ℕ Status → Type 0) → HasGrowingReplies (AnswersSum judged)
 sum_grows judged = silent (AnswersSum judged) (none_of_sum judged)
@@ -150,13 +150,13 @@ before_begins {A} judged one (m ∷ ms) more (b ∷ bs) last after (a ∷ xs) (y
     begun_push a y xs ys first (before_begins judged one ms more bs last after xs ys status taken.1
     also.1 ends (tail_same m b (ms ++ more) (bs ++ last ∷ after) same))
 
-replies_of_all : (asked : List (List Reply)) (ended : Bool) (answer : Step)
+replies_of_all : (asked : List (List Reply)) (ended : Bool) (answer : MethodStep)
     → answer ≡ (if ended then done (flatten asked) else replying (flatten asked))
     → answer.replies ≡ flatten asked
-replies_of_all asked true answer is = ap (λ (s : Step). s.replies) is
-replies_of_all asked false answer is = ap (λ (s : Step). s.replies) is
+replies_of_all asked true answer is = ap (λ (s : MethodStep). s.replies) is
+replies_of_all asked false answer is = ap (λ (s : MethodStep). s.replies) is
 
-as_replies : (asked all : List Reply) (answer later : Step) → answer.replies ≡ asked
+as_replies : (asked all : List Reply) (answer later : MethodStep) → answer.replies ≡ asked
     → later.replies ≡ all → GoesOn asked all → GoesOn answer.replies later.replies
 as_replies asked all answer later is also (rest, begins) =
     (rest, also ∙ begins ∙ ap (λ (r : List Reply). r ++ rest) (sym is))
@@ -169,7 +169,7 @@ full judged one messages more ended answer later (inl all) (inl also) =
     (more_asked all.0 also.0 (taken_begin judged one messages more all.0 also.0 all.1 also.1))
 full judged one messages more ended answer later (inl all) (inr by) =
     as_replies (flatten all.0) (flatten by.4) answer later (replies_of_all all.0 false answer all.2)
-    (ap (λ (s : Step). s.replies) by.8)
+    (ap (λ (s : MethodStep). s.replies) by.8)
     (more_asked all.0 by.4
     (before_begins judged one messages more by.0 by.1 by.2 all.0 by.4 by.6 all.1 by.5 by.7 by.3))
 full judged one messages more ended answer later (inr by) (inl all) =
@@ -186,8 +186,9 @@ full judged one messages more ended answer later (inr by) (inr also) =
     let asked =
     one_taken judged one also.0 by.4 also.4
     (subst (λ ms. AreTaken judged ms by.4) place.0 by.5) also.5 in
-    as_replies (flatten by.4) (flatten also.4) answer later (ap (λ (s : Step). s.replies) by.8)
-    (ap (λ (s : Step). s.replies) also.8)
+    as_replies (flatten by.4) (flatten also.4) answer later
+    (ap (λ (s : MethodStep). s.replies) by.8)
+    (ap (λ (s : MethodStep). s.replies) also.8)
     ([], ap flatten (sym asked) ∙ sym (append-nil (flatten by.4)))
 
 pub full_grows : HasGrowingReplies (AnswersFull OutputVerdict)

@@ -18,7 +18,7 @@ use Rattle.std.proofs.Common.{
 }
 use Rattle.handlers.specs.declared.status.Status.{Status}
 use Rattle.handlers.specs.declared.reply.Reply.{Reply}
-use Rattle.handlers.specs.declared.step.Step.{Step}
+use Rattle.handlers.specs.declared.step.MethodStep.{MethodStep}
 use Rattle.handlers.specs.Answers.{
   single_answer,
   AnswersSingle,
@@ -28,8 +28,8 @@ use Rattle.handlers.specs.Answers.{
   HasStatusAtEnd,
 }
 
-same_status : (answer other : Step) → answer ≡ other → IsSome other.ends → IsSome answer.ends
-same_status answer other same has = subst (λ (step : Step). IsSome step.ends) (sym same) has
+same_status : (answer other : MethodStep) → answer ≡ other → IsSome other.ends → IsSome answer.ends
+same_status answer other same has = subst (λ (step : MethodStep). IsSome step.ends) (sym same) has
 
 single : (verdict : Result (List Reply) Status) (others : List (List ℕ))
     → IsSome (single_answer verdict others true).ends

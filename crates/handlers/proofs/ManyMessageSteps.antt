@@ -34,7 +34,7 @@ use Rattle.std.specs.Prelude.{is_some}
 use Rattle.std.proofs.lemmas.List.Sums.{fold-append}
 use Rattle.handlers.specs.declared.status.Status.{Status}
 use Rattle.handlers.specs.declared.reply.Reply.{Reply}
-use Rattle.handlers.specs.declared.step.Step.{Step}
+use Rattle.handlers.specs.declared.step.MethodStep.{MethodStep}
 use Rattle.handlers.specs.declared.status.Refusal.TheVariants.{SumOutOfRange}
 use Rattle.handlers.specs.Statuses.{status_of}
 use Rattle.handlers.specs.Steps.{nothing, replying, ending, finished, joined}
@@ -68,19 +68,19 @@ flatten_push (first ∷ lists) last =
 
 -- one more request is answered
 pub one_more : (judged : List ℕ → Result (List Reply) Status → Type 0) (messages : List (List ℕ))
-    (given : Step) (message : List ℕ) (replies : List Reply)
+    (given : MethodStep) (message : List ℕ) (replies : List Reply)
     → AllAnswered judged messages false given → judged message (Ok replies)
     → AllAnswered judged (messages ++ message ∷ []) false (joined given (replying replies))
 one_more judged messages given message replies all is = (
   all.0 ++ replies ∷ [],
   taken_push judged messages all.0 message replies all.1 is,
-  ap (λ (g : Step). joined g (replying replies)) all.2
+  ap (λ (g : MethodStep). joined g (replying replies)) all.2
       ∙ ap (λ (t : List Reply). replying t) (sym (flatten_push all.0 replies)),
 )
 
 -- behind a status nothing is added
 pub stays_by_one : (judged : List ℕ → Result (List Reply) Status → Type 0)
-    (messages : List (List ℕ)) (given : Step) (message : List ℕ)
+    (messages : List (List ℕ)) (given : MethodStep) (message : List ℕ)
     → EndedByOne judged messages given
     → EndedByOne judged (messages ++ message ∷ []) (joined given nothing)
 stays_by_one judged messages given message ended = (
@@ -93,7 +93,7 @@ stays_by_one judged messages given message ended = (
   ended.5,
   ended.6,
   ended.7,
-  ap (λ (g : Step). joined g nothing) ended.8
+  ap (λ (g : MethodStep). joined g nothing) ended.8
       ∙ ap (λ (t : List Reply). ending t ended.6) (append-nil (flatten ended.4)),
 )
 
@@ -103,7 +103,7 @@ sum_push : (amounts : List ℕ) (n : ℕ) → sum (amounts ++ n ∷ []) ≡ sum 
 sum_push amounts n = fold-append (λ (a b : ℕ). a + b) 0 amounts (n ∷ [])
 
 pub sum_more : (judged : List ℕ → Result ℕ Status → Type 0) (messages : List (List ℕ))
-    (given : Step) (message : List ℕ) (before n total : ℕ)
+    (given : MethodStep) (message : List ℕ) (before n total : ℕ)
     → AllAdded judged messages before × (given ≡ nothing) → judged message (Ok n)
     → (before + n ≤ 2147483647) × (total ≡ before + n)
     → AllAdded judged (messages ++ message ∷ []) total × (joined given nothing ≡ nothing)
@@ -114,11 +114,11 @@ sum_more judged messages given message before n total added is fits = (
     fits.1 ∙ ap (λ t. t + n) added.0.2 ∙ sym (sum_push added.0.0 n),
     let same = fits.1 in let bound = fits.0 in omega (arith, same, bound),
   ),
-  ap (λ (g : Step). joined g nothing) added.1,
+  ap (λ (g : MethodStep). joined g nothing) added.1,
 )
 
 pub sum_over : (judged : List ℕ → Result ℕ Status → Type 0) (messages : List (List ℕ))
-    (given : Step) (message : List ℕ) (before n : ℕ)
+    (given : MethodStep) (message : List ℕ) (before n : ℕ)
     → AllAdded judged messages before × (given ≡ nothing) → judged message (Ok n)
     → ¬ (before + n ≤ 2147483647)
     → EndedBySum judged (messages ++ message ∷ [])
@@ -132,11 +132,11 @@ sum_over judged messages given message before n added is over = (
   added.0,
   status_of SumOutOfRange,
   inr (n, is, omega (arith, over), refl),
-  ap (λ (g : Step). joined g (ending [] (status_of SumOutOfRange))) added.1,
+  ap (λ (g : MethodStep). joined g (ending [] (status_of SumOutOfRange))) added.1,
 )
 
 pub stays_by_sum : (judged : List ℕ → Result ℕ Status → Type 0) (messages : List (List ℕ))
-    (given : Step) (message : List ℕ)
+    (given : MethodStep) (message : List ℕ)
     → EndedBySum judged messages given
     → EndedBySum judged (messages ++ message ∷ []) (joined given nothing)
 stays_by_sum judged messages given message ended = (
@@ -149,22 +149,24 @@ stays_by_sum judged messages given message ended = (
   ended.5,
   ended.6,
   ended.7,
-  ap (λ (g : Step). joined g nothing) ended.8,
+  ap (λ (g : MethodStep). joined g nothing) ended.8,
 )
 
 -- ---- all at the end
 
-step_is : (step : Step) (replies : List Reply) → step.replies ≡ replies → step.ends ≡ None
+step_is : (step : MethodStep) (replies : List Reply) → step.replies ≡ replies → step.ends ≡ None
     → step ≡ replying replies
 step_is step replies same none =
-    ap (λ (r : List Reply). let s : Step = record { replies = r; ends = step.ends } in s) same
-    ∙ ap (λ (e : Option Status). let s : Step = record { replies = replies; ends = e } in s) none
+    ap (λ (r : List Reply). let s : MethodStep = record { replies = r; ends = step.ends } in s) same
+    ∙ ap (λ (e : Option Status). let s : MethodStep = record { replies = replies; ends = e } in s)
+    none
 
-ended_is : (step : Step) (replies : List Reply) (status : Status) → step.replies ≡ replies
+ended_is : (step : MethodStep) (replies : List Reply) (status : Status) → step.replies ≡ replies
     → step.ends ≡ Some status → step ≡ ending replies status
 ended_is step replies status same ends =
-    ap (λ (r : List Reply). let s : Step = record { replies = r; ends = step.ends } in s) same
-    ∙ ap (λ (e : Option Status). let s : Step = record { replies = replies; ends = e } in s) ends
+    ap (λ (r : List Reply). let s : MethodStep = record { replies = r; ends = step.ends } in s) same
+    ∙ ap (λ (e : Option Status). let s : MethodStep = record { replies = replies; ends = e } in s)
+    ends
 
 -- what one request is answered
 pub one_asks : (judged : List ℕ → Result (List Reply) Status → Type 0) (message : List ℕ)
@@ -190,17 +192,17 @@ none_is (Some status) is = cc
 
 -- nothing ended the call yet
 goes_on : (judged : List ℕ → Result (List Reply) Status → Type 0)
-    (messages : List (List ℕ)) (held : Step)
+    (messages : List (List ℕ)) (held : MethodStep)
     → held.ends ≡ None → AnswersFull judged messages false held
     → AllAnswered judged messages false held
 goes_on judged messages held none (inl all) = all
 goes_on judged messages held none (inr by) =
     let wrong : ◌≡◌ {A = Option Status} (Some by.6) None =
-    sym (ap (λ (s : Step). s.ends) by.8) ∙ none in
+    sym (ap (λ (s : MethodStep). s.ends) by.8) ∙ none in
     absurd (some_is_not by.6 wrong)
 
 pub hold_asked : (judged : List ℕ → Result (List Reply) Status → Type 0) (messages : List (List ℕ))
-    (held new : Step) (message : List ℕ) (more : List Reply)
+    (held new : MethodStep) (message : List ℕ) (more : List Reply)
     → is_some held.ends ≡ false → new.replies ≡ held.replies ++ more → new.ends ≡ held.ends
     → judged message (Ok more)
     → AnswersFull judged messages false held
@@ -208,7 +210,7 @@ pub hold_asked : (judged : List ℕ → Result (List Reply) Status → Type 0) (
 hold_asked judged messages held new message more none replies ends is answer =
     let all = goes_on judged messages held (none_is held.ends none) answer in
     let same : new ≡ replying (flatten all.0 ++ more) =
-    step_is new (flatten all.0 ++ more) (replies ∙ ap (λ (s : Step). s.replies ++ more) all.2)
+    step_is new (flatten all.0 ++ more) (replies ∙ ap (λ (s : MethodStep). s.replies ++ more) all.2)
     (ends ∙ none_is held.ends none) in
     inl (
       all.0 ++ more ∷ [],
@@ -217,7 +219,7 @@ hold_asked judged messages held new message more none replies ends is answer =
     )
 
 pub hold_ended : (judged : List ℕ → Result (List Reply) Status → Type 0) (messages : List (List ℕ))
-    (held new : Step) (message : List ℕ) (status : Status)
+    (held new : MethodStep) (message : List ℕ) (status : Status)
     → is_some held.ends ≡ false → new.replies ≡ held.replies → new.ends ≡ Some status
     → judged message (Err status)
     → AnswersFull judged messages false held
@@ -233,15 +235,15 @@ hold_ended judged messages held new message status none replies ends is answer =
       all.1,
       status,
       is,
-      ended_is new (flatten all.0) status (replies ∙ ap (λ (s : Step). s.replies) all.2) ends,
+      ended_is new (flatten all.0) status (replies ∙ ap (λ (s : MethodStep). s.replies) all.2) ends,
     )
 
 pub hold_same : (judged : List ℕ → Result (List Reply) Status → Type 0) (messages : List (List ℕ))
-    (held : Step) (message : List ℕ)
+    (held : MethodStep) (message : List ℕ)
     → is_some held.ends ≡ true → AnswersFull judged messages false held
     → AnswersFull judged (messages ++ message ∷ []) false held
 hold_same judged messages held message ended (inl all) =
-    absurd (true_is_not (sym ended ∙ ap (λ (s : Step). is_some s.ends) all.2))
+    absurd (true_is_not (sym ended ∙ ap (λ (s : MethodStep). is_some s.ends) all.2))
 hold_same judged messages held message ended (inr by) = inr (
   by.0,
   by.1,
@@ -256,17 +258,18 @@ hold_same judged messages held message ended (inr by) = inr (
 )
 
 pub all_finished : (judged : List ℕ → Result (List Reply) Status → Type 0)
-    (messages : List (List ℕ)) (held : Step)
+    (messages : List (List ℕ)) (held : MethodStep)
     → AnswersFull judged messages false held → AnswersFull judged messages true (finished held)
 all_finished judged messages held (inl all) =
-    inl (all.0, all.1, ap (λ (s : Step). finished s) all.2)
+    inl (all.0, all.1, ap (λ (s : MethodStep). finished s) all.2)
 all_finished judged messages held (inr by) =
-    inr (by.0, by.1, by.2, by.3, by.4, by.5, by.6, by.7, ap (λ (s : Step). finished s) by.8)
+    inr (by.0, by.1, by.2, by.3, by.4, by.5, by.6, by.7, ap (λ (s : MethodStep). finished s) by.8)
 
 pub half_end : (judged : List ℕ → Result (List Reply) Status → Type 0) (messages : List (List ℕ))
-    (given held : Step)
+    (given held : MethodStep)
     → AnswersFull judged messages false held × (given ≡ nothing)
     → AnswersHalf judged messages true (joined given (finished held))
 half_end judged messages given held stands =
-    subst (λ (s : Step). AnswersFull judged messages true (joined s (finished held))) (sym stands.1)
+    subst (λ (s : MethodStep).
+    AnswersFull judged messages true (joined s (finished held))) (sym stands.1)
     (all_finished judged messages held stands.0)

@@ -26,7 +26,7 @@ use Rattle.std.proofs.Common.{
 use Rattle.handlers.specs.declared.status.Status.{Status}
 use Rattle.handlers.specs.declared.status.Refusal.TheVariants.{WrongNumber}
 use Rattle.handlers.specs.declared.reply.Reply.{Reply}
-use Rattle.handlers.specs.declared.step.Step.{Step}
+use Rattle.handlers.specs.declared.step.MethodStep.{MethodStep}
 use Rattle.handlers.specs.Statuses.{status_of}
 use Rattle.handlers.specs.Steps.{nothing, ending, done, joined, first_status}
 use Rattle.handlers.specs.Answers.{AnswersSingle, single_answer, StandsEnded}
@@ -56,7 +56,7 @@ with_ok (Err e) P N R holds beside gives = holds
 -- ---- the first message
 
 pub first_asks : (judged : List ℕ → Result (List Reply) Status → Type 0) (messages : List (List ℕ))
-    (given : Step) (message : List ℕ) (replies : List Reply)
+    (given : MethodStep) (message : List ℕ) (replies : List Reply)
     → (messages ≡ []) × (given ≡ nothing) → judged message (Ok replies)
     → AnswersSingle judged (messages ++ message ∷ []) false (joined given nothing)
 first_asks judged messages given message replies fresh is =
@@ -64,7 +64,7 @@ first_asks judged messages given message replies fresh is =
     [] given nothing fresh.0 fresh.1 (Ok replies, is, refl)
 
 pub first_ends : (judged : List ℕ → Result (List Reply) Status → Type 0) (messages : List (List ℕ))
-    (given : Step) (message : List ℕ) (status : Status)
+    (given : MethodStep) (message : List ℕ) (status : Status)
     → (messages ≡ []) × (given ≡ nothing) → judged message (Err status)
     → StandsEnded (AnswersSingle judged) (messages ++ message ∷ [])
     (joined given (ending [] status))
@@ -76,7 +76,7 @@ first_ends judged messages given message status fresh is =
 -- ---- a second one
 
 pub second_ends : (judged : List ℕ → Result (List Reply) Status → Type 0) (messages : List (List ℕ))
-    (given : Step) (first : List ℕ) (message : List ℕ) (replies : List Reply)
+    (given : MethodStep) (first : List ℕ) (message : List ℕ) (replies : List Reply)
     → messages ≡ first ∷ [] → given ≡ nothing → judged first (Ok replies)
     → StandsEnded (AnswersSingle judged) (messages ++ message ∷ [])
     (joined given (ending [] (status_of WrongNumber)))
@@ -89,7 +89,7 @@ second_ends judged messages given first message replies one none is =
 -- ---- the end
 
 pub end_after_none : (judged : List ℕ → Result (List Reply) Status → Type 0)
-    (messages : List (List ℕ)) (given : Step)
+    (messages : List (List ℕ)) (given : MethodStep)
     → (messages ≡ []) × (given ≡ nothing)
     → AnswersSingle judged messages true (joined given (ending [] (status_of WrongNumber)))
 end_after_none judged messages given fresh =
@@ -97,7 +97,7 @@ end_after_none judged messages given fresh =
     messages [] given nothing fresh.0 fresh.1 refl
 
 pub end_after_one : (judged : List ℕ → Result (List Reply) Status → Type 0)
-    (messages : List (List ℕ)) (given : Step) (first : List ℕ) (replies : List Reply)
+    (messages : List (List ℕ)) (given : MethodStep) (first : List ℕ) (replies : List Reply)
     → messages ≡ first ∷ [] → given ≡ nothing → judged first (Ok replies)
     → AnswersSingle judged messages true (joined given (done replies))
 end_after_one judged messages given first replies one none is =
@@ -106,7 +106,7 @@ end_after_one judged messages given first replies one none is =
 
 -- an end that judges the one message again, and finds that it ends the call
 pub end_refused : (judged : List ℕ → Result (List Reply) Status → Type 0) (messages : List (List ℕ))
-    (given : Step) (first : List ℕ) (status : Status)
+    (given : MethodStep) (first : List ℕ) (status : Status)
     → messages ≡ first ∷ [] → given ≡ nothing → judged first (Err status)
     → AnswersSingle judged messages true (joined given (ending [] status))
 end_refused judged messages given first status one none is =
@@ -115,22 +115,22 @@ end_refused judged messages given first status one none is =
 
 -- ---- behind a status
 
-stays_by : (verdict : Result (List Reply) Status) (others : List (List ℕ)) (given : Step)
+stays_by : (verdict : Result (List Reply) Status) (others : List (List ℕ)) (given : MethodStep)
     (message : List ℕ)
     → given ≡ single_answer verdict others false → IsSome given.ends
     → (joined given nothing ≡ single_answer verdict (others ++ message ∷ []) false)
     × (joined given nothing ≡ single_answer verdict others true)
 stays_by (Err status) others given message is has =
-    let e = ap (λ (g : Step). joined g nothing) is in
+    let e = ap (λ (g : MethodStep). joined g nothing) is in
     (e, e)
 stays_by (Ok replies) (second ∷ others) given message is has =
-    let e = ap (λ (g : Step). joined g nothing) is in
+    let e = ap (λ (g : MethodStep). joined g nothing) is in
     (e, e)
 stays_by (Ok replies) [] given message is has =
-    absurd (none_is_not (subst (λ (g : Step). IsSome g.ends) is has))
+    absurd (none_is_not (subst (λ (g : MethodStep). IsSome g.ends) is has))
 
 pub stays_ended : (judged : List ℕ → Result (List Reply) Status → Type 0) (messages : List (List ℕ))
-    (given : Step) (message : List ℕ)
+    (given : MethodStep) (message : List ℕ)
     → StandsEnded (AnswersSingle judged) messages given
     → StandsEnded (AnswersSingle judged) (messages ++ message ∷ []) (joined given nothing)
 stays_ended judged [] given message ended = absurd (ended.0 refl)
@@ -141,7 +141,7 @@ stays_ended judged (first ∷ others) given message ended = (
 )
 
 pub end_when_ended : (judged : List ℕ → Result (List Reply) Status → Type 0)
-    (messages : List (List ℕ)) (given : Step)
+    (messages : List (List ℕ)) (given : MethodStep)
     → StandsEnded (AnswersSingle judged) messages given
     → AnswersSingle judged messages true (joined given nothing)
 end_when_ended judged [] given ended = absurd (ended.0 refl)

@@ -27,7 +27,7 @@ use Rattle.testproto.specs.Laws.{one_streaming_input_call_request}
 use Rattle.testproto.specs.Messages.{AcceptsStreamingInputCallRequest, IsStreamingInputCallRequest}
 use Rattle.handlers.specs.declared.status.Status.{Status}
 use Rattle.handlers.specs.declared.reply.Reply.TheVariants.{Sum as SumReply}
-use Rattle.handlers.specs.declared.step.Step.{Step}
+use Rattle.handlers.specs.declared.step.MethodStep.{MethodStep}
 use Rattle.handlers.specs.Steps.{nothing, ending, done}
 use Rattle.handlers.specs.Requests.{judge_input, InputVerdict}
 use Rattle.handlers.specs.Answers.{
@@ -156,7 +156,7 @@ one_sum_end judged one start (m ∷ ms) (o ∷ os) last other after more (a ∷ 
 
 -- an end behind messages, against all of them added up
 added_or_ended : (judged : List ℕ → Result ℕ Status → Type 0) → IsOneVerdict judged
-    → (messages : List (List ℕ)) (total : ℕ) (answer : Step) → AllAdded judged messages total
+    → (messages : List (List ℕ)) (total : ℕ) (answer : MethodStep) → AllAdded judged messages total
     → EndedBySum judged messages answer → ⊥
 added_or_ended judged one messages total answer all by =
     let whole = all.2 in

@@ -58,7 +58,7 @@ use Rattle.testproto.specs.declared.messages.StreamingOutputCallRequest.{Streami
 use Rattle.handlers.specs.declared.status.Status.{Status}
 use Rattle.handlers.specs.declared.reply.Reply.{Reply}
 use Rattle.handlers.specs.declared.reply.Reply.TheVariants.{Zeros, Sum as SumReply}
-use Rattle.handlers.specs.declared.step.Step.{Step}
+use Rattle.handlers.specs.declared.step.MethodStep.{MethodStep}
 use Rattle.handlers.specs.declared.status.Refusal.TheVariants.{NotCompressed, WrongNumber}
 use Rattle.handlers.specs.Statuses.{status_of}
 use Rattle.handlers.specs.Steps.{nothing, ending, done, replying}
@@ -256,8 +256,10 @@ output_asks =
 
 -- ---- answers
 
-of_same : (answer other : Step) → answer ≡ other → AreShort other.replies → AreShort answer.replies
-of_same answer other same short = subst (λ (step : Step). AreShort step.replies) (sym same) short
+of_same : (answer other : MethodStep) → answer ≡ other → AreShort other.replies
+    → AreShort answer.replies
+of_same answer other same short =
+    subst (λ (step : MethodStep). AreShort step.replies) (sym same) short
 
 none_short : (ended : Bool)
     → AreShort (if ended then ending [] (status_of WrongNumber) else nothing).replies

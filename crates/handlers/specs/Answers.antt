@@ -31,7 +31,7 @@ use Rattle.handlers.specs.declared.reply.Reply.TheVariants.{Empty, Zeros, Sum as
 use Rattle.handlers.specs.declared.state.MethodState.{MethodState}
 use Rattle.handlers.specs.declared.state.MethodState.TheVariants.{Fresh, Sum, Taken, Held, Ended}
 use Rattle.handlers.specs.Requests.{EmptyVerdict, SimpleVerdict, InputVerdict, OutputVerdict}
-use Rattle.handlers.specs.declared.step.Step.{Step}
+use Rattle.handlers.specs.declared.step.MethodStep.{MethodStep}
 use Rattle.handlers.specs.Statuses.{status_of}
 use Rattle.handlers.specs.Replies.{IsShort}
 use Rattle.handlers.specs.Steps.{nothing, replying, ending, done}
@@ -44,17 +44,17 @@ flatten lists = flat_map (λ (replies : List Reply). replies) lists
 
 -- after a first message that asks for these replies: they come with the end, unless there are more
 -- messages
-abbrev pub after_first : List Reply → List (List ℕ) → Bool → Step
+abbrev pub after_first : List Reply → List (List ℕ) → Bool → MethodStep
 after_first replies (second ∷ others) ended = ending [] (status_of WrongNumber)
 after_first replies [] ended = if ended then done replies else nothing
 
-abbrev pub single_answer : Result (List Reply) Status → List (List ℕ) → Bool → Step
+abbrev pub single_answer : Result (List Reply) Status → List (List ℕ) → Bool → MethodStep
 single_answer (Err status) others ended = ending [] status
 single_answer (Ok replies) others ended = after_first replies others ended
 
 -- The first message is judged at once. No message at the end, or a second one, is the wrong number.
 abbrev pub AnswersSingle : (List ℕ → Result (List Reply) Status → Type 0) → List (List ℕ)
-    → Bool → Step → Type 0
+    → Bool → MethodStep → Type 0
 AnswersSingle judged [] ended answer =
     answer ≡ (if ended then ending [] (status_of WrongNumber) else nothing)
 AnswersSingle judged (message ∷ others) ended answer =
@@ -74,14 +74,14 @@ AreTaken judged (message ∷ messages) (amount ∷ amounts) =
 
 -- every request was answered
 abbrev pub AllAnswered : (List ℕ → Result (List Reply) Status → Type 0) → List (List ℕ)
-    → Bool → Step → Type 0
+    → Bool → MethodStep → Type 0
 AllAnswered judged messages ended answer =
     (asked : List (List Reply)) × AreTaken judged messages asked
     × (answer ≡ (if ended then done (flatten asked) else replying (flatten asked)))
 
 -- the requests before the first one that ends the call were answered, and that one gave its status
 abbrev pub EndedByOne : (List ℕ → Result (List Reply) Status → Type 0)
-    → List (List ℕ) → Step → Type 0
+    → List (List ℕ) → MethodStep → Type 0
 EndedByOne judged messages answer =
     (before : List (List ℕ)) × (last : List ℕ) × (after : List (List ℕ))
     × (messages ≡ before ++ last ∷ after)
@@ -90,13 +90,13 @@ EndedByOne judged messages answer =
 
 -- Each request is answered, up to the first that ends the call. Requests after that aren't judged.
 abbrev pub AnswersFull : (List ℕ → Result (List Reply) Status → Type 0) → List (List ℕ)
-    → Bool → Step → Type 0
+    → Bool → MethodStep → Type 0
 AnswersFull judged messages ended answer =
     AllAnswered judged messages ended answer ⊎ EndedByOne judged messages answer
 
 -- each request is answered, up to the first that ends the call, but all at the end
 abbrev pub AnswersHalf : (List ℕ → Result (List Reply) Status → Type 0) → List (List ℕ)
-    → Bool → Step → Type 0
+    → Bool → MethodStep → Type 0
 AnswersHalf judged messages false answer = answer ≡ nothing
 AnswersHalf judged messages true answer = AnswersFull judged messages true answer
 
@@ -120,14 +120,15 @@ AllAdded judged messages total =
     × (total ≤ MAX_SUM)
 
 -- the first message that ends the call gave its status, or the status of the sum
-abbrev pub EndedBySum : (List ℕ → Result ℕ Status → Type 0) → List (List ℕ) → Step → Type 0
+abbrev pub EndedBySum : (List ℕ → Result ℕ Status → Type 0) → List (List ℕ) → MethodStep → Type 0
 EndedBySum judged messages answer =
     (before : List (List ℕ)) × (last : List ℕ) × (after : List (List ℕ))
     × (messages ≡ before ++ last ∷ after)
     × (total : ℕ) × AllAdded judged before total × (status : Status)
     × EndsSum judged total last status × (answer ≡ ending [] status)
 
-abbrev pub AnswersSum : (List ℕ → Result ℕ Status → Type 0) → List (List ℕ) → Bool → Step → Type 0
+abbrev pub AnswersSum : (List ℕ → Result ℕ Status → Type 0) → List (List ℕ) → Bool
+    → MethodStep → Type 0
 AnswersSum judged messages ended answer =
     ((total : ℕ) × AllAdded judged messages total
     × (answer ≡ (if ended then done (SumReply (pos total) ∷ []) else nothing)))
@@ -136,37 +137,40 @@ AnswersSum judged messages ended answer =
 -- ---- the law of a method
 
 -- A list of messages has at most one answer, if it has ended and if not.
-abbrev pub HasOneAnswer : (List (List ℕ) → Bool → Step → Type 0) → Type 0
+abbrev pub HasOneAnswer : (List (List ℕ) → Bool → MethodStep → Type 0) → Type 0
 HasOneAnswer answers =
-    (messages : List (List ℕ)) (ended : Bool) (answer other : Step) → answers messages ended answer
+    (messages : List (List ℕ)) (ended : Bool) (answer other : MethodStep)
+    → answers messages ended answer
     → answers messages ended other → answer ≡ other
 
 -- An answer to a list that has ended has a status.
-abbrev pub HasStatusAtEnd : (List (List ℕ) → Bool → Step → Type 0) → Type 0
+abbrev pub HasStatusAtEnd : (List (List ℕ) → Bool → MethodStep → Type 0) → Type 0
 HasStatusAtEnd answers =
-    (messages : List (List ℕ)) (answer : Step) → answers messages true answer → IsSome answer.ends
+    (messages : List (List ℕ)) (answer : MethodStep) → answers messages true answer
+    → IsSome answer.ends
 
 -- A list of messages has an answer, if it has ended and if not.
-abbrev pub HasAnswer : (List (List ℕ) → Bool → Step → Type 0) → Type 0
+abbrev pub HasAnswer : (List (List ℕ) → Bool → MethodStep → Type 0) → Type 0
 HasAnswer answers =
-    (messages : List (List ℕ)) (ended : Bool) → (answer : Step) × answers messages ended answer
+    (messages : List (List ℕ)) (ended : Bool)
+    → (answer : MethodStep) × answers messages ended answer
 
 -- The replies to a list that hasn't ended begin the replies to each longer one, if that has ended
 -- and if not.
-abbrev pub HasGrowingReplies : (List (List ℕ) → Bool → Step → Type 0) → Type 0
+abbrev pub HasGrowingReplies : (List (List ℕ) → Bool → MethodStep → Type 0) → Type 0
 HasGrowingReplies answers =
-    (messages more : List (List ℕ)) (ended : Bool) (answer later : Step)
+    (messages more : List (List ℕ)) (ended : Bool) (answer later : MethodStep)
     → answers messages false answer → answers (messages ++ more) ended later
     → (rest : List Reply) × (later.replies ≡ answer.replies ++ rest)
 
 -- Each reply fits into a message of a call.
-abbrev pub HasShortReplies : (List (List ℕ) → Bool → Step → Type 0) → Type 0
+abbrev pub HasShortReplies : (List (List ℕ) → Bool → MethodStep → Type 0) → Type 0
 HasShortReplies answers =
-    (messages : List (List ℕ)) (ended : Bool) (answer : Step) → answers messages ended answer
+    (messages : List (List ℕ)) (ended : Bool) (answer : MethodStep) → answers messages ended answer
     → AllByRecursion IsShort answer.replies
 
 -- the law of a method's answers
-pub record IsLawful (answers : List (List ℕ) → Bool → Step → Type 0) : Type 0 where
+pub record IsLawful (answers : List (List ℕ) → Bool → MethodStep → Type 0) : Type 0 where
   pub some : HasAnswer answers
   pub one : HasOneAnswer answers
   pub grows : HasGrowingReplies answers
@@ -176,12 +180,13 @@ pub record IsLawful (answers : List (List ℕ) → Bool → Step → Type 0) : T
 -- ---- what a state stands for: the messages of the call so far, to which this was answered
 
 -- the call has its status
-abbrev pub StandsEnded : (List (List ℕ) → Bool → Step → Type 0) → List (List ℕ) → Step → Type 0
+abbrev pub StandsEnded : (List (List ℕ) → Bool → MethodStep → Type 0) → List (List ℕ)
+    → MethodStep → Type 0
 StandsEnded answers messages given =
     (messages ≢ []) × answers messages false given × IsSome given.ends
 
 -- EmptyCall keeps only that there was a message.
-abbrev pub StandsEmpty : MethodState → List (List ℕ) → Step → Type 0
+abbrev pub StandsEmpty : MethodState → List (List ℕ) → MethodStep → Type 0
 StandsEmpty Fresh messages given = (messages ≡ []) × (given ≡ nothing)
 StandsEmpty Taken messages given =
     (message : List ℕ) × (messages ≡ message ∷ []) × EmptyVerdict message (Ok (Empty ∷ []))
@@ -191,7 +196,7 @@ StandsEmpty (Held held) messages given = ⊥
 StandsEmpty Ended messages given = StandsEnded (AnswersSingle EmptyVerdict) messages given
 
 -- UnaryCall keeps the length that its message asks for.
-abbrev pub StandsUnary : MethodState → List (List ℕ) → Step → Type 0
+abbrev pub StandsUnary : MethodState → List (List ℕ) → MethodStep → Type 0
 StandsUnary Fresh messages given = (messages ≡ []) × (given ≡ nothing)
 StandsUnary (Sum size) messages given =
     (message : List ℕ) × (messages ≡ message ∷ []) × SimpleVerdict message (Ok (Zeros size ∷ []))
@@ -201,7 +206,7 @@ StandsUnary (Held held) messages given = ⊥
 StandsUnary Ended messages given = StandsEnded (AnswersSingle SimpleVerdict) messages given
 
 -- StreamingOutputCall holds the replies that its message asks for.
-abbrev pub StandsOutput : MethodState → List (List ℕ) → Step → Type 0
+abbrev pub StandsOutput : MethodState → List (List ℕ) → MethodStep → Type 0
 StandsOutput Fresh messages given = (messages ≡ []) × (given ≡ nothing)
 StandsOutput (Held held) messages given =
     (message : List ℕ) × (messages ≡ message ∷ []) × (replies : List Reply)
@@ -211,7 +216,7 @@ StandsOutput (Sum number) messages given = ⊥
 StandsOutput Ended messages given = StandsEnded (AnswersSingle OutputVerdict) messages given
 
 -- FullDuplexCall keeps nothing.
-abbrev pub StandsFull : MethodState → List (List ℕ) → Step → Type 0
+abbrev pub StandsFull : MethodState → List (List ℕ) → MethodStep → Type 0
 StandsFull Fresh messages given = AllAnswered OutputVerdict messages false given
 StandsFull (Sum number) messages given = ⊥
 StandsFull Taken messages given = ⊥
@@ -219,7 +224,7 @@ StandsFull (Held held) messages given = ⊥
 StandsFull Ended messages given = EndedByOne OutputVerdict messages given
 
 -- StreamingInputCall keeps the sum.
-abbrev pub StandsSum : MethodState → List (List ℕ) → Step → Type 0
+abbrev pub StandsSum : MethodState → List (List ℕ) → MethodStep → Type 0
 StandsSum Fresh messages given = ⊥
 StandsSum (Sum total) messages given = AllAdded InputVerdict messages total × (given ≡ nothing)
 StandsSum Taken messages given = ⊥
@@ -227,7 +232,7 @@ StandsSum (Held held) messages given = ⊥
 StandsSum Ended messages given = EndedBySum InputVerdict messages given
 
 -- HalfDuplexCall holds what FullDuplexCall would have answered.
-abbrev pub StandsHalf : MethodState → List (List ℕ) → Step → Type 0
+abbrev pub StandsHalf : MethodState → List (List ℕ) → MethodStep → Type 0
 StandsHalf Fresh messages given = (messages ≡ []) × (given ≡ nothing)
 StandsHalf (Sum number) messages given = ⊥
 StandsHalf Taken messages given = ⊥

@@ -11,7 +11,7 @@ use crate::method::Method;
 use crate::reply::Reply;
 use crate::state::MethodState;
 use crate::status::Refusal;
-use crate::step::Step;
+use crate::step::MethodStep;
 use std::alloc::Global;
 
 /// Answers one empty message with another.
@@ -38,26 +38,26 @@ impl Method for EmptyCall {
         alloc: Global,
         state: &mut MethodState,
         message: &[u8],
-    ) -> Result<Step, MethodFault> {
+    ) -> Result<MethodStep, MethodFault> {
         match state {
             MethodState::Fresh => match judge_empty(alloc, message)? {
                 Ok(()) => {
                     state.set(MethodState::Taken);
-                    Ok(Step::nothing(alloc))
+                    Ok(MethodStep::nothing(alloc))
                 }
                 Err(status) => Ok(end_with(alloc, state, status)),
             },
-            MethodState::Ended => Ok(Step::nothing(alloc)),
+            MethodState::Ended => Ok(MethodStep::nothing(alloc)),
             MethodState::Taken => Ok(refuse(alloc, state, Refusal::WrongNumber)),
             MethodState::Sum(_) => Ok(refuse(alloc, state, Refusal::WrongNumber)),
             MethodState::Held(_) => Ok(refuse(alloc, state, Refusal::WrongNumber)),
         }
     }
 
-    fn end(&self, alloc: Global, state: &mut MethodState) -> Result<Step, MethodFault> {
+    fn end(&self, alloc: Global, state: &mut MethodState) -> Result<MethodStep, MethodFault> {
         match state {
             MethodState::Fresh => Ok(refuse(alloc, state, Refusal::WrongNumber)),
-            MethodState::Ended => Ok(Step::nothing(alloc)),
+            MethodState::Ended => Ok(MethodStep::nothing(alloc)),
             MethodState::Taken => reply_and_end(alloc, state, Reply::Empty),
             MethodState::Sum(_) => Ok(refuse(alloc, state, Refusal::WrongNumber)),
             MethodState::Held(_) => Ok(refuse(alloc, state, Refusal::WrongNumber)),

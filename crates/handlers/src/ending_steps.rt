@@ -2,7 +2,7 @@
 
 ghost use Rattle.std.specs.Prelude.{◌≡◌, ◌∷◌, [], IfOk, OnOk};
 ghost use Rattle.handlers.specs.declared.state.MethodState.TheVariants.{Ended, Held};
-ghost use Rattle.handlers.specs.declared.step.Step.{Step as Given};
+ghost use Rattle.handlers.specs.declared.step.MethodStep.{MethodStep as Given};
 ghost use Rattle.handlers.specs.Statuses.{status_of};
 ghost use Rattle.handlers.specs.Steps.{ending, done, finished};
 
@@ -11,20 +11,20 @@ use crate::replies::Replies;
 use crate::reply::Reply;
 use crate::state::MethodState;
 use crate::status::{Refusal, Status};
-use crate::step::Step;
+use crate::step::MethodStep;
 use std::alloc::Global;
 
 /// Ends the call with this status.
-pub(crate) fn end_with(alloc: Global, state: &mut MethodState, status: Status) -> Step
+pub(crate) fn end_with(alloc: Global, state: &mut MethodState, status: Status) -> MethodStep
     ensures step { result ≡ ending [] status }
     ensures state { state.new ≡ Ended }
 {
     state.set(MethodState::Ended);
-    Step::ending(alloc, status)
+    MethodStep::ending(alloc, status)
 }
 
 /// Ends the call with a status of our own.
-pub(crate) fn refuse(alloc: Global, state: &mut MethodState, refusal: Refusal) -> Step
+pub(crate) fn refuse(alloc: Global, state: &mut MethodState, refusal: Refusal) -> MethodStep
     ensures step { result ≡ ending [] (status_of refusal) }
     ensures state { state.new ≡ Ended }
 {
@@ -32,13 +32,13 @@ pub(crate) fn refuse(alloc: Global, state: &mut MethodState, refusal: Refusal) -
 }
 
 /// Ends the call with what was held back.
-pub(crate) fn release(alloc: Global, state: &mut MethodState) -> Step
+pub(crate) fn release(alloc: Global, state: &mut MethodState) -> MethodStep
     ensures step { (held : Given) → state.old ≡ Held held → result ≡ finished held }
     ensures state { state.new ≡ Ended }
 {
     match std::mem::replace(state, MethodState::Ended) {
         MethodState::Held(held) => held.finished(),
-        _ => Step::nothing(alloc),
+        _ => MethodStep::nothing(alloc),
     }
 }
 
@@ -47,11 +47,11 @@ pub(crate) fn reply_and_end(
     alloc: Global,
     state: &mut MethodState,
     reply: Reply,
-) -> Result<Step, MethodFault>
+) -> Result<MethodStep, MethodFault>
     ensures step { IfOk result (λ step. step ≡ done (reply ∷ [])) }
     ensures state { OnOk result (state.new ≡ Ended) }
 {
     let replies = Replies::one(alloc, reply)?;
     state.set(MethodState::Ended);
-    Ok(Step::done(replies))
+    Ok(MethodStep::done(replies))
 }

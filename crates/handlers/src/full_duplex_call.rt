@@ -10,7 +10,7 @@ use crate::judge::judge_output_call;
 use crate::method::Method;
 use crate::replies::Replies;
 use crate::state::MethodState;
-use crate::step::Step;
+use crate::step::MethodStep;
 use std::alloc::Global;
 
 /// Answers each request with a payload for each of its parameters.
@@ -37,37 +37,37 @@ impl Method for FullDuplexCall {
         alloc: Global,
         state: &mut MethodState,
         message: &[u8],
-    ) -> Result<Step, MethodFault> {
+    ) -> Result<MethodStep, MethodFault> {
         match state {
             MethodState::Fresh => match judge_output_call(alloc, message)? {
-                Ok(replies) => Ok(Step::replying(replies)),
+                Ok(replies) => Ok(MethodStep::replying(replies)),
                 Err(status) => Ok(end_with(alloc, state, status)),
             },
-            MethodState::Ended => Ok(Step::nothing(alloc)),
-            MethodState::Taken => Ok(Step::nothing(alloc)),
-            MethodState::Held(_) => Ok(Step::nothing(alloc)),
-            MethodState::Sum(_) => Ok(Step::nothing(alloc)),
+            MethodState::Ended => Ok(MethodStep::nothing(alloc)),
+            MethodState::Taken => Ok(MethodStep::nothing(alloc)),
+            MethodState::Held(_) => Ok(MethodStep::nothing(alloc)),
+            MethodState::Sum(_) => Ok(MethodStep::nothing(alloc)),
         }
     }
 
-    fn end(&self, alloc: Global, state: &mut MethodState) -> Result<Step, MethodFault> {
+    fn end(&self, alloc: Global, state: &mut MethodState) -> Result<MethodStep, MethodFault> {
         match state {
-            MethodState::Ended => Ok(Step::nothing(alloc)),
+            MethodState::Ended => Ok(MethodStep::nothing(alloc)),
             MethodState::Fresh => {
                 state.set(MethodState::Ended);
-                Ok(Step::done(Replies::new(alloc)))
+                Ok(MethodStep::done(Replies::new(alloc)))
             }
             MethodState::Taken => {
                 state.set(MethodState::Ended);
-                Ok(Step::nothing(alloc))
+                Ok(MethodStep::nothing(alloc))
             }
             MethodState::Sum(_) => {
                 state.set(MethodState::Ended);
-                Ok(Step::nothing(alloc))
+                Ok(MethodStep::nothing(alloc))
             }
             MethodState::Held(_) => {
                 state.set(MethodState::Ended);
-                Ok(Step::nothing(alloc))
+                Ok(MethodStep::nothing(alloc))
             }
         }
     }

@@ -10,7 +10,7 @@ use crate::judge::judge_output_call;
 use crate::method::Method;
 use crate::replies::Replies;
 use crate::state::MethodState;
-use crate::step::Step;
+use crate::step::MethodStep;
 use std::alloc::Global;
 
 /// Answers as `FullDuplexCall`, all at the end.
@@ -37,56 +37,56 @@ impl Method for HalfDuplexCall {
         alloc: Global,
         state: &mut MethodState,
         message: &[u8],
-    ) -> Result<Step, MethodFault> {
+    ) -> Result<MethodStep, MethodFault> {
         match state {
             MethodState::Held(held) => {
                 hold_more(alloc, held, message)?;
-                Ok(Step::nothing(alloc))
+                Ok(MethodStep::nothing(alloc))
             }
             MethodState::Fresh => {
                 let held = answer_one(alloc, message)?;
                 state.set(MethodState::Held(held));
-                Ok(Step::nothing(alloc))
+                Ok(MethodStep::nothing(alloc))
             }
-            MethodState::Ended => Ok(Step::nothing(alloc)),
-            MethodState::Taken => Ok(Step::nothing(alloc)),
-            MethodState::Sum(_) => Ok(Step::nothing(alloc)),
+            MethodState::Ended => Ok(MethodStep::nothing(alloc)),
+            MethodState::Taken => Ok(MethodStep::nothing(alloc)),
+            MethodState::Sum(_) => Ok(MethodStep::nothing(alloc)),
         }
     }
 
-    fn end(&self, alloc: Global, state: &mut MethodState) -> Result<Step, MethodFault> {
+    fn end(&self, alloc: Global, state: &mut MethodState) -> Result<MethodStep, MethodFault> {
         match state {
             MethodState::Held(_) => Ok(release(alloc, state)),
             MethodState::Fresh => {
                 state.set(MethodState::Ended);
-                Ok(Step::done(Replies::new(alloc)))
+                Ok(MethodStep::done(Replies::new(alloc)))
             }
-            MethodState::Ended => Ok(Step::nothing(alloc)),
+            MethodState::Ended => Ok(MethodStep::nothing(alloc)),
             MethodState::Taken => {
                 state.set(MethodState::Ended);
-                Ok(Step::nothing(alloc))
+                Ok(MethodStep::nothing(alloc))
             }
             MethodState::Sum(_) => {
                 state.set(MethodState::Ended);
-                Ok(Step::nothing(alloc))
+                Ok(MethodStep::nothing(alloc))
             }
         }
     }
 }
 
 /// The answer to one request: its replies, or the status that ends the call.
-fn answer_one(alloc: Global, message: &[u8]) -> Result<Step, MethodFault>
+fn answer_one(alloc: Global, message: &[u8]) -> Result<MethodStep, MethodFault>
     ensures { IfOk result (λ step. AnswersFull OutputVerdict (message.now ∷ []) false step) }
 {
     match judge_output_call(alloc, message)? {
-        Ok(replies) => Ok(Step::replying(replies)),
-        Err(status) => Ok(Step::ending(alloc, status)),
+        Ok(replies) => Ok(MethodStep::replying(replies)),
+        Err(status) => Ok(MethodStep::ending(alloc, status)),
     }
 }
 
 /// Holds the answer to one more request, unless one before it ends the call. If memory runs out,
 /// what is held is of no more use.
-fn hold_more(alloc: Global, held: &mut Step, message: &[u8]) -> Result<(), MethodFault>
+fn hold_more(alloc: Global, held: &mut MethodStep, message: &[u8]) -> Result<(), MethodFault>
     ensures { OnOk result
         ((messages : List (List ℕ)) → AnswersFull OutputVerdict messages false held.old
         → AnswersFull OutputVerdict (messages ++ message.now ∷ []) false held.new) }

@@ -43,7 +43,7 @@ pub use replies::Replies;
 pub use reply::Reply;
 pub use state::MethodState;
 pub use status::{Refusal, Status, StatusText};
-pub use step::Step;
+pub use step::MethodStep;
 pub use streaming_input_call::StreamingInputCall;
 pub use streaming_output_call::StreamingOutputCall;
 pub use unary_call::{CacheableUnaryCall, UnaryCall};

@@ -21,7 +21,7 @@ ghost use Rattle.std.specs.Prelude.{
 };
 ghost use Rattle.handlers.specs.declared.state.MethodState.{MethodState as State};
 ghost use Rattle.handlers.specs.declared.state.MethodState.TheVariants.{Ended};
-ghost use Rattle.handlers.specs.declared.step.Step.{Step as Given};
+ghost use Rattle.handlers.specs.declared.step.MethodStep.{MethodStep as Given};
 ghost use Rattle.handlers.specs.Steps.{nothing, joined};
 ghost use Rattle.handlers.specs.Answers.{
   HasAnswer,
@@ -33,7 +33,7 @@ ghost use Rattle.handlers.specs.Answers.{
 
 use crate::fault::MethodFault;
 use crate::state::MethodState;
-use crate::step::Step;
+use crate::step::MethodStep;
 use std::alloc::Global;
 
 /// A method of a service, as a state machine over the messages of one call.
@@ -76,7 +76,7 @@ pub trait Method: Send + Sync + Drop {
         alloc: Global,
         state: &mut MethodState,
         message: &[u8],
-    ) -> Result<Step, MethodFault>
+    ) -> Result<MethodStep, MethodFault>
         ensures stands { IfOk result
             (λ step. (messages : List (List ℕ)) (given : Given)
             → stands self.now state.old messages given
@@ -91,7 +91,7 @@ pub trait Method: Send + Sync + Drop {
             (λ step. state.old ≡ Ended → (step ≡ nothing) × (state.new ≡ Ended)) };
 
     /// Ends the call's messages: none follows.
-    fn end(&self, alloc: Global, state: &mut MethodState) -> Result<Step, MethodFault>
+    fn end(&self, alloc: Global, state: &mut MethodState) -> Result<MethodStep, MethodFault>
         ensures answers { IfOk result
             (λ step. (messages : List (List ℕ)) (given : Given)
             → stands self.now state.old messages given

@@ -25,7 +25,7 @@ ghost use Rattle.std.specs.Prelude.{
 };
 ghost use Rattle.std.specs.List.{HoldsAt, AllWithin};
 ghost use Rattle.handlers.specs.declared.state.MethodState.TheVariants.{Ended};
-ghost use Rattle.handlers.specs.declared.step.Step.{Step as Given};
+ghost use Rattle.handlers.specs.declared.step.MethodStep.{MethodStep as Given};
 ghost use Rattle.handlers.specs.Steps.{nothing, joined};
 ghost use Rattle.handlers.specs.Answers.{
   HasAnswer,
@@ -40,7 +40,7 @@ ghost use Rattle.handlers.specs.Listed.{listed};
 use crate::fault::MethodFault;
 use crate::method::Method;
 use crate::state::MethodState;
-use crate::step::Step;
+use crate::step::MethodStep;
 use std::alloc::Global;
 
 /// The methods that a server has.
@@ -106,7 +106,7 @@ impl Methods {
         index: usize,
         state: &mut MethodState,
         message: &[u8],
-    ) -> Result<Step, MethodFault>
+    ) -> Result<MethodStep, MethodFault>
         requires { index < length (listed self.now) }
         ensures stands { IfSome (slice_get (listed self.now) index)
             (λ method. IfOk result (λ step. (messages : List (List ℕ)) (given : Given)
@@ -130,7 +130,7 @@ impl Methods {
         alloc: Global,
         index: usize,
         state: &mut MethodState,
-    ) -> Result<Step, MethodFault>
+    ) -> Result<MethodStep, MethodFault>
         requires { index < length (listed self.now) }
         ensures answers { IfSome (slice_get (listed self.now) index)
             (λ method. IfOk result (λ step. (messages : List (List ℕ)) (given : Given)
@@ -161,7 +161,7 @@ fn message_of(
     alloc: Global,
     state: &mut MethodState,
     message: &[u8],
-) -> Result<Step, MethodFault>
+) -> Result<MethodStep, MethodFault>
     ensures stands { IfOk result (λ step. (messages : List (List ℕ)) (given : Given)
         → stands method.now state.old messages given
         → stands method.now state.new (messages ++ message.now ∷ []) (joined given step)) }
@@ -179,7 +179,7 @@ fn end_of(
     method: &Box<dyn Method>,
     alloc: Global,
     state: &mut MethodState,
-) -> Result<Step, MethodFault>
+) -> Result<MethodStep, MethodFault>
     ensures answers { IfOk result (λ step. (messages : List (List ℕ)) (given : Given)
         → stands method.now state.old messages given
         → answers method.now messages true (joined given step)) }

@@ -7,7 +7,7 @@
 
 ghost use Rattle.std.specs.Prelude.{◌≡◌};
 
-use crate::step::Step;
+use crate::step::MethodStep;
 
 /// What a method keeps of a call.
 #[derive(Debug, Drop)]
@@ -19,7 +19,7 @@ pub enum MethodState {
     /// The one message was taken, and nothing of it is kept.
     Taken,
     /// What is answered at the end.
-    Held(Step),
+    Held(MethodStep),
     /// The call has its status.
     Ended,
 }

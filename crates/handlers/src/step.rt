@@ -9,73 +9,73 @@ use std::alloc::{AllocError, Global};
 
 /// Replies, and the status that ends the call after them, if there is one.
 #[derive(Debug, Drop)]
-pub struct Step {
+pub struct MethodStep {
     pub replies: Replies,
     pub ends: Option<Status>,
 }
 
-impl Step {
+impl MethodStep {
     /// No reply and no status.
-    pub fn nothing(alloc: Global) -> Step
+    pub fn nothing(alloc: Global) -> MethodStep
         ensures { result ≡ nothing }
     {
-        Step {
+        MethodStep {
             replies: Replies::new(alloc),
             ends: None,
         }
     }
 
     /// Replies, and no status yet.
-    pub fn replying(replies: Replies) -> Step
+    pub fn replying(replies: Replies) -> MethodStep
         ensures { result ≡ replying replies }
     {
-        Step {
+        MethodStep {
             replies,
             ends: None,
         }
     }
 
     /// A status without a reply.
-    pub fn ending(alloc: Global, status: Status) -> Step
+    pub fn ending(alloc: Global, status: Status) -> MethodStep
         ensures { result ≡ ending [] status }
     {
-        Step {
+        MethodStep {
             replies: Replies::new(alloc),
             ends: Some(status),
         }
     }
 
     /// Replies, and the end of a call that went well. It takes no memory.
-    pub fn done(replies: Replies) -> Step
+    pub fn done(replies: Replies) -> MethodStep
         ensures { result ≡ done replies }
     {
-        Step {
+        MethodStep {
             replies,
             ends: Some(Status::ok()),
         }
     }
 
     /// The end of a call: the status that there is, or else OK.
-    pub(crate) fn finished(self) -> Step
+    pub(crate) fn finished(self) -> MethodStep
         ensures { result ≡ finished self }
     {
         match self {
-            Step {
+            MethodStep {
                 replies,
                 ends: Some(status),
-            } => Step {
+            } => MethodStep {
                 replies,
                 ends: Some(status),
             },
-            Step {
+            MethodStep {
                 replies,
                 ends: None,
-            } => Step::done(replies),
+            } => MethodStep::done(replies),
         }
     }
 
     /// Adds what a later step gave. The first status stays.
-    pub(crate) fn join(&mut self, more: Step) -> Result<(), AllocError>
+    pub(crate) fn join(&mut self, more: MethodStep) -> Result<(), AllocError>
         ensures { OnOk result (self.new ≡ joined self.old more) }
     {
         self.replies.append(&more.replies)?;

@@ -11,7 +11,7 @@ use crate::method::Method;
 use crate::reply::Reply;
 use crate::state::MethodState;
 use crate::status::Refusal;
-use crate::step::Step;
+use crate::step::MethodStep;
 use std::alloc::Global;
 
 /// Answers any number of requests with the sum of the lengths of their bodies.
@@ -41,7 +41,7 @@ impl Method for StreamingInputCall {
         alloc: Global,
         state: &mut MethodState,
         message: &[u8],
-    ) -> Result<Step, MethodFault> {
+    ) -> Result<MethodStep, MethodFault> {
         match state {
             MethodState::Sum(sum) => {
                 let sum = *sum;
@@ -49,21 +49,21 @@ impl Method for StreamingInputCall {
                     Ok(length) => match sum_of(sum, length) {
                         Some(total) => {
                             state.set(MethodState::Sum(total));
-                            Ok(Step::nothing(alloc))
+                            Ok(MethodStep::nothing(alloc))
                         }
                         None => Ok(refuse(alloc, state, Refusal::SumOutOfRange)),
                     },
                     Err(status) => Ok(end_with(alloc, state, status)),
                 }
             }
-            MethodState::Ended => Ok(Step::nothing(alloc)),
-            MethodState::Fresh => Ok(Step::nothing(alloc)),
-            MethodState::Taken => Ok(Step::nothing(alloc)),
-            MethodState::Held(_) => Ok(Step::nothing(alloc)),
+            MethodState::Ended => Ok(MethodStep::nothing(alloc)),
+            MethodState::Fresh => Ok(MethodStep::nothing(alloc)),
+            MethodState::Taken => Ok(MethodStep::nothing(alloc)),
+            MethodState::Held(_) => Ok(MethodStep::nothing(alloc)),
         }
     }
 
-    fn end(&self, alloc: Global, state: &mut MethodState) -> Result<Step, MethodFault> {
+    fn end(&self, alloc: Global, state: &mut MethodState) -> Result<MethodStep, MethodFault> {
         match state {
             MethodState::Sum(sum) => {
                 let sum = *sum;
@@ -73,7 +73,7 @@ impl Method for StreamingInputCall {
                     Ok(refuse(alloc, state, Refusal::SumOutOfRange))
                 }
             }
-            MethodState::Ended => Ok(Step::nothing(alloc)),
+            MethodState::Ended => Ok(MethodStep::nothing(alloc)),
             MethodState::Fresh => Ok(refuse(alloc, state, Refusal::WrongNumber)),
             MethodState::Taken => Ok(refuse(alloc, state, Refusal::WrongNumber)),
             MethodState::Held(_) => Ok(refuse(alloc, state, Refusal::WrongNumber)),

@@ -10,7 +10,7 @@ use crate::judge::judge_output_call;
 use crate::method::Method;
 use crate::state::MethodState;
 use crate::status::Refusal;
-use crate::step::Step;
+use crate::step::MethodStep;
 use std::alloc::Global;
 
 /// Answers one request with several payloads of zero bytes.
@@ -37,26 +37,26 @@ impl Method for StreamingOutputCall {
         alloc: Global,
         state: &mut MethodState,
         message: &[u8],
-    ) -> Result<Step, MethodFault> {
+    ) -> Result<MethodStep, MethodFault> {
         match state {
             MethodState::Fresh => match judge_output_call(alloc, message)? {
                 Ok(replies) => {
-                    state.set(MethodState::Held(Step::replying(replies)));
-                    Ok(Step::nothing(alloc))
+                    state.set(MethodState::Held(MethodStep::replying(replies)));
+                    Ok(MethodStep::nothing(alloc))
                 }
                 Err(status) => Ok(end_with(alloc, state, status)),
             },
-            MethodState::Ended => Ok(Step::nothing(alloc)),
+            MethodState::Ended => Ok(MethodStep::nothing(alloc)),
             MethodState::Held(_) => Ok(refuse(alloc, state, Refusal::WrongNumber)),
             MethodState::Taken => Ok(refuse(alloc, state, Refusal::WrongNumber)),
             MethodState::Sum(_) => Ok(refuse(alloc, state, Refusal::WrongNumber)),
         }
     }
 
-    fn end(&self, alloc: Global, state: &mut MethodState) -> Result<Step, MethodFault> {
+    fn end(&self, alloc: Global, state: &mut MethodState) -> Result<MethodStep, MethodFault> {
         match state {
             MethodState::Fresh => Ok(refuse(alloc, state, Refusal::WrongNumber)),
-            MethodState::Ended => Ok(Step::nothing(alloc)),
+            MethodState::Ended => Ok(MethodStep::nothing(alloc)),
             MethodState::Held(_) => Ok(release(alloc, state)),
             MethodState::Taken => Ok(refuse(alloc, state, Refusal::WrongNumber)),
             MethodState::Sum(_) => Ok(refuse(alloc, state, Refusal::WrongNumber)),

@@ -14,7 +14,7 @@ ghost use Rattle.std.specs.Prelude.{
   IsSome,
   codes,
 };
-ghost use Rattle.handlers.specs.declared.step.Step.{Step as Given};
+ghost use Rattle.handlers.specs.declared.step.MethodStep.{MethodStep as Given};
 ghost use Rattle.handlers.specs.declared.state.MethodState.TheVariants.{Ended};
 ghost use Rattle.handlers.specs.Steps.{nothing, joined};
 ghost use Rattle.handlers.specs.Requests.{SimpleVerdict};
@@ -27,7 +27,7 @@ use crate::method::Method;
 use crate::reply::Reply;
 use crate::state::MethodState;
 use crate::status::Refusal;
-use crate::step::Step;
+use crate::step::MethodStep;
 use std::alloc::Global;
 
 /// Answers a request with a payload of zero bytes.
@@ -58,11 +58,11 @@ impl Method for UnaryCall {
         alloc: Global,
         state: &mut MethodState,
         message: &[u8],
-    ) -> Result<Step, MethodFault> {
+    ) -> Result<MethodStep, MethodFault> {
         take_request(alloc, state, message)
     }
 
-    fn end(&self, alloc: Global, state: &mut MethodState) -> Result<Step, MethodFault> {
+    fn end(&self, alloc: Global, state: &mut MethodState) -> Result<MethodStep, MethodFault> {
         answer_request(alloc, state)
     }
 }
@@ -87,17 +87,21 @@ impl Method for CacheableUnaryCall {
         alloc: Global,
         state: &mut MethodState,
         message: &[u8],
-    ) -> Result<Step, MethodFault> {
+    ) -> Result<MethodStep, MethodFault> {
         take_request(alloc, state, message)
     }
 
-    fn end(&self, alloc: Global, state: &mut MethodState) -> Result<Step, MethodFault> {
+    fn end(&self, alloc: Global, state: &mut MethodState) -> Result<MethodStep, MethodFault> {
         answer_request(alloc, state)
     }
 }
 
 /// Judges the first request, and keeps the length that it asks for; a second one ends the call.
-fn take_request(alloc: Global, state: &mut MethodState, message: &[u8]) -> Result<Step, MethodFault>
+fn take_request(
+    alloc: Global,
+    state: &mut MethodState,
+    message: &[u8],
+) -> Result<MethodStep, MethodFault>
     ensures stands { IfOk result
         (λ step. (messages : List (List ℕ)) (given : Given) → StandsUnary state.old messages given
         → StandsUnary state.new (messages ++ message.now ∷ []) (joined given step)) }
@@ -112,11 +116,11 @@ fn take_request(alloc: Global, state: &mut MethodState, message: &[u8]) -> Resul
         MethodState::Fresh => match judge_unary(alloc, message)? {
             Ok(size) => {
                 state.set(MethodState::Sum(size));
-                Ok(Step::nothing(alloc))
+                Ok(MethodStep::nothing(alloc))
             }
             Err(status) => Ok(end_with(alloc, state, status)),
         },
-        MethodState::Ended => Ok(Step::nothing(alloc)),
+        MethodState::Ended => Ok(MethodStep::nothing(alloc)),
         MethodState::Sum(_) => Ok(refuse(alloc, state, Refusal::WrongNumber)),
         MethodState::Taken => Ok(refuse(alloc, state, Refusal::WrongNumber)),
         MethodState::Held(_) => Ok(refuse(alloc, state, Refusal::WrongNumber)),
@@ -124,7 +128,7 @@ fn take_request(alloc: Global, state: &mut MethodState, message: &[u8]) -> Resul
 }
 
 /// Answers the request at the end; without one the number of messages is wrong.
-fn answer_request(alloc: Global, state: &mut MethodState) -> Result<Step, MethodFault>
+fn answer_request(alloc: Global, state: &mut MethodState) -> Result<MethodStep, MethodFault>
     ensures answers { IfOk result
         (λ step. (messages : List (List ℕ)) (given : Given) → StandsUnary state.old messages given
         → AnswersSingle SimpleVerdict messages true (joined given step)) }
@@ -133,7 +137,7 @@ fn answer_request(alloc: Global, state: &mut MethodState) -> Result<Step, Method
 {
     match state {
         MethodState::Fresh => Ok(refuse(alloc, state, Refusal::WrongNumber)),
-        MethodState::Ended => Ok(Step::nothing(alloc)),
+        MethodState::Ended => Ok(MethodStep::nothing(alloc)),
         MethodState::Sum(size) => {
             let size = *size;
             reply_and_end(alloc, state, Reply::Zeros(size))

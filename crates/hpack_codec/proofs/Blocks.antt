@@ -40,8 +40,8 @@ use Rattle.lists.specs.declared.field.Field.{Field}
 use Rattle.hpack_codec.specs.Integer.{IsInteger}
 use Rattle.hpack_codec.specs.StringLiteral.{IsString}
 use Rattle.hpack_codec.specs.StaticTable.{entry}
-use Rattle.hpack_codec.specs.declared.found.Found.{Found}
-use Rattle.hpack_codec.specs.declared.found.Found.TheVariants.{Whole, Name, Nothing}
+use Rattle.hpack_codec.specs.declared.table_match.TableMatch.{TableMatch}
+use Rattle.hpack_codec.specs.declared.table_match.TableMatch.TheVariants.{Whole, Name, Nothing}
 use Rattle.hpack_codec.specs.Table.{Table, size_of, fitting, insert_entry, resize, entry_at}
 use Rattle.hpack_codec.specs.Block.{
   Indexed,
@@ -135,7 +135,7 @@ writes table mid next first second fields u f = record {
 }
 
 -- a search of the static table tells of both tables
-pub static_is_found : (table : Table) (found : Found) (name_bytes value_bytes : List ℕ)
+pub static_is_found : (table : Table) (found : TableMatch) (name_bytes value_bytes : List ℕ)
     → IsStatic found name_bytes value_bytes → IsFound table found name_bytes value_bytes
 static_is_found table (Whole index) name_bytes value_bytes f =
     entry_at-static table index (Some (entry name_bytes value_bytes))

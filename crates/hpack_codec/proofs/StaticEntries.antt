@@ -23,7 +23,7 @@ use Rattle.std.proofs.Common.{
 }
 use Rattle.lists.specs.declared.field.Field.{Field}
 use Rattle.hpack_codec.specs.StaticTable.{static_table, entry}
-use Rattle.hpack_codec.specs.declared.found.Found.TheVariants.{Name}
+use Rattle.hpack_codec.specs.declared.table_match.TableMatch.TheVariants.{Name}
 use Rattle.hpack_codec.specs.Reading.{IsStatic}
 
 abbrev pub Pair : Type 0

@@ -33,8 +33,8 @@ use Rattle.hpack_codec.specs.declared.fault.HpackFault.TheVariants.{
   TooLarge,
 }
 use Rattle.lists.specs.declared.field.Field.{Field}
-use Rattle.hpack_codec.specs.declared.found.Found.{Found}
-use Rattle.hpack_codec.specs.declared.found.Found.TheVariants.{Whole, Name, Nothing}
+use Rattle.hpack_codec.specs.declared.table_match.TableMatch.{TableMatch}
+use Rattle.hpack_codec.specs.declared.table_match.TableMatch.TheVariants.{Whole, Name, Nothing}
 use Rattle.hpack_codec.specs.StaticTable.{static_table, entry}
 use Rattle.hpack_codec.specs.Integer.{base_128, IsUnfinished, IsInteger}
 use Rattle.hpack_codec.specs.Huffman.{bits, code, IsHuffman, AreOctets}
@@ -216,7 +216,7 @@ abbrev pub Changes : Table → List ℕ → Table → Type 0
 Changes table text next = (limits : List ℕ) × AreUpdates table text limits next
 
 -- The static entry at this index has this name and value, or this name.
-abbrev pub IsStatic : Found → List ℕ → List ℕ → Type 0
+abbrev pub IsStatic : TableMatch → List ℕ → List ℕ → Type 0
 IsStatic (Whole index) name_bytes value_bytes =
     (0 < index) × (index ≤ 61)
     × (slice_get static_table (index - 1) ≡ Some (entry name_bytes value_bytes))
@@ -226,7 +226,7 @@ IsStatic (Name index) name_bytes value_bytes =
 IsStatic Nothing name_bytes value_bytes = Unit {0}
 
 -- The entry at this index of both tables has this name and value, or this name.
-abbrev pub IsFound : Table → Found → List ℕ → List ℕ → Type 0
+abbrev pub IsFound : Table → TableMatch → List ℕ → List ℕ → Type 0
 IsFound table (Whole index) name_bytes value_bytes =
     entry_at table index ≡ Some (entry name_bytes value_bytes)
 IsFound table (Name index) name_bytes value_bytes =

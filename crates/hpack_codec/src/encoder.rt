@@ -39,7 +39,6 @@ ghost use Rattle.hpack_codec.specs.Codec.{
 ghost use Rattle.hpack_codec.specs.Reading.{Appends, IsNameAt, Changes};
 
 use crate::fault::HpackFault;
-use crate::found::Found;
 use crate::integer::push_integer;
 use crate::representation::{
     INDEXED, INDEXED_PREFIX, LITERAL, LITERAL_INDEXED, LITERAL_INDEXED_PREFIX, LITERAL_PREFIX,
@@ -48,6 +47,7 @@ use crate::representation::{
 use crate::search_table::SearchTable;
 use crate::string_literal::push_string;
 use crate::table::{MAX_LIMIT, capped_size};
+use crate::table_match::TableMatch;
 use lists::Field;
 use std::alloc::{AllocError, Global};
 use std::marker::Model;
@@ -193,9 +193,9 @@ fn push_field(out: &mut Vec<u8>, table: &mut SearchTable, field: &Field) -> Resu
     ensures private { OnOk result (NonePrivate table.old → NonePrivate table.new) }
 {
     match table.find(field.name.as_slice(), field.value.as_slice()) {
-        Found::Whole(index) => push_integer(out, INDEXED, INDEXED_PREFIX, index),
-        Found::Name(index) => push_literal(out, table, field, index),
-        Found::Nothing => push_literal(out, table, field, NEW_NAME),
+        TableMatch::Whole(index) => push_integer(out, INDEXED, INDEXED_PREFIX, index),
+        TableMatch::Name(index) => push_literal(out, table, field, index),
+        TableMatch::Nothing => push_literal(out, table, field, NEW_NAME),
     }
 }
 

@@ -16,7 +16,6 @@
 mod decoder;
 mod encoder;
 mod fault;
-mod found;
 mod huffman;
 mod huffman_writing;
 mod integer;
@@ -26,6 +25,7 @@ mod search_table;
 mod static_table;
 mod string_literal;
 mod table;
+mod table_match;
 
 pub use decoder::Decoder;
 pub use encoder::Encoder;

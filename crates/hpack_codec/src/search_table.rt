@@ -3,9 +3,9 @@ ghost use Rattle.std.specs.Prelude.{◌≡◌, ◌<◌, OnOk};
 ghost use Rattle.hpack_codec.specs.Table.{size_of, insert_entry, resize, empty_table};
 ghost use Rattle.hpack_codec.specs.Reading.{IsFound};
 
-use crate::found::Found;
 use crate::static_table;
 use crate::table::DynamicTable;
+use crate::table_match::TableMatch;
 use lists::Field;
 use std::alloc::{AllocError, Global};
 use std::collections::VecDeque;
@@ -71,35 +71,35 @@ impl SearchTable {
 
     /// Where the tables have a field: an entry of its name and value, or else the least index of
     /// its name, the static table first. No field is whole in both tables.
-    pub fn find(&self, name: &[u8], value: &[u8]) -> Found
+    pub fn find(&self, name: &[u8], value: &[u8]) -> TableMatch
         ensures { IsFound self.now result name.now value.now }
     {
         let recent = self.find_recent(name, value);
-        if let Found::Whole(_) = recent {
+        if let TableMatch::Whole(_) = recent {
             return recent;
         }
         match static_table::find(name, value) {
-            Found::Nothing => recent,
+            TableMatch::Nothing => recent,
             found => found,
         }
     }
 
-    fn find_recent(&self, name: &[u8], value: &[u8]) -> Found
+    fn find_recent(&self, name: &[u8], value: &[u8]) -> TableMatch
         ensures { IsFound self.now result name.now value.now }
     {
         let wanted = mark_of(name, value);
-        let mut found = Found::Nothing;
+        let mut found = TableMatch::Nothing;
         let mut index = NEWEST;
         for mark in &self.marks {
             if is_candidate(*mark, wanted, found) {
                 match self.at(index, name, value) {
-                    Found::Whole(index) => return Found::Whole(index),
-                    Found::Name(index) => {
-                        if let Found::Nothing = found {
-                            found = Found::Name(index);
+                    TableMatch::Whole(index) => return TableMatch::Whole(index),
+                    TableMatch::Name(index) => {
+                        if let TableMatch::Nothing = found {
+                            found = TableMatch::Name(index);
                         }
                     }
-                    Found::Nothing => (),
+                    TableMatch::Nothing => (),
                 }
             }
             index = index.saturating_add(1);
@@ -108,26 +108,26 @@ impl SearchTable {
     }
 
     /// How much of a field the entry at an index has.
-    fn at(&self, index: u32, name: &[u8], value: &[u8]) -> Found
+    fn at(&self, index: u32, name: &[u8], value: &[u8]) -> TableMatch
         ensures { IsFound self.now result name.now value.now }
     {
         let Some((entry_name, entry_value)) = self.table.get(index) else {
-            return Found::Nothing;
+            return TableMatch::Nothing;
         };
         if entry_name == name {
             if entry_value == value {
-                return Found::Whole(index);
+                return TableMatch::Whole(index);
             }
-            return Found::Name(index);
+            return TableMatch::Name(index);
         }
-        Found::Nothing
+        TableMatch::Nothing
     }
 }
 
 /// Whether an entry with this mark can have the field, or its name where none was found.
-fn is_candidate(mark: u32, wanted: u32, found: Found) -> bool {
+fn is_candidate(mark: u32, wanted: u32, found: TableMatch) -> bool {
     match found {
-        Found::Nothing => mark / SPAN == wanted / SPAN,
+        TableMatch::Nothing => mark / SPAN == wanted / SPAN,
         _ => mark == wanted,
     }
 }

@@ -3,7 +3,7 @@ ghost use Rattle.std.specs.Prelude.{◌≡◌, ◌<◌, length, map, slice_get, 
 ghost use Rattle.hpack_codec.specs.StaticTable.{static_table, entry};
 ghost use Rattle.hpack_codec.specs.Reading.{IsStatic};
 
-use crate::found::Found;
+use crate::table_match::TableMatch;
 use lists::{Field, Octets};
 
 /// How many entries there are.
@@ -106,19 +106,19 @@ fn pair_at(pairs: &[Pair], place: usize) -> Pair
 }
 
 /// The least index of a field, or else of its name.
-pub fn find(name: &[u8], value: &[u8]) -> Found
+pub fn find(name: &[u8], value: &[u8]) -> TableMatch
     ensures { IsStatic result name.now value.now }
 {
-    let mut found = Found::Nothing;
+    let mut found = TableMatch::Nothing;
     for place in 0..LEN {
         let index = place as u32 + 1;
         let (entry_name, entry_value) = static_entry(place);
         if entry_name == name {
             if entry_value == value {
-                return Found::Whole(index);
+                return TableMatch::Whole(index);
             }
-            if let Found::Nothing = found {
-                found = Found::Name(index);
+            if let TableMatch::Nothing = found {
+                found = TableMatch::Name(index);
             }
         }
     }

@@ -72,9 +72,9 @@ const ALL: [Command; 9] = [
         text: "  misbehave NAME ..
       Serve port P of H (default 127.0.0.1), misbehave in the way with this
       name, and judge the client. Several names, or all, take one port each,
-      from P on. Each case says first what the client has to do, then what it
-      did, and whether that is ok, failed (with the sentence that forbids it) or
-      not tested.
+      from P on. Each case says first what the client has to do, then what the
+      client did, and whether that is ok, failed (with the sentence that forbids
+      it) or not tested.
       --timeout S    end a case after S seconds (default 30), if the client
                      hasn't gone before
       --port-file    FILE gets the first port once all ports listen
@@ -135,12 +135,14 @@ const ALL: [Command; 9] = [
       would, and judge its reaction by RFC 9113, RFC 7541 and gRPC. CASES are
       all, a group (start, conn, hpack, stream, flow, control, grpc), or cases,
       as grpc/4. Each case has a line. A case that fails is tried twice more:
-      unsteady means that one of the tries passed. Not applicable means that the
-      server's SETTINGS leave no room for the case.
+      unsteady means that some tries passed. Not applicable means that the
+      server's SETTINGS leave no room for the case, or that its steps fail
+      without their fault too.
       --silence S    end a case after S milliseconds of silence (default 1000)
       --timeout T    the seconds that a case may take (default 10)
       --jobs N       run N cases at a time (default 8)
-      --verbose      print what each case sent and read
+      --verbose      print the frames that each case read and, if it isn't ok,
+                     the bytes that it sent
       --list         print all cases",
     },
 ];
@@ -167,8 +169,8 @@ const RUN: &str = "  RUN
                      output)
       --junit FILE   write JUnit's XML
       --tap          print TAP
-      --save DIR     save the bytes of each case that failed, for frames and
-                     parts
+      --save DIR     save the bytes of each case that failed, is unsteady or
+                     wasn't tested, for frames and parts
 ";
 
 const SEEN: &str = "  SEEN

@@ -34,7 +34,7 @@ mod signed;
 
 use commands::{RunFault, listen, run_body, run_drain, run_parts, run_self, serve};
 use connection::OpenGate;
-use device::Marked;
+use device::StdDevice;
 use frames::{FramesFault, run_frames};
 use handlers::{
     CacheableUnaryCall, EmptyCall, FullDuplexCall, HalfDuplexCall, Method, Methods,
@@ -52,7 +52,7 @@ use std::sync::{Arc, Wait};
 use std::thread::Threads;
 use std::time::Clock;
 use std::{env, io};
-use trials::{TrialFault, Verdict, run_case, run_wire};
+use trials::{RunVerdict, TrialFault, run_case, run_wire};
 use words::{
     CaseWords, FramesWords, LOOPBACK, MisbehaveWords, Port, Reason, ServeWords, WireWords, Words,
     WordsFault, read_words,
@@ -80,8 +80,8 @@ fn describe(rt: &impl Print, words: &[String]) -> Option<io::Result<()>> {
 fn print_body<R: Input + Print + Eprint + AllocGlobal>(rt: &R, cut: usize) -> u8
     requires { 0 < cut }
 {
-    let mut input = Marked::new(rt.reader());
-    let mut output = Marked::new(io::writer(rt));
+    let mut input = StdDevice::new(rt.reader());
+    let mut output = StdDevice::new(io::writer(rt));
     match run_body(rt.alloc(), &mut input, cut, &mut output) {
         Ok(()) => 0,
         Err(fault) => explain_fault(rt, fault),
@@ -93,8 +93,8 @@ fn print_frames<R>(rt: &R, words: &FramesWords<'_>) -> u8
 where
     R: Files + Input + Print + Eprint + AllocGlobal,
 {
-    let mut input = Marked::new(rt.reader());
-    let mut output = Marked::new(io::writer(rt));
+    let mut input = StdDevice::new(rt.reader());
+    let mut output = StdDevice::new(io::writer(rt));
     match run_frames(rt, words, &mut input, &mut output) {
         Ok(()) => 0,
         Err(FramesFault::BothSides) => complain(rt, "one of two files has both sides"),
@@ -108,7 +108,7 @@ where
             let _said = eprintln!(rt; "interop: bad input: {fault}");
             BAD_WORDS
         }
-        Err(FramesFault::WriteFailed) => fail(rt, UNWRITTEN),
+        Err(FramesFault::WriteFailed) => end_unwritten(rt),
         Err(FramesFault::ReadFailed) if words.files.is_empty() => {
             fail(rt, "standard input can't be read")
         }
@@ -119,11 +119,11 @@ where
 }
 
 // The exit status of a run of cases.
-fn status_of(answer: Result<Verdict, TrialFault>) -> u8 {
+fn status_of(answer: Result<RunVerdict, TrialFault>) -> u8 {
     match answer {
-        Ok(Verdict::Passed) => 0,
-        Ok(Verdict::Failed) => CASE_FAILED,
-        Ok(Verdict::UnknownCase) | Err(TrialFault::BadKnown) => BAD_WORDS,
+        Ok(RunVerdict::Passed) => 0,
+        Ok(RunVerdict::Failed) => CASE_FAILED,
+        Ok(RunVerdict::UnknownCase) | Err(TrialFault::BadKnown) => BAD_WORDS,
         Err(TrialFault::Failed | TrialFault::OutOfMemory) => FAILED,
     }
 }
@@ -135,10 +135,10 @@ where
     R: Files<File = File> + Threads + Wait + Clock + Copy + Send + Sync + Drop + 'static,
 {
     let lists = matches!(&words, CaseWords::List);
-    let mut output = Marked::new(io::writer(rt));
+    let mut output = StdDevice::new(io::writer(rt));
     let answer = run_case(*rt, words, is_shown, &mut output);
     if lists && output.has_failed() {
-        return fail(rt, UNWRITTEN);
+        return end_unwritten(rt);
     }
     status_of(answer)
 }
@@ -150,10 +150,10 @@ where
     R: Files<File = File> + Threads + Wait + Clock + Copy + Send + Sync + Drop + 'static,
 {
     let lists = matches!(&words, MisbehaveWords::List { .. });
-    let mut output = Marked::new(io::writer(rt));
+    let mut output = StdDevice::new(io::writer(rt));
     let answer = run_misbehave(*rt, words, is_shown, &mut output);
     if lists && output.has_failed() {
-        return fail(rt, UNWRITTEN);
+        return end_unwritten(rt);
     }
     status_of(answer)
 }
@@ -165,10 +165,10 @@ where
     R: Files<File = File> + Threads + Wait + Clock + Copy + Send + Sync + Drop + 'static,
 {
     let lists = matches!(&words, WireWords::List);
-    let mut output = Marked::new(io::writer(rt));
+    let mut output = StdDevice::new(io::writer(rt));
     let answer = run_wire(*rt, words, is_shown, &mut output);
     if lists && output.has_failed() {
-        return fail(rt, UNWRITTEN);
+        return end_unwritten(rt);
     }
     status_of(answer)
 }
@@ -234,7 +234,7 @@ where
     let Ok(listener) = listen(&rt, LOOPBACK, Port::Number(port)) else {
         return FAILED;
     };
-    let mut output = Marked::new(io::writer(&rt));
+    let mut output = StdDevice::new(io::writer(&rt));
     match run_self(rt, methods, listener, port, &mut output) {
         Ok(true) => 0,
         Ok(false) => CASE_FAILED,
@@ -253,7 +253,7 @@ where
     let Ok(listener) = listen(&rt, LOOPBACK, Port::Number(port)) else {
         return FAILED;
     };
-    let mut output = Marked::new(io::writer(&rt));
+    let mut output = StdDevice::new(io::writer(&rt));
     match run_drain(rt, methods, listener, port, &mut output) {
         Ok(true) => 0,
         Ok(false) => CASE_FAILED,
@@ -281,8 +281,8 @@ where
     let Ok(gate) = Arc::new(rt.alloc(), OpenGate) else {
         return FAILED;
     };
-    let mut input = Marked::new(rt.reader());
-    let mut output = Marked::new(io::writer(&rt));
+    let mut input = StdDevice::new(rt.reader());
+    let mut output = StdDevice::new(io::writer(&rt));
     match run_parts(rt, rt.alloc(), methods, gate, &mut input, &mut output) {
         Ok(()) => 0,
         Err(fault) => explain_fault(&rt, fault),
@@ -302,7 +302,7 @@ where
     if let Some(said) = describe(rt, words) {
         return match said {
             Ok(()) => 0,
-            Err(_) => fail(rt, UNWRITTEN),
+            Err(_) => end_unwritten(rt),
         };
     }
     if let Some(reason) = signed::signed_port(words) {
@@ -361,6 +361,16 @@ fn explain_fault(rt: &impl Eprint, fault: RunFault) -> u8 {
         RunFault::ReadFailed => fail(rt, "standard input can't be read"),
         RunFault::WriteFailed => fail(rt, UNWRITTEN),
         RunFault::OutOfMemory => fail(rt, "out of memory"),
+    }
+}
+
+// Says on standard error that standard output can't be written. If nobody reads it any more, as
+// after `| head`, that is no failure, and nothing is said. A device doesn't keep why a write
+// failed, so one more is tried, which then fails for the same reason.
+fn end_unwritten<R: Print + Eprint>(rt: &R) -> u8 {
+    match println!(rt; "") {
+        Err(error) if error.kind() == ErrorKind::BrokenPipe => 0,
+        _ => fail(rt, UNWRITTEN),
     }
 }
 

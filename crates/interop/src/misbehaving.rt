@@ -2,8 +2,8 @@
 //! `misbehave`).
 
 use device::ConnWrite;
-use misbehave::{Misbehaviour, Place, Played, RunFault, Stage, list, misbehaviours};
-use recorder::{Overlooked, Recorder};
+use misbehave::{Misbehaviour, PlayOutcome, PlayPlace, RunFault, Stage, list, misbehaviours};
+use recorder::{Recorder, WatchedNet};
 use results::{ChoiceFault, Entry, Level, Suite, chosen};
 use sinks::{Run, Sinks, write_whole};
 use std::alloc::{AllocError, Global};
@@ -13,7 +13,7 @@ use std::rt::Files;
 use std::sync::Wait;
 use std::thread::Threads;
 use std::time::Clock;
-use trials::{TrialFault, Verdict, choice_of, end_run, refuse_choice};
+use trials::{RunVerdict, TrialFault, choice_of, end_run, refuse_choice};
 use words::{LOOPBACK, MisbehaveRun, MisbehaveWords};
 
 /// Lists the misbehaviours, or runs those that the words choose, and reports each outcome. If
@@ -23,7 +23,7 @@ pub fn run_misbehave<R, W>(
     words: MisbehaveWords<'_>,
     is_shown: bool,
     output: &mut W,
-) -> Result<Verdict, TrialFault>
+) -> Result<RunVerdict, TrialFault>
 where
     R: Net + Files<File = File> + Eprint + AllocGlobal + Clock,
     R: Threads + Wait + Copy + Send + Sync + Drop + 'static,
@@ -33,7 +33,7 @@ where
     let words = match words {
         MisbehaveWords::List { is_verbose } => {
             return match list(alloc, is_verbose, output) {
-                Ok(()) => Ok(Verdict::Passed),
+                Ok(()) => Ok(RunVerdict::Passed),
                 Err(fault) => Err(told(&rt, LOOPBACK, fault)),
             };
         }
@@ -54,13 +54,13 @@ where
         return Ok(refuse_port(&rt, &words, last));
     }
     let recorder = Recorder::open(&rt, alloc, words.tracing, None)?;
-    let net = Overlooked::new(rt, &recorder);
+    let net = WatchedNet::new(rt, &recorder);
     let verdict = run_chosen(rt, net, alloc, places.as_slice(), &words, is_shown, output);
     end_run(&rt, &recorder, verdict)
 }
 
 /// Says that there is no misbehaviour of this name, and which there are.
-fn refuse_name<R: Eprint>(rt: &R, plays: &[Misbehaviour], name: &str) -> Verdict {
+fn refuse_name<R: Eprint>(rt: &R, plays: &[Misbehaviour], name: &str) -> RunVerdict {
     // The exit status reports it even if nothing can be written here.
     let _said = eprint!(rt; "interop: there is no misbehaviour {name}: all");
     for play in plays {
@@ -68,11 +68,11 @@ fn refuse_name<R: Eprint>(rt: &R, plays: &[Misbehaviour], name: &str) -> Verdict
         let _said = eprint!(rt; ", {known}");
     }
     let _said = eprintln!(rt; "");
-    Verdict::UnknownCase
+    RunVerdict::UnknownCase
 }
 
 /// Says that the last of the ports isn't there.
-fn refuse_port<R: Eprint>(rt: &R, words: &MisbehaveRun<'_>, last: usize) -> Verdict {
+fn refuse_port<R: Eprint>(rt: &R, words: &MisbehaveRun<'_>, last: usize) -> RunVerdict {
     let what = match words.names.as_slice() {
         [name] => *name,
         _ => "this",
@@ -80,7 +80,7 @@ fn refuse_port<R: Eprint>(rt: &R, words: &MisbehaveRun<'_>, last: usize) -> Verd
     // The exit status reports it even if nothing can be written here.
     let _said = eprintln!(rt; "interop: bad arguments");
     let _said = eprintln!(rt; "interop: {what} needs ports up to {last}, and the last is 65535");
-    Verdict::UnknownCase
+    RunVerdict::UnknownCase
 }
 
 /// What can be chosen.
@@ -131,7 +131,7 @@ fn run_chosen<R, N, W>(
     words: &MisbehaveRun<'_>,
     is_shown: bool,
     output: &mut W,
-) -> Result<Verdict, TrialFault>
+) -> Result<RunVerdict, TrialFault>
 where
     R: Files + Eprint + AllocGlobal + Clock + Copy + Drop,
     N: Net + Clock + Copy + Drop,
@@ -148,7 +148,7 @@ where
         is_shown: is_shown && !words.tracing.is_shown(),
     };
     let mut sinks = Sinks::open(rt, alloc, run)?;
-    let place = Place {
+    let place = PlayPlace {
         host: words.host,
         port: words.port,
         seconds: words.seconds,
@@ -168,7 +168,7 @@ where
         }
     }
     drop(stage);
-    Ok(Verdict::from(sinks.close(output)?))
+    Ok(RunVerdict::from(sinks.close(output)?))
 }
 
 /// Writes the files that tell that the ports are listened on: the number of the first, and a line
@@ -217,7 +217,7 @@ where
     W: ConnWrite,
 {
     sinks.say(stage.heading(at)?.as_str(), output)?;
-    if let Some(Played { mut outcome, text }) = stage.play(at)? {
+    if let Some(PlayOutcome { mut outcome, text }) = stage.play(at)? {
         sinks.ended(&mut outcome, output)?;
         sinks.tell(outcome, text.as_bytes(), output)?;
     }

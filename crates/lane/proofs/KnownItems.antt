@@ -28,7 +28,7 @@ use mathlib.Core.List.{IsPrefix}
 use Rattle.lane.specs.Notes.{known_item, holds_item}
 use Rattle.lane.specs.KnownCells.{item_of, items_of}
 use Rattle.lane.specs.Lawful.{last_of}
-use Rattle.lane.specs.declared.row_lane.known_cell.Known.{Known}
+use Rattle.lane.specs.declared.row_lane.known_cell.KnownCell.{KnownCell}
 
 length_known_item : {T : Type 0} → (k : Option (Option T)) → holds_item k ≡ true
     → length (known_item k) ≡ 1
@@ -37,7 +37,7 @@ length_known_item (Some None) h = cc
 length_known_item (Some (Some item)) h = refl
 
 -- each cell has one item
-pub length_items_of : {T : Type 0} → (all : List (Known T)) → length (items_of all) ≡ length all
+pub length_items_of : {T : Type 0} → (all : List (KnownCell T)) → length (items_of all) ≡ length all
 length_items_of [] = refl
 length_items_of (known ∷ rest) =
     omega (
@@ -48,13 +48,13 @@ length_items_of (known ∷ rest) =
     )
 
 -- the items of the first cells begin the items of all
-pub prefix_of_known : {T : Type 0} → (front all : List (Known T)) (n : ℕ)
+pub prefix_of_known : {T : Type 0} → (front all : List (KnownCell T)) (n : ℕ)
     → items_of front ≡ items_of (take n all) → IsPrefix (items_of front) (items_of all)
 prefix_of_known {T} front all n same = (
   items_of (drop n all),
   ap (λ (items : List T). items ++ items_of (drop n all)) same
       ∙ (sym (flat_map-append item_of (take n all) (drop n all))
-      ∙ ap (λ (known : List (Known T)). items_of known) (take-append-drop n all)),
+      ∙ ap (λ (known : List (KnownCell T)). items_of known) (take-append-drop n all)),
 )
 
 pub last_of_push : {T : Type 0} → (items : List T) (item : T)
@@ -76,16 +76,16 @@ pub lent_last : {T : Type 0} → (lent : Option (Bor T)) (kept : Option T) (item
 lent_last None kept items is last = none_last items (sym last ∙ sym is)
 lent_last (Some r) kept items is last = sym last ∙ sym is
 
-items_of_push : {T : Type 0} → (front all : List (Known T)) (last : Known T) (item : T)
+items_of_push : {T : Type 0} → (front all : List (KnownCell T)) (last : KnownCell T) (item : T)
     → all ≡ front ++ last ∷ [] → item_of last ≡ item ∷ []
     → items_of all ≡ items_of front ++ item ∷ []
 items_of_push {T} front all last item is has =
-    ap (λ (known : List (Known T)). items_of known) is
+    ap (λ (known : List (KnownCell T)). items_of known) is
     ∙ flat_map-append item_of front (last ∷ [])
     ∙ ap (λ (items : List T). items_of front ++ (items ++ [])) has
 
 -- an item more
-pub one_more : {T : Type 0} → (front all : List (Known T)) (last same : Known T) (item : T)
+pub one_more : {T : Type 0} → (front all : List (KnownCell T)) (last same : KnownCell T) (item : T)
     → all ≡ front ++ last ∷ [] → item_of same ≡ item_of last → item_of same ≡ item ∷ []
     → items_of all ≡ items_of front ++ item ∷ []
 one_more front all last same item is known has =
@@ -93,7 +93,7 @@ one_more front all last same item is known has =
 
 -- the last item once more
 pub last_again : {T : Type 0}
-    → (front all put : List (Known T)) (last kept same : Known T) (item : T)
+    → (front all put : List (KnownCell T)) (last kept same : KnownCell T) (item : T)
     → all ≡ front ++ last ∷ [] → put ≡ front ++ kept ∷ [] → item_of kept ≡ item_of last
     → item_of same ≡ item_of last → item_of same ≡ item ∷ []
     → (items_of put ≡ items_of all) × (last_of (items_of all) ≡ Some item)

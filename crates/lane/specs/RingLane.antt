@@ -8,7 +8,7 @@ use Rattle.lane.specs.Linked.{of_second, count_second}
 use Rattle.lane.specs.Firsts.{seen_first}
 use Rattle.lane.specs.Second as second
 use Rattle.lane.specs.declared.ring_lane.second.SecondOut.{SecondOut}
-use Rattle.lane.specs.declared.ring_lane.step.Step.{Step}
+use Rattle.lane.specs.declared.ring_lane.step.RingStep.{RingStep}
 use Rattle.lane.specs.declared.ring_lane.RingLaneIn.{RingLaneIn}
 use Rattle.lane.specs.declared.ring_lane.RingLaneShut.{RingLaneShut}
 use Rattle.lane.specs.declared.ring_lane.RingLaneOut.{RingLaneOut}
@@ -47,7 +47,7 @@ module _ {T : Type 0} where
   got rx = pieces (received rx.first) ++ of_second second.got rx.second
 
   -- what the next polls give, after the reader went on, or before
-  abbrev pub ahead_at : Option (SecondOut T) → List (Step T) → List T
+  abbrev pub ahead_at : Option (SecondOut T) → List (RingStep T) → List T
   ahead_at None known = ahead_of known
   ahead_at (Some out) known = second.ahead out
 

@@ -1,4 +1,4 @@
-//! Queues from one writer to one reader, whose ends may go to threads of their own.
+//! Queues with one writing and one reading end, each of which may go to a thread of its own.
 //!
 //! In every schedule what the reading end got is a prefix of what the writing end put. Neither end
 //! can say so alone: each knows what it did itself. `settle` or `meet` compares the two, once both

@@ -44,7 +44,7 @@ use second::{SecondIn, SecondOut, SecondShut};
 use settling::settle_rings;
 use std::alloc::{AllocError, Global};
 use std::marker::PhantomData;
-use step::Step;
+use step::RingStep;
 
 /// How many places a first ring has at most. So a lane with room for 16 items has no second ring.
 const FIRST_PLACES: usize = 17;
@@ -52,7 +52,7 @@ const FIRST_PLACES: usize = 17;
 /// The writing end of a `RingLane`.
 #[derive(Drop)]
 pub struct RingLaneIn<T> {
-    first: Producer<Step<T>>,
+    first: Producer<RingStep<T>>,
     // The second ring, once the writer went on to it.
     second: Option<SecondIn<T>>,
     room: usize,
@@ -76,7 +76,7 @@ pub struct RingLaneIn<T> {
 /// What is left of the writing end after `last`.
 #[derive(Drop)]
 pub struct RingLaneShut<T> {
-    first: Producer<Step<T>>,
+    first: Producer<RingStep<T>>,
     second: Option<SecondShut<T>>,
     room: usize,
     count: u64,
@@ -94,7 +94,7 @@ pub struct RingLaneShut<T> {
 /// The reading end of a `RingLane`.
 #[derive(Drop)]
 pub struct RingLaneOut<T> {
-    first: Consumer<Step<T>>,
+    first: Consumer<RingStep<T>>,
     // The second ring, once the way on was taken.
     second: Option<SecondOut<T>>,
     room: usize,
@@ -232,7 +232,7 @@ impl<T: Send + Sync + Drop> Lane for RingLane<T> {
             }
             None => {}
         }
-        first.push_reserved(Step::Piece(item));
+        first.push_reserved(RingStep::Piece(item));
         RingLaneShut {
             first,
             second: None,

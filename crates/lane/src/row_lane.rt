@@ -14,7 +14,7 @@ mod known_cell;
 use crate::fault::PutFault;
 use crate::lane::{End, Lane, Settled};
 use cells::{Cells, compare, item_at, look_at, set_at, unset_cells};
-use known_cell::Known;
+use known_cell::KnownCell;
 use rtrb::{Consumer, Producer, RingBuffer};
 use std::alloc::{AllocError, Global};
 use std::marker::PhantomData;
@@ -24,7 +24,7 @@ use std::sync::Arc;
 #[derive(Drop)]
 pub struct RowLaneIn<T> {
     cells: Arc<Cells<T>, Global>,
-    put: Vec<Known<T>>,
+    put: Vec<KnownCell<T>>,
     // The box of the last item.
     spare: Box<Option<T>>,
     alloc: Global,
@@ -43,7 +43,7 @@ pub struct RowLaneIn<T> {
 #[derive(Drop)]
 pub struct RowLaneShut<T> {
     cells: Arc<Cells<T>, Global>,
-    put: Vec<Known<T>>,
+    put: Vec<KnownCell<T>>,
     placed: bool,
     marks: Producer<u8>,
     ghost within: { vec_len put + 1 ≤ producer_capacity marks + last_count placed },
@@ -55,7 +55,7 @@ pub struct RowLaneShut<T> {
 #[derive(Drop)]
 pub struct RowLaneOut<T> {
     cells: Arc<Cells<T>, Global>,
-    got: Vec<Known<T>>,
+    got: Vec<KnownCell<T>>,
     marks: Consumer<u8>,
     // How many marks were popped.
     marked: usize,

@@ -9,18 +9,18 @@ use std::mem;
 
 /// The bytes of a message that is cut over pieces, as far as they were looked at, with its prefix.
 #[derive(Drop)]
-pub(crate) struct Joined {
+pub(crate) struct JoinedBytes {
     bytes: Vec<u8>,
     // It has no more than the message that begins there.
     ghost within: { (total : ℕ) → extent_of bytes.items ≡ Ok total → length bytes.items ≤ total },
 }
 
-impl Joined {
+impl JoinedBytes {
     /// No byte of a message. It takes no memory yet.
-    pub(crate) fn new(alloc: Global) -> Joined
+    pub(crate) fn new(alloc: Global) -> JoinedBytes
         ensures { result.bytes.items ≡ [] }
     {
-        Joined {
+        JoinedBytes {
             bytes: Vec::new(alloc),
         }
     }

@@ -32,7 +32,7 @@ ghost use Rattle.lpm.specs.Fronts.{TakesFront, extent_of, waiting, left_over};
 
 use crate::LpmFault;
 use crate::front::{PREFIX_LEN, frame_len};
-use crate::joined::Joined;
+use crate::joined::JoinedBytes;
 use crate::tail::Tail;
 use bytes::Bytes;
 use std::alloc::{AllocError, Global};
@@ -58,7 +58,7 @@ pub enum Split {
 #[derive(Drop)]
 pub struct Splitter {
     /// The bytes of a message that is cut over pieces, as far as they were looked at.
-    joined: Joined,
+    joined: JoinedBytes,
     /// The rest of the piece that follows them, which wasn't looked at yet.
     piece: Bytes,
     /// The pieces that follow it.
@@ -80,7 +80,7 @@ impl Splitter {
         ensures { result ≡ [] }
     {
         Splitter {
-            joined: Joined::new(alloc),
+            joined: JoinedBytes::new(alloc),
             piece: Bytes::new(),
             later: VecDeque::new(alloc),
         }
@@ -163,7 +163,7 @@ impl Splitter {
 }
 
 /// One step of `next`: an answer, or more bytes are ready to be looked at.
-fn turn(joined: &mut Joined, piece: &mut Bytes, later: &mut VecDeque<Bytes>) -> Option<Split>
+fn turn(joined: &mut JoinedBytes, piece: &mut Bytes, later: &mut VecDeque<Bytes>) -> Option<Split>
     ensures answer { IfSome result
         (λ split. Answers (waiting joined.old.bytes.items piece.old later.old.items)
         split (waiting joined.new.bytes.items piece.new later.new.items)) }
@@ -195,7 +195,7 @@ fn turn(joined: &mut Joined, piece: &mut Bytes, later: &mut VecDeque<Bytes>) -> 
 
 /// A message begins at the front of a piece: it is a slice of the piece, or its bytes are to be
 /// joined.
-fn start(joined: &mut Joined, piece: &mut Bytes) -> Option<Split>
+fn start(joined: &mut JoinedBytes, piece: &mut Bytes) -> Option<Split>
     requires begins { joined.old.bytes.items ≡ [] }
     requires some { 0 < length piece.old }
     ensures answer { (rest : List ℕ)
@@ -220,7 +220,7 @@ fn start(joined: &mut Joined, piece: &mut Bytes) -> Option<Split>
 
 /// Moves bytes of the piece to the end of the joined ones, up to the end of the prefix or of the
 /// message that it announces.
-fn join(joined: &mut Joined, piece: &mut Bytes, len: usize) -> Option<Split>
+fn join(joined: &mut JoinedBytes, piece: &mut Bytes, len: usize) -> Option<Split>
     requires extent { extent_of joined.old.bytes.items ≡ Ok len }
     requires unfinished { length joined.old.bytes.items < len }
     requires some { 0 < length piece.old }
@@ -235,7 +235,7 @@ fn join(joined: &mut Joined, piece: &mut Bytes, len: usize) -> Option<Split>
 }
 
 /// Answers the message that was joined.
-fn take_joined(joined: &mut Joined) -> Split
+fn take_joined(joined: &mut JoinedBytes) -> Split
     requires prefix { 5 ≤ length joined.old.bytes.items }
     ensures { TakesFront joined.old.bytes.items (length joined.old.bytes.items)
         result joined.new.bytes.items }

@@ -2,7 +2,7 @@
 
 use crate::misbehaviour::{Misbehaviour, Need, PLAIN};
 use crate::responses::HEAD;
-use crate::step::{Part, Step};
+use crate::step::{Part, PlayStep};
 
 const LEAVES: &str =
     "the call fails with UNAVAILABLE, or is made again elsewhere (gRPC over HTTP/2, \"Connection \
@@ -13,7 +13,7 @@ pub static CLOSING: [Misbehaviour; 6] = [
         name: "closed_before_the_call",
         does: "ends the connection after its SETTINGS, before a call comes",
         wants: LEAVES,
-        steps: &[Step::Close],
+        steps: &[PlayStep::Close],
         need: Need::Sign,
         ..PLAIN
     },
@@ -21,7 +21,7 @@ pub static CLOSING: [Misbehaviour; 6] = [
         name: "closed_after_the_request_head",
         does: "ends the connection once a call's head came",
         wants: LEAVES,
-        steps: &[Step::AwaitCall, Step::Close],
+        steps: &[PlayStep::AwaitCall, PlayStep::Close],
         need: Need::Sign,
         ..PLAIN
     },
@@ -29,7 +29,7 @@ pub static CLOSING: [Misbehaviour; 6] = [
         name: "closed_after_the_request",
         does: "ends the connection once a call's request came",
         wants: LEAVES,
-        steps: &[Step::AwaitCall, Step::AwaitRequest, Step::Close],
+        steps: &[PlayStep::AwaitCall, PlayStep::AwaitRequest, PlayStep::Close],
         need: Need::Sign,
         ..PLAIN
     },
@@ -38,10 +38,10 @@ pub static CLOSING: [Misbehaviour; 6] = [
         does: "ends the connection after the head of a reply",
         wants: LEAVES,
         steps: &[
-            Step::AwaitCall,
-            Step::AwaitRequest,
-            Step::Head(HEAD),
-            Step::Close,
+            PlayStep::AwaitCall,
+            PlayStep::AwaitRequest,
+            PlayStep::Head(HEAD),
+            PlayStep::Close,
         ],
         need: Need::Sign,
         ..PLAIN
@@ -51,11 +51,11 @@ pub static CLOSING: [Misbehaviour; 6] = [
         does: "ends the connection inside a DATA frame of a reply",
         wants: LEAVES,
         steps: &[
-            Step::AwaitCall,
-            Step::AwaitRequest,
-            Step::Head(HEAD),
-            Step::HalfFrame,
-            Step::Close,
+            PlayStep::AwaitCall,
+            PlayStep::AwaitRequest,
+            PlayStep::Head(HEAD),
+            PlayStep::HalfFrame,
+            PlayStep::Close,
         ],
         need: Need::Sign,
         ..PLAIN
@@ -65,11 +65,11 @@ pub static CLOSING: [Misbehaviour; 6] = [
         does: "ends the connection after a whole reply, before its trailers",
         wants: LEAVES,
         steps: &[
-            Step::AwaitCall,
-            Step::AwaitRequest,
-            Step::Head(HEAD),
-            Step::Reply(Part::Rest),
-            Step::Close,
+            PlayStep::AwaitCall,
+            PlayStep::AwaitRequest,
+            PlayStep::Head(HEAD),
+            PlayStep::Reply(Part::Rest),
+            PlayStep::Close,
         ],
         need: Need::Sign,
         ..PLAIN

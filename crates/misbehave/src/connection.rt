@@ -13,7 +13,7 @@ use crate::frame_text::{
     ACK, DATA, NO_FLAGS, PING, SETTINGS, WINDOW_UPDATE, push_frame, push_frame_head,
 };
 use crate::halt::Halt;
-use crate::intake::{Intake, Told};
+use crate::intake::{FrameNews, Intake};
 use crate::line::Line;
 use crate::rules::Rules;
 use crate::step::Setting;
@@ -215,7 +215,7 @@ impl<L: Line> Connection<L> {
 
     /// From here on the bytes of calls are given back as they come. Their windows are the usual
     /// ones.
-    pub fn give_back(&mut self) -> Result<(), Halt> {
+    pub fn return_credit(&mut self) -> Result<(), Halt> {
         self.rules.gives_back = true;
         for index in 0..self.calls.len() {
             if let Some((stream, missing)) = self.missing(index) {
@@ -323,31 +323,31 @@ impl<L: Line> Connection<L> {
     }
 
     /// Takes what a frame says.
-    fn take(&mut self, told: Told) -> Result<(), Halt> {
+    fn take(&mut self, told: FrameNews) -> Result<(), Halt> {
         match told {
-            Told::Head(stream, last, is_updated) => self.head(stream, last, is_updated),
-            Told::Data(stream, last, len, bytes) => self.data(stream, last, len, &bytes),
-            Told::Reset(stream, code) => self.reset(stream, code),
-            Told::Settings(content) => self.settings(&content),
-            Told::SettingsAck => {
+            FrameNews::Head(stream, last, is_updated) => self.head(stream, last, is_updated),
+            FrameNews::Data(stream, last, len, bytes) => self.data(stream, last, len, &bytes),
+            FrameNews::Reset(stream, code) => self.reset(stream, code),
+            FrameNews::Settings(content) => self.settings(&content),
+            FrameNews::SettingsAck => {
                 let change = self.rules.acknowledged();
                 move_windows(&mut self.calls, change);
                 Ok(())
             }
-            Told::Ping(content) => {
+            FrameNews::Ping(content) => {
                 self.push(PING, ACK, 0, content.as_slice())?;
                 Ok(())
             }
-            Told::Pong(number) => {
+            FrameNews::Pong(number) => {
                 self.rules.pong(number);
                 self.pass(number);
                 Ok(())
             }
-            Told::GoAway(code) => {
+            FrameNews::GoAway(code) => {
                 self.goaway(code);
                 Ok(())
             }
-            Told::Credit(stream, increment) => self.credited(stream, increment),
+            FrameNews::Credit(stream, increment) => self.credited(stream, increment),
         }
     }
 

@@ -1,7 +1,7 @@
 //! What a client did, as far as the wire shows it.
 
 use crate::breach::Breach;
-use crate::lack::Lack;
+use crate::lack::ClientLack;
 
 /// NO_ERROR, REFUSED_STREAM, CANCEL and ENHANCE_YOUR_CALM: with these a peer gives up for a reason
 /// of its own, and doesn't say that the other one erred (RFC 9113, section 7).
@@ -45,7 +45,7 @@ pub struct Deeds {
     /// What it still owes after a long time: the answer of a PING, or an acknowledgement.
     pub overdue: Option<Breach>,
     /// What it doesn't do though the case needs it.
-    pub lack: Option<Lack>,
+    pub lack: Option<ClientLack>,
     /// Whether all that the server does wrong was sent.
     pub is_shown: bool,
     /// Whether the server has said all of the call, or of all, where the steps are about all.

@@ -3,7 +3,7 @@
 use crate::misbehaviour::{Calls, Duty, Misbehaviour, Need, PLAIN};
 use crate::responses::{HEAD, OK};
 use crate::sentences::Sentence;
-use crate::step::{Last, Part, Step};
+use crate::step::{LastStream, Part, PlayStep};
 
 pub static FRAMING: [Misbehaviour; 9] = [
     Misbehaviour {
@@ -12,12 +12,12 @@ pub static FRAMING: [Misbehaviour; 9] = [
         wants: "it passes over them, or resets the stream or ends the connection with \
             STREAM_CLOSED (RFC 9113, 5.1 and 6.1)",
         steps: &[
-            Step::AwaitCall,
-            Step::AwaitRequest,
-            Step::Head(HEAD),
-            Step::Reply(Part::Rest),
-            Step::Trailers(OK),
-            Step::Frame(0, 0, b"late"),
+            PlayStep::AwaitCall,
+            PlayStep::AwaitRequest,
+            PlayStep::Head(HEAD),
+            PlayStep::Reply(Part::Rest),
+            PlayStep::Trailers(OK),
+            PlayStep::Frame(0, 0, b"late"),
         ],
         ..PLAIN
     },
@@ -26,9 +26,9 @@ pub static FRAMING: [Misbehaviour; 9] = [
         does: "answers with a header block of the index 0",
         wants: "it ends the connection (RFC 7541, 6.1; RFC 9113, 4.3 and 5.4)",
         steps: &[
-            Step::AwaitCall,
-            Step::AwaitRequest,
-            Step::Frame(1, 4, b"\x88\x80"),
+            PlayStep::AwaitCall,
+            PlayStep::AwaitRequest,
+            PlayStep::Frame(1, 4, b"\x88\x80"),
         ],
         duty: Duty::EndsConnection(9, Sentence::Decoding),
         need: Need::Nothing,
@@ -39,10 +39,10 @@ pub static FRAMING: [Misbehaviour; 9] = [
         does: "sends DATA inside the header block of the head",
         wants: "it ends the connection (RFC 9113, 6.2 and 5.4)",
         steps: &[
-            Step::AwaitCall,
-            Step::AwaitRequest,
-            Step::Frame(1, 0, b"\x88"),
-            Step::Frame(0, 0, b"\x00\x00\x00\x00\x00"),
+            PlayStep::AwaitCall,
+            PlayStep::AwaitRequest,
+            PlayStep::Frame(1, 0, b"\x88"),
+            PlayStep::Frame(0, 0, b"\x00\x00\x00\x00\x00"),
         ],
         duty: Duty::EndsConnection(1, Sentence::CutBlock),
         need: Need::Nothing,
@@ -54,12 +54,12 @@ pub static FRAMING: [Misbehaviour; 9] = [
             where the client said none",
         wants: "it resets the call, or ends the connection (RFC 9113, 4.2 and 5.4)",
         steps: &[
-            Step::AwaitCall,
-            Step::AwaitRequest,
-            Step::Head(HEAD),
-            Step::TooLong,
-            Step::AwaitRejection,
-            Step::Trailers(OK),
+            PlayStep::AwaitCall,
+            PlayStep::AwaitRequest,
+            PlayStep::Head(HEAD),
+            PlayStep::TooLong,
+            PlayStep::AwaitRejection,
+            PlayStep::Trailers(OK),
         ],
         duty: Duty::EndsStream(6, Sentence::FrameSize),
         need: Need::Nothing,
@@ -72,13 +72,13 @@ pub static FRAMING: [Misbehaviour; 9] = [
         wants: "the call goes well (gRPC over HTTP/2, \"Data Frames\"), or it is given up (RFC \
             9113, 10.5)",
         steps: &[
-            Step::AwaitCall,
-            Step::AwaitRequest,
-            Step::Head(HEAD),
-            Step::Reply(Part::Bytewise),
-            Step::AwaitReading,
-            Step::Reply(Part::Rest),
-            Step::Trailers(OK),
+            PlayStep::AwaitCall,
+            PlayStep::AwaitRequest,
+            PlayStep::Head(HEAD),
+            PlayStep::Reply(Part::Bytewise),
+            PlayStep::AwaitReading,
+            PlayStep::Reply(Part::Rest),
+            PlayStep::Trailers(OK),
         ],
         duty: Duty::Tries,
         ..PLAIN
@@ -89,12 +89,12 @@ pub static FRAMING: [Misbehaviour; 9] = [
         wants: "it gives credit for the padding too, and the call goes well (RFC 9113, 6.1 and \
             6.9.1), or it is given up",
         steps: &[
-            Step::AwaitCall,
-            Step::AwaitRequest,
-            Step::Head(HEAD),
-            Step::Reply(Part::Padded),
-            Step::AwaitReading,
-            Step::Trailers(OK),
+            PlayStep::AwaitCall,
+            PlayStep::AwaitRequest,
+            PlayStep::Head(HEAD),
+            PlayStep::Reply(Part::Padded),
+            PlayStep::AwaitReading,
+            PlayStep::Trailers(OK),
         ],
         duty: Duty::Tries,
         ..PLAIN
@@ -106,14 +106,14 @@ pub static FRAMING: [Misbehaviour; 9] = [
         wants: "the header block of its next call begins with a change of the table's size to 0 \
             (RFC 7541, 4.2; RFC 9113, 4.3.1)",
         steps: &[
-            Step::AwaitCall,
-            Step::AwaitRequest,
-            Step::Head(HEAD),
-            Step::Settings(&[(1, 0)]),
-            Step::AwaitAcks,
-            Step::Reply(Part::Rest),
-            Step::Trailers(OK),
-            Step::AwaitUpdatedCall,
+            PlayStep::AwaitCall,
+            PlayStep::AwaitRequest,
+            PlayStep::Head(HEAD),
+            PlayStep::Settings(&[(1, 0)]),
+            PlayStep::AwaitAcks,
+            PlayStep::Reply(Part::Rest),
+            PlayStep::Trailers(OK),
+            PlayStep::AwaitUpdatedCall,
         ],
         ..PLAIN
     },
@@ -124,11 +124,11 @@ pub static FRAMING: [Misbehaviour; 9] = [
             (RFC 9113, 6.5.3)",
         acknowledges: false,
         steps: &[
-            Step::AwaitCall,
-            Step::AwaitRequest,
-            Step::Head(HEAD),
-            Step::Reply(Part::Rest),
-            Step::Trailers(OK),
+            PlayStep::AwaitCall,
+            PlayStep::AwaitRequest,
+            PlayStep::Head(HEAD),
+            PlayStep::Reply(Part::Rest),
+            PlayStep::Trailers(OK),
         ],
         ..PLAIN
     },
@@ -139,9 +139,9 @@ pub static FRAMING: [Misbehaviour; 9] = [
         wants: "it opens no further stream there; the call fails with UNAVAILABLE, or is made \
             again on a new connection, and so is the next (RFC 9113, 6.8)",
         steps: &[
-            Step::AwaitCall,
-            Step::AwaitRequest,
-            Step::GoAway(Last::None),
+            PlayStep::AwaitCall,
+            PlayStep::AwaitRequest,
+            PlayStep::GoAway(LastStream::None),
         ],
         need: Need::CallElsewhere,
         ..PLAIN

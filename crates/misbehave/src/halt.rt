@@ -4,7 +4,7 @@ use crate::breach::{
     BAD_LENGTH, BAD_PADDING, Breach, CUT_BLOCK, FRAME_TOO_LONG, SETTING_VALUE, UNREADABLE_BLOCK,
     WINDOW_TOO_LARGE, WRONG_STREAM, ZERO_INCREMENT,
 };
-use crate::lack::{LONG_FIELDS, LONG_INTEGER, Lack};
+use crate::lack::{ClientLack, LONG_FIELDS, LONG_INTEGER};
 use flow::WindowFault;
 use h2frame::FrameFault;
 use hpack_codec::HpackFault;
@@ -17,7 +17,7 @@ pub enum Halt {
     /// The client did what no client may do.
     Broke(Breach),
     /// The client doesn't do what the case needs.
-    Lacks(Lack),
+    Lacks(ClientLack),
     /// What came isn't HTTP/2.
     Stranger,
     /// No memory was to be had.
@@ -60,7 +60,7 @@ impl From<FragmentFault> for Halt {
     fn from(fault: FragmentFault) -> Halt {
         match fault {
             FragmentFault::Interrupted => Halt::Broke(CUT_BLOCK),
-            FragmentFault::TooLong => Halt::Lacks(Lack::Seen(LONG_FIELDS)),
+            FragmentFault::TooLong => Halt::Lacks(ClientLack::Seen(LONG_FIELDS)),
             FragmentFault::OutOfMemory => Halt::OutOfMemory,
         }
     }
@@ -72,8 +72,8 @@ impl From<HpackFault> for Halt {
     fn from(fault: HpackFault) -> Halt {
         match fault {
             HpackFault::OutOfMemory => Halt::OutOfMemory,
-            HpackFault::TooLarge => Halt::Lacks(Lack::Seen(LONG_FIELDS)),
-            HpackFault::Integer => Halt::Lacks(Lack::Seen(LONG_INTEGER)),
+            HpackFault::TooLarge => Halt::Lacks(ClientLack::Seen(LONG_FIELDS)),
+            HpackFault::Integer => Halt::Lacks(ClientLack::Seen(LONG_INTEGER)),
             _ => Halt::Broke(UNREADABLE_BLOCK),
         }
     }

@@ -7,7 +7,7 @@ use crate::breach::Breach;
 use crate::connection::open_calls;
 use crate::deeds::Deeds;
 use crate::halt::Halt;
-use crate::lack::{Lack, NO_CONNECTION, STRANGER};
+use crate::lack::{ClientLack, NO_CONNECTION, STRANGER};
 use crate::line::{Line, World};
 use crate::misbehaviour::{Misbehaviour, PLAIN};
 use crate::player::Player;
@@ -38,7 +38,7 @@ pub struct Host<W: World> {
     others: Vec<Player<W::Line>>,
     /// What the client did that none may, or doesn't do though it has to.
     breach: Option<Breach>,
-    lack: Option<Lack>,
+    lack: Option<ClientLack>,
     /// Whether a connection came that isn't HTTP/2.
     has_stranger: bool,
     /// The millisecond of the case in which a connection was last made.
@@ -233,7 +233,7 @@ impl<W: World> Host<W> {
         let Some(main) = &self.main else {
             return Deeds {
                 breach: self.breach,
-                lack: Some(Lack::Seen(NO_CONNECTION)),
+                lack: Some(ClientLack::Seen(NO_CONNECTION)),
                 calls_elsewhere,
                 ..Deeds::NONE
             };
@@ -259,9 +259,9 @@ impl<W: World> Host<W> {
     }
 
     /// That nothing but strangers came.
-    fn stranger_only(&self) -> Option<Lack> {
+    fn stranger_only(&self) -> Option<ClientLack> {
         if self.has_stranger && self.is_wanted() {
-            Some(Lack::Seen(STRANGER))
+            Some(ClientLack::Seen(STRANGER))
         } else {
             None
         }

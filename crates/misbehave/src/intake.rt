@@ -21,7 +21,7 @@ const NO_TABLE: u8 = 0x20;
 
 /// What a frame or a header block says.
 #[derive(Drop)]
-pub enum Told {
+pub enum FrameNews {
     /// A whole header block of a stream; whether nothing follows on it; and whether it begins with
     /// the change of the table's size to 0.
     Head(StreamId, bool, bool),
@@ -75,7 +75,7 @@ impl Intake {
     }
 
     /// What comes next, if something does.
-    pub fn next(&mut self) -> Result<Option<Told>, Halt> {
+    pub fn next(&mut self) -> Result<Option<FrameNews>, Halt> {
         for _ in 0..u64::MAX {
             let Some(answer) = self.reader.next() else {
                 return Ok(None);
@@ -89,7 +89,7 @@ impl Intake {
     }
 
     /// Takes a frame, and what it says.
-    fn take(&mut self, frame: Frame) -> Result<Option<Told>, Halt> {
+    fn take(&mut self, frame: Frame) -> Result<Option<FrameNews>, Halt> {
         if let Some(block) = self.block.take() {
             return self.go_on(block, &frame);
         }
@@ -104,7 +104,7 @@ impl Intake {
         }
     }
 
-    fn begin(&mut self, frame: &Frame) -> Result<Option<Told>, Halt>
+    fn begin(&mut self, frame: &Frame) -> Result<Option<FrameNews>, Halt>
         requires { frame.now.head.kind ≡ Headers }
     {
         if frame.content.len() > MAX_PAYLOAD as usize {
@@ -114,7 +114,7 @@ impl Intake {
         self.keep(block)
     }
 
-    fn go_on(&mut self, mut block: HeaderBlock, frame: &Frame) -> Result<Option<Told>, Halt> {
+    fn go_on(&mut self, mut block: HeaderBlock, frame: &Frame) -> Result<Option<FrameNews>, Halt> {
         if block.is_whole() {
             return Err(Halt::Broke(UNREADABLE_BLOCK));
         }
@@ -129,7 +129,7 @@ impl Intake {
     }
 
     /// Reads a block that is whole, and keeps another.
-    fn keep(&mut self, block: HeaderBlock) -> Result<Option<Told>, Halt> {
+    fn keep(&mut self, block: HeaderBlock) -> Result<Option<FrameNews>, Halt> {
         if !block.is_whole() {
             self.block = Some(block);
             return Ok(None);
@@ -138,39 +138,42 @@ impl Intake {
         let head = *block.head();
         let is_updated = block.as_slice().first() == Some(&NO_TABLE);
         let last = head.flags.contains(Flags::END_STREAM);
-        Ok(Some(Told::Head(head.stream, last, is_updated)))
+        Ok(Some(FrameNews::Head(head.stream, last, is_updated)))
     }
 }
 
 /// What DATA or RST_STREAM says.
-fn told_of_stream(frame: Frame) -> Option<Told> {
+fn told_of_stream(frame: Frame) -> Option<FrameNews> {
     let Frame { head, content } = frame;
     match head.kind {
         FrameKind::Data => {
             let last = head.flags.contains(Flags::END_STREAM);
-            Some(Told::Data(head.stream, last, head.length, content))
+            Some(FrameNews::Data(head.stream, last, head.length, content))
         }
-        FrameKind::RstStream => Some(Told::Reset(head.stream, number_at(content.as_slice(), 0))),
+        FrameKind::RstStream => Some(FrameNews::Reset(
+            head.stream,
+            number_at(content.as_slice(), 0),
+        )),
         _ => None,
     }
 }
 
 /// What a frame of the connection says.
-fn told_of_connection(frame: Frame) -> Option<Told> {
+fn told_of_connection(frame: Frame) -> Option<FrameNews> {
     let Frame { head, content } = frame;
     let is_ack = head.flags.contains(Flags::ACK);
     match head.kind {
-        FrameKind::Settings if is_ack => Some(Told::SettingsAck),
-        FrameKind::Settings => Some(Told::Settings(content)),
-        FrameKind::Ping if is_ack => Some(Told::Pong(long_number(content.as_slice()))),
-        FrameKind::Ping => Some(Told::Ping(content)),
-        FrameKind::GoAway => Some(Told::GoAway(number_at(content.as_slice(), 4))),
+        FrameKind::Settings if is_ack => Some(FrameNews::SettingsAck),
+        FrameKind::Settings => Some(FrameNews::Settings(content)),
+        FrameKind::Ping if is_ack => Some(FrameNews::Pong(long_number(content.as_slice()))),
+        FrameKind::Ping => Some(FrameNews::Ping(content)),
+        FrameKind::GoAway => Some(FrameNews::GoAway(number_at(content.as_slice(), 4))),
         FrameKind::WindowUpdate => {
             let bytes = content.as_slice();
             if bytes.len() != 4 {
                 return None;
             }
-            Some(Told::Credit(head.stream, increment(bytes)))
+            Some(FrameNews::Credit(head.stream, increment(bytes)))
         }
         _ => None,
     }

@@ -4,7 +4,7 @@ use crate::deeds::Ending;
 
 /// What a client lacks, so that nothing can be said of it.
 #[derive(Clone, Copy)]
-pub enum Lack {
+pub enum ClientLack {
     /// What was seen of it, and what it has to do.
     Seen(Shortfall),
     /// It gave the call up for a reason of its own.

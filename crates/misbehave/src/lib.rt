@@ -47,5 +47,5 @@ mod verdict;
 mod windows;
 
 pub use misbehaviour::Misbehaviour;
-pub use stage::{Place, Played, RunFault, Stage, list};
+pub use stage::{PlayOutcome, PlayPlace, RunFault, Stage, list};
 pub use table::all as misbehaviours;

@@ -1,7 +1,7 @@
 //! A misbehaviour: what the server does, and what a right client does then.
 
 use crate::sentences::Sentence;
-use crate::step::{Setting, Step};
+use crate::step::{PlayStep, Setting};
 
 /// Which calls the client is to make.
 #[derive(Clone, Copy)]
@@ -75,7 +75,7 @@ pub struct Misbehaviour {
     pub acknowledges: bool,
     /// Whether a call's bytes are given back as they come, before a step says so.
     pub gives_back: bool,
-    pub steps: &'static [Step],
+    pub steps: &'static [PlayStep],
     pub duty: Duty,
     pub need: Need,
 }

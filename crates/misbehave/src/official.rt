@@ -4,7 +4,7 @@
 use crate::misbehaviour::{Calls, Duty, Misbehaviour, Need, PLAIN};
 use crate::responses::{HEAD, OK};
 use crate::sentences::Sentence;
-use crate::step::{Last, Part, Step};
+use crate::step::{LastStream, Part, PlayStep};
 
 const RESET: &str =
     "the call fails; it sends nothing more on its stream, no RST_STREAM either (RFC 9113, 5.4.2 \
@@ -17,13 +17,13 @@ pub static OFFICIAL: [Misbehaviour; 8] = [
         calls: Calls::Two,
         wants: "both calls go well, and the second comes on a new connection (RFC 9113, 6.8)",
         steps: &[
-            Step::AwaitCall,
-            Step::AwaitRequest,
-            Step::GoAway(Last::ThisCall),
-            Step::AwaitReading,
-            Step::Head(HEAD),
-            Step::Reply(Part::Rest),
-            Step::Trailers(OK),
+            PlayStep::AwaitCall,
+            PlayStep::AwaitRequest,
+            PlayStep::GoAway(LastStream::ThisCall),
+            PlayStep::AwaitReading,
+            PlayStep::Head(HEAD),
+            PlayStep::Reply(Part::Rest),
+            PlayStep::Trailers(OK),
         ],
         duty: Duty::Completes(Sentence::BothCallsGoWell),
         need: Need::CallElsewhere,
@@ -34,10 +34,10 @@ pub static OFFICIAL: [Misbehaviour; 8] = [
         does: "resets the call with NO_ERROR after its head",
         wants: RESET,
         steps: &[
-            Step::AwaitCall,
-            Step::AwaitRequest,
-            Step::Head(HEAD),
-            Step::Reset(0),
+            PlayStep::AwaitCall,
+            PlayStep::AwaitRequest,
+            PlayStep::Head(HEAD),
+            PlayStep::Reset(0),
         ],
         ..PLAIN
     },
@@ -46,11 +46,11 @@ pub static OFFICIAL: [Misbehaviour; 8] = [
         does: "resets the call with NO_ERROR after half of its reply",
         wants: RESET,
         steps: &[
-            Step::AwaitCall,
-            Step::AwaitRequest,
-            Step::Head(HEAD),
-            Step::Reply(Part::Half),
-            Step::Reset(0),
+            PlayStep::AwaitCall,
+            PlayStep::AwaitRequest,
+            PlayStep::Head(HEAD),
+            PlayStep::Reply(Part::Half),
+            PlayStep::Reset(0),
         ],
         ..PLAIN
     },
@@ -59,11 +59,11 @@ pub static OFFICIAL: [Misbehaviour; 8] = [
         does: "resets the call with NO_ERROR after its whole reply, in place of the trailers",
         wants: RESET,
         steps: &[
-            Step::AwaitCall,
-            Step::AwaitRequest,
-            Step::Head(HEAD),
-            Step::Reply(Part::Rest),
-            Step::Reset(0),
+            PlayStep::AwaitCall,
+            PlayStep::AwaitRequest,
+            PlayStep::Head(HEAD),
+            PlayStep::Reply(Part::Rest),
+            PlayStep::Reset(0),
         ],
         ..PLAIN
     },
@@ -72,17 +72,17 @@ pub static OFFICIAL: [Misbehaviour; 8] = [
         does: "sends PINGs between all frames of a good reply",
         wants: "it answers each PING with its bytes, and the call goes well (RFC 9113, 6.7)",
         steps: &[
-            Step::Ping,
-            Step::AwaitCall,
-            Step::Ping,
-            Step::AwaitRequest,
-            Step::Ping,
-            Step::Head(HEAD),
-            Step::Reply(Part::Pinged),
-            Step::AwaitReading,
-            Step::Trailers(OK),
-            Step::Ping,
-            Step::AwaitPongs,
+            PlayStep::Ping,
+            PlayStep::AwaitCall,
+            PlayStep::Ping,
+            PlayStep::AwaitRequest,
+            PlayStep::Ping,
+            PlayStep::Head(HEAD),
+            PlayStep::Reply(Part::Pinged),
+            PlayStep::AwaitReading,
+            PlayStep::Trailers(OK),
+            PlayStep::Ping,
+            PlayStep::AwaitPongs,
         ],
         duty: Duty::Completes(Sentence::PingedCallGoesWell),
         ..PLAIN
@@ -96,10 +96,10 @@ pub static OFFICIAL: [Misbehaviour; 8] = [
             (RFC 9113, 5.1.2)",
         opening: &[(3, 1)],
         steps: &[
-            Step::AnswerSlowly(2),
-            Step::Settings(&[(3, 100)]),
-            Step::AwaitAcks,
-            Step::AwaitTwoCalls,
+            PlayStep::AnswerSlowly(2),
+            PlayStep::Settings(&[(3, 100)]),
+            PlayStep::AwaitAcks,
+            PlayStep::AwaitTwoCalls,
         ],
         duty: Duty::Completes(Sentence::AllCallsGoWell),
         need: Need::CallsAtOnce,
@@ -111,12 +111,12 @@ pub static OFFICIAL: [Misbehaviour; 8] = [
         wants: "it gives credit for the padding too, and the call goes well (RFC 9113, 6.1 and \
             6.9.1)",
         steps: &[
-            Step::AwaitCall,
-            Step::AwaitRequest,
-            Step::Head(HEAD),
-            Step::Reply(Part::PaddedFives),
-            Step::AwaitReading,
-            Step::Trailers(OK),
+            PlayStep::AwaitCall,
+            PlayStep::AwaitRequest,
+            PlayStep::Head(HEAD),
+            PlayStep::Reply(Part::PaddedFives),
+            PlayStep::AwaitReading,
+            PlayStep::Trailers(OK),
         ],
         duty: Duty::Completes(Sentence::PaddedCallGoesWell),
         ..PLAIN
@@ -126,12 +126,12 @@ pub static OFFICIAL: [Misbehaviour; 8] = [
         does: "answers well, in DATA frames of five bytes, without padding",
         wants: "the call goes well",
         steps: &[
-            Step::AwaitCall,
-            Step::AwaitRequest,
-            Step::Head(HEAD),
-            Step::Reply(Part::Fives),
-            Step::AwaitReading,
-            Step::Trailers(OK),
+            PlayStep::AwaitCall,
+            PlayStep::AwaitRequest,
+            PlayStep::Head(HEAD),
+            PlayStep::Reply(Part::Fives),
+            PlayStep::AwaitReading,
+            PlayStep::Trailers(OK),
         ],
         duty: Duty::Completes(Sentence::SmallFramesGoWell),
         ..PLAIN

@@ -8,12 +8,12 @@ use crate::connection::Connection;
 use crate::deeds::Ending;
 use crate::fence::{Fence, REJECTION, SETTLING};
 use crate::halt::Halt;
-use crate::lack::{Lack, NO_ENTRIES, SHORT_REQUEST};
+use crate::lack::{ClientLack, NO_ENTRIES, SHORT_REQUEST};
 use crate::line::Line;
 use crate::misbehaviour::Misbehaviour;
 use crate::rules::Rules;
 use crate::sending;
-use crate::step::Step;
+use crate::step::PlayStep;
 use std::alloc::Global;
 
 /// For how many milliseconds a request has to be whole where calls are answered slowly.
@@ -35,7 +35,7 @@ const STALLED: u64 = 10_000;
 #[derive(Drop)]
 pub struct Player<L> {
     pub connection: Connection<L>,
-    steps: &'static [Step],
+    steps: &'static [PlayStep],
     /// How many steps were done.
     done: usize,
     /// Which call they are about.
@@ -90,7 +90,7 @@ impl<L: Line> Player<L> {
     pub fn awaited(&self) -> &'static str {
         match self.steps.get(self.done) {
             Some(step) => step.awaited(),
-            None => Step::AwaitReading.awaited(),
+            None => PlayStep::AwaitReading.awaited(),
         }
     }
 
@@ -192,7 +192,7 @@ impl<L: Line> Player<L> {
     }
 
     /// A step was done.
-    fn note(&mut self, step: &Step) -> Result<(), Halt> {
+    fn note(&mut self, step: &PlayStep) -> Result<(), Halt> {
         let word = step.word();
         if !word.is_empty() && !self.is_cut {
             self.name(word)?;
@@ -278,31 +278,33 @@ impl<L: Line> Player<L> {
     }
 
     /// Does a step, or a part of it. Whether it was done.
-    fn is_done(&mut self, step: &Step) -> Result<bool, Halt> {
+    fn is_done(&mut self, step: &PlayStep) -> Result<bool, Halt> {
         match step {
-            Step::AwaitCall => Ok(self.await_call()),
-            Step::AwaitUpdatedCall => self.await_updated_call(),
-            Step::AwaitRequest => Ok(
+            PlayStep::AwaitCall => Ok(self.await_call()),
+            PlayStep::AwaitUpdatedCall => self.await_updated_call(),
+            PlayStep::AwaitRequest => Ok(
                 self.current_call()
                     .is_none_or(|call| { call.is_whole || call.reset.is_some() }),
             ),
-            Step::AwaitBytes(count) => self.await_bytes(*count),
-            Step::AwaitAcks => Ok(self.connection.rules.is_acknowledged()),
-            Step::AwaitPongs => Ok(self.connection.rules.is_answered()),
-            Step::AwaitReading => self.is_read(SETTLING),
-            Step::AwaitRejection => {
+            PlayStep::AwaitBytes(count) => self.await_bytes(*count),
+            PlayStep::AwaitAcks => Ok(self.connection.rules.is_acknowledged()),
+            PlayStep::AwaitPongs => Ok(self.connection.rules.is_answered()),
+            PlayStep::AwaitReading => self.is_read(SETTLING),
+            PlayStep::AwaitRejection => {
                 self.connection.is_decisive = true;
                 Ok(self.reset().is_some() || self.is_read(REJECTION)?)
             }
-            Step::Pause(length) => Ok(self.connection.now.saturating_sub(self.since) >= *length),
-            Step::Unfinished => self.is_unfinished(),
-            Step::AnswerSlowly(count) => {
+            PlayStep::Pause(length) => Ok(
+                self.connection.now.saturating_sub(self.since) >= *length,
+            ),
+            PlayStep::Unfinished => self.is_unfinished(),
+            PlayStep::AnswerSlowly(count) => {
                 self.answer(SLOWLY)?;
                 Ok(self.answered() >= *count)
             }
-            Step::AwaitTwoCalls => self.await_two_calls(),
-            Step::GiveBack => {
-                self.connection.give_back()?;
+            PlayStep::AwaitTwoCalls => self.await_two_calls(),
+            PlayStep::GiveBack => {
+                self.connection.return_credit()?;
                 Ok(true)
             }
             _ => self.is_sent(step),
@@ -310,17 +312,17 @@ impl<L: Line> Player<L> {
     }
 
     /// Does a step that sends something.
-    fn is_sent(&mut self, step: &Step) -> Result<bool, Halt> {
+    fn is_sent(&mut self, step: &PlayStep) -> Result<bool, Halt> {
         match step {
-            Step::Settings(settings) => {
+            PlayStep::Settings(settings) => {
                 self.connection.set(settings)?;
                 Ok(true)
             }
-            Step::Ping => {
+            PlayStep::Ping => {
                 self.connection.ping()?;
                 Ok(true)
             }
-            Step::Close => {
+            PlayStep::Close => {
                 self.connection.shut();
                 Ok(true)
             }
@@ -330,7 +332,7 @@ impl<L: Line> Player<L> {
 
     /// Does a step that sends something of the call. Nothing is sent of a call that the client has
     /// given up.
-    fn is_sent_of_call(&mut self, step: &Step) -> Result<bool, Halt> {
+    fn is_sent_of_call(&mut self, step: &PlayStep) -> Result<bool, Halt> {
         let Some(index) = self.current else {
             return Ok(true);
         };
@@ -338,7 +340,7 @@ impl<L: Line> Player<L> {
             self.is_cut = true;
             return Ok(true);
         }
-        if let Step::Reply(part) = step {
+        if let PlayStep::Reply(part) = step {
             self.is_shown = self.is_shown || part.is_odd() && !self.is_cut;
         }
         let before = self.sent();
@@ -360,7 +362,7 @@ impl<L: Line> Player<L> {
     /// Whether the request goes on still, as it has to.
     fn is_unfinished(&self) -> Result<bool, Halt> {
         match self.current_call() {
-            Some(call) if call.is_whole => Err(Halt::Lacks(Lack::Seen(SHORT_REQUEST))),
+            Some(call) if call.is_whole => Err(Halt::Lacks(ClientLack::Seen(SHORT_REQUEST))),
             _ => Ok(true),
         }
     }
@@ -391,7 +393,7 @@ impl<L: Line> Player<L> {
         match calls.find(|call| !call.is_played && call.acks >= acks) {
             Some(call) if call.is_updated => Ok(true),
             Some(_) if self.connection.intake.has_entries() => Err(Halt::Broke(NO_SIZE_UPDATE)),
-            Some(_) => Err(Halt::Lacks(Lack::Seen(NO_ENTRIES))),
+            Some(_) => Err(Halt::Lacks(ClientLack::Seen(NO_ENTRIES))),
             None => Ok(false),
         }
     }
@@ -405,7 +407,7 @@ impl<L: Line> Player<L> {
             return Ok(true);
         }
         if call.is_whole {
-            return Err(Halt::Lacks(Lack::Seen(SHORT_REQUEST)));
+            return Err(Halt::Lacks(ClientLack::Seen(SHORT_REQUEST)));
         }
         Ok(false)
     }

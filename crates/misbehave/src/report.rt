@@ -4,7 +4,7 @@ ghost use Rattle.std.specs.Prelude.{◌≡◌};
 
 use crate::deeds::{Deeds, Ending};
 use crate::host::Host;
-use crate::lack::Lack;
+use crate::lack::ClientLack;
 use crate::line::World;
 use crate::misbehaviour::{Duty, Misbehaviour};
 use crate::rule::Rule;
@@ -223,28 +223,28 @@ fn push_ending(text: &mut String, ending: &Ending) -> Result<(), AllocError> {
 }
 
 /// What a client didn't do, and what it has to do.
-fn push_lack(text: &mut String, lack: Lack, play: &Misbehaviour) -> Result<(), AllocError> {
+fn push_lack(text: &mut String, lack: ClientLack, play: &Misbehaviour) -> Result<(), AllocError> {
     match lack {
-        Lack::Seen(shortfall) => {
+        ClientLack::Seen(shortfall) => {
             let seen = shortfall.seen;
             let todo = shortfall.todo;
             write!(text, "{seen}: {todo}")
         }
-        Lack::GaveUp(ending) => {
+        ClientLack::GaveUp(ending) => {
             push_ending(text, &ending)?;
             text.push_str(
                 ", maybe of its own accord: let the call end by itself, with a deadline of 20 \
                     seconds at least",
             )
         }
-        Lack::Declined(ending) => {
+        ClientLack::Declined(ending) => {
             push_ending(text, &ending)?;
             text.push_str(
                 " before its response had ended, which no sentence forbids: let the call go on to \
                     its end",
             )
         }
-        Lack::Awaited(awaited) => {
+        ClientLack::Awaited(awaited) => {
             let client = play.calls.text();
             write!(text, "the server waited in vain for {awaited}: {client}")
         }

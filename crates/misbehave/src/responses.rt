@@ -2,7 +2,7 @@
 
 use crate::misbehaviour::{Duty, Misbehaviour, Need, PLAIN};
 use crate::sentences::Sentence;
-use crate::step::{Pair, Part, Step};
+use crate::step::{Pair, Part, PlayStep};
 
 /// The head of a right response.
 pub const HEAD: &[Pair] = &[(":status", "200"), ("content-type", "application/grpc")];
@@ -30,11 +30,11 @@ pub static RESPONSES: [Misbehaviour; 18] = [
         does: "ends a good reply with trailers that have no grpc-status",
         wants: CALL_FAILS,
         steps: &[
-            Step::AwaitCall,
-            Step::AwaitRequest,
-            Step::Head(HEAD),
-            Step::Reply(Part::Rest),
-            Step::Trailers(&[("x-trailer", "1")]),
+            PlayStep::AwaitCall,
+            PlayStep::AwaitRequest,
+            PlayStep::Head(HEAD),
+            PlayStep::Reply(Part::Rest),
+            PlayStep::Trailers(&[("x-trailer", "1")]),
         ],
         ..PLAIN
     },
@@ -43,12 +43,12 @@ pub static RESPONSES: [Misbehaviour; 18] = [
         does: "answers well, but for a head without content-type",
         wants: "the call ends well, or fails (gRPC over HTTP/2, \"Responses\")",
         steps: &[
-            Step::AwaitCall,
-            Step::AwaitRequest,
-            Step::Head(&[(":status", "200")]),
-            Step::AwaitReading,
-            Step::Reply(Part::Rest),
-            Step::Trailers(OK),
+            PlayStep::AwaitCall,
+            PlayStep::AwaitRequest,
+            PlayStep::Head(&[(":status", "200")]),
+            PlayStep::AwaitReading,
+            PlayStep::Reply(Part::Rest),
+            PlayStep::Trailers(OK),
         ],
         ..PLAIN
     },
@@ -57,9 +57,9 @@ pub static RESPONSES: [Misbehaviour; 18] = [
         does: "answers by :status 404 alone",
         wants: HTTP_STATUS,
         steps: &[
-            Step::AwaitCall,
-            Step::AwaitRequest,
-            Step::Trailers(&[(":status", "404"), ("content-type", "text/html")]),
+            PlayStep::AwaitCall,
+            PlayStep::AwaitRequest,
+            PlayStep::Trailers(&[(":status", "404"), ("content-type", "text/html")]),
         ],
         ..PLAIN
     },
@@ -68,9 +68,9 @@ pub static RESPONSES: [Misbehaviour; 18] = [
         does: "answers by :status 404 and grpc-status 5",
         wants: GIVEN_STATUS,
         steps: &[
-            Step::AwaitCall,
-            Step::AwaitRequest,
-            Step::Trailers(&[
+            PlayStep::AwaitCall,
+            PlayStep::AwaitRequest,
+            PlayStep::Trailers(&[
                 (":status", "404"),
                 ("content-type", "application/grpc"),
                 ("grpc-status", "5"),
@@ -82,7 +82,11 @@ pub static RESPONSES: [Misbehaviour; 18] = [
         name: "http_200",
         does: "answers by :status 200 alone",
         wants: HTTP_STATUS,
-        steps: &[Step::AwaitCall, Step::AwaitRequest, Step::Trailers(HEAD)],
+        steps: &[
+            PlayStep::AwaitCall,
+            PlayStep::AwaitRequest,
+            PlayStep::Trailers(HEAD),
+        ],
         ..PLAIN
     },
     Misbehaviour {
@@ -90,9 +94,9 @@ pub static RESPONSES: [Misbehaviour; 18] = [
         does: "answers by :status 200 and grpc-status 5, without a message",
         wants: GIVEN_STATUS,
         steps: &[
-            Step::AwaitCall,
-            Step::AwaitRequest,
-            Step::Trailers(&[
+            PlayStep::AwaitCall,
+            PlayStep::AwaitRequest,
+            PlayStep::Trailers(&[
                 (":status", "200"),
                 ("content-type", "application/grpc"),
                 ("grpc-status", "5"),
@@ -105,9 +109,9 @@ pub static RESPONSES: [Misbehaviour; 18] = [
         does: "answers by :status 503 alone",
         wants: HTTP_STATUS,
         steps: &[
-            Step::AwaitCall,
-            Step::AwaitRequest,
-            Step::Trailers(&[(":status", "503"), ("content-type", "text/html")]),
+            PlayStep::AwaitCall,
+            PlayStep::AwaitRequest,
+            PlayStep::Trailers(&[(":status", "503"), ("content-type", "text/html")]),
         ],
         ..PLAIN
     },
@@ -116,9 +120,9 @@ pub static RESPONSES: [Misbehaviour; 18] = [
         does: "answers by :status 503 and grpc-status 5",
         wants: GIVEN_STATUS,
         steps: &[
-            Step::AwaitCall,
-            Step::AwaitRequest,
-            Step::Trailers(&[
+            PlayStep::AwaitCall,
+            PlayStep::AwaitRequest,
+            PlayStep::Trailers(&[
                 (":status", "503"),
                 ("content-type", "application/grpc"),
                 ("grpc-status", "5"),
@@ -132,11 +136,11 @@ pub static RESPONSES: [Misbehaviour; 18] = [
         wants: "the response is malformed: it resets the call, or ends the connection (RFC 9113, \
             8.1, 8.1.1 and 5.4)",
         steps: &[
-            Step::AwaitCall,
-            Step::AwaitRequest,
-            Step::Head(HEAD),
-            Step::Reply(Part::Rest),
-            Step::Head(OK),
+            PlayStep::AwaitCall,
+            PlayStep::AwaitRequest,
+            PlayStep::Head(HEAD),
+            PlayStep::Reply(Part::Rest),
+            PlayStep::Head(OK),
         ],
         duty: Duty::EndsStream(1, Sentence::UnendedTrailers),
         need: Need::Nothing,
@@ -148,16 +152,16 @@ pub static RESPONSES: [Misbehaviour; 18] = [
         wants: "the response is malformed: it resets the call, or ends the connection (RFC 9113, \
             8.2.1, 8.1.1 and 5.4)",
         steps: &[
-            Step::AwaitCall,
-            Step::AwaitRequest,
-            Step::Head(&[
+            PlayStep::AwaitCall,
+            PlayStep::AwaitRequest,
+            PlayStep::Head(&[
                 (":status", "200"),
                 ("content-type", "application/grpc"),
                 ("X-Upper", "1"),
             ]),
-            Step::AwaitRejection,
-            Step::Reply(Part::Rest),
-            Step::Trailers(OK),
+            PlayStep::AwaitRejection,
+            PlayStep::Reply(Part::Rest),
+            PlayStep::Trailers(OK),
         ],
         duty: Duty::EndsStream(1, Sentence::UpperCase),
         need: Need::Nothing,
@@ -169,11 +173,11 @@ pub static RESPONSES: [Misbehaviour; 18] = [
             was said",
         wants: INTERNAL,
         steps: &[
-            Step::AwaitCall,
-            Step::AwaitRequest,
-            Step::Head(HEAD),
-            Step::Data(b"\x01\x00\x00\x00\x02\x0a\x00"),
-            Step::Trailers(OK),
+            PlayStep::AwaitCall,
+            PlayStep::AwaitRequest,
+            PlayStep::Head(HEAD),
+            PlayStep::Data(b"\x01\x00\x00\x00\x02\x0a\x00"),
+            PlayStep::Trailers(OK),
         ],
         ..PLAIN
     },
@@ -182,11 +186,11 @@ pub static RESPONSES: [Misbehaviour; 18] = [
         does: "answers with a message whose flag is 7",
         wants: INTERNAL,
         steps: &[
-            Step::AwaitCall,
-            Step::AwaitRequest,
-            Step::Head(HEAD),
-            Step::Data(b"\x07\x00\x00\x00\x02\x0a\x00"),
-            Step::Trailers(OK),
+            PlayStep::AwaitCall,
+            PlayStep::AwaitRequest,
+            PlayStep::Head(HEAD),
+            PlayStep::Data(b"\x07\x00\x00\x00\x02\x0a\x00"),
+            PlayStep::Trailers(OK),
         ],
         ..PLAIN
     },
@@ -196,11 +200,11 @@ pub static RESPONSES: [Misbehaviour; 18] = [
             good trailers",
         wants: INTERNAL,
         steps: &[
-            Step::AwaitCall,
-            Step::AwaitRequest,
-            Step::Head(HEAD),
-            Step::Data(b"\x00\x00\x00\x00\x64\x0a\x00"),
-            Step::Trailers(OK),
+            PlayStep::AwaitCall,
+            PlayStep::AwaitRequest,
+            PlayStep::Head(HEAD),
+            PlayStep::Data(b"\x00\x00\x00\x00\x64\x0a\x00"),
+            PlayStep::Trailers(OK),
         ],
         ..PLAIN
     },
@@ -210,11 +214,11 @@ pub static RESPONSES: [Misbehaviour; 18] = [
             trailers",
         wants: INTERNAL,
         steps: &[
-            Step::AwaitCall,
-            Step::AwaitRequest,
-            Step::Head(HEAD),
-            Step::Data(b"\x00\x00\x00\x00\x02\x0a\x00\x0a\x00\x0a\x00"),
-            Step::Trailers(OK),
+            PlayStep::AwaitCall,
+            PlayStep::AwaitRequest,
+            PlayStep::Head(HEAD),
+            PlayStep::Data(b"\x00\x00\x00\x00\x02\x0a\x00\x0a\x00\x0a\x00"),
+            PlayStep::Trailers(OK),
         ],
         ..PLAIN
     },
@@ -223,9 +227,9 @@ pub static RESPONSES: [Misbehaviour; 18] = [
         does: "ends the call with status 2 and a grpc-message with broken escapes",
         wants: "the call ends with UNKNOWN and some text (gRPC over HTTP/2, \"Responses\")",
         steps: &[
-            Step::AwaitCall,
-            Step::AwaitRequest,
-            Step::Trailers(&[
+            PlayStep::AwaitCall,
+            PlayStep::AwaitRequest,
+            PlayStep::Trailers(&[
                 (":status", "200"),
                 ("content-type", "application/grpc"),
                 ("grpc-status", "2"),
@@ -239,11 +243,11 @@ pub static RESPONSES: [Misbehaviour; 18] = [
         does: "ends a good reply with trailers in which the value of x-test-bin is no base64",
         wants: "the call ends (gRPC over HTTP/2, \"Requests\": Binary-Header)",
         steps: &[
-            Step::AwaitCall,
-            Step::AwaitRequest,
-            Step::Head(HEAD),
-            Step::Reply(Part::Rest),
-            Step::Trailers(&[("grpc-status", "0"), ("x-test-bin", "!?*=not base64")]),
+            PlayStep::AwaitCall,
+            PlayStep::AwaitRequest,
+            PlayStep::Head(HEAD),
+            PlayStep::Reply(Part::Rest),
+            PlayStep::Trailers(&[("grpc-status", "0"), ("x-test-bin", "!?*=not base64")]),
         ],
         ..PLAIN
     },
@@ -252,12 +256,12 @@ pub static RESPONSES: [Misbehaviour; 18] = [
         does: "answers well, with a head in HEADERS and twenty CONTINUATIONs",
         wants: "the call goes well (RFC 9113, 4.3 and 6.10), or it is given up (10.5.1)",
         steps: &[
-            Step::AwaitCall,
-            Step::AwaitRequest,
-            Step::Continued(HEAD),
-            Step::AwaitReading,
-            Step::Reply(Part::Rest),
-            Step::Trailers(OK),
+            PlayStep::AwaitCall,
+            PlayStep::AwaitRequest,
+            PlayStep::Continued(HEAD),
+            PlayStep::AwaitReading,
+            PlayStep::Reply(Part::Rest),
+            PlayStep::Trailers(OK),
         ],
         duty: Duty::Tries,
         ..PLAIN
@@ -267,15 +271,15 @@ pub static RESPONSES: [Misbehaviour; 18] = [
         does: "answers well, after three heads of status 100 and 103",
         wants: "the call goes well (RFC 9113, 8.1; RFC 9110, 15.2)",
         steps: &[
-            Step::AwaitCall,
-            Step::AwaitRequest,
-            Step::Head(&[(":status", "100")]),
-            Step::Head(&[(":status", "103"), ("link", "</a>")]),
-            Step::Head(&[(":status", "103")]),
-            Step::AwaitReading,
-            Step::Head(HEAD),
-            Step::Reply(Part::Rest),
-            Step::Trailers(OK),
+            PlayStep::AwaitCall,
+            PlayStep::AwaitRequest,
+            PlayStep::Head(&[(":status", "100")]),
+            PlayStep::Head(&[(":status", "103"), ("link", "</a>")]),
+            PlayStep::Head(&[(":status", "103")]),
+            PlayStep::AwaitReading,
+            PlayStep::Head(HEAD),
+            PlayStep::Reply(Part::Rest),
+            PlayStep::Trailers(OK),
         ],
         duty: Duty::Completes(Sentence::InterimHeads),
         ..PLAIN

@@ -19,7 +19,7 @@ const PATIENCE: u64 = 10_000;
 
 /// SETTINGS that were sent, and when, in milliseconds of the case.
 #[derive(Clone, Copy)]
-struct Waiting {
+struct SentSettings {
     settings: &'static [Setting],
     at: u64,
 }
@@ -44,7 +44,7 @@ pub struct Rules {
     /// How many calls may be open at once.
     calls: u32,
     /// The SETTINGS that aren't acknowledged, in order.
-    waiting: VecDeque<Waiting>,
+    waiting: VecDeque<SentSettings>,
     acks: u32,
     /// The PINGs that aren't answered.
     pings: Vec<Ping>,
@@ -116,7 +116,7 @@ impl Rules {
 
     /// SETTINGS were sent. By how much the windows of calls grow.
     pub fn sent(&mut self, settings: &'static [Setting], now: u64) -> Result<i64, Halt> {
-        self.waiting.push_back(Waiting { settings, at: now })?;
+        self.waiting.push_back(SentSettings { settings, at: now })?;
         Ok(self.hold(settings, true))
     }
 

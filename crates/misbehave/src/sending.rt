@@ -8,10 +8,10 @@ use crate::frame_text::{
     block_of, push_frame, push_frame_head,
 };
 use crate::halt::Halt;
-use crate::lack::{LONGEST_FRAMES, Lack, SHORT_REPLY, WIDE_WINDOWS};
+use crate::lack::{ClientLack, LONGEST_FRAMES, SHORT_REPLY, WIDE_WINDOWS};
 use crate::line::Line;
 use crate::responses::{HEAD, OK};
-use crate::step::{Last, Pair, Part, Step};
+use crate::step::{LastStream, Pair, Part, PlayStep};
 use h2frame::StreamId;
 use std::alloc::AllocError;
 
@@ -52,24 +52,24 @@ pub fn is_sent<L: Line>(
     connection: &mut Connection<L>,
     index: usize,
     padded: &mut u32,
-    step: &Step,
+    step: &PlayStep,
 ) -> Result<bool, Halt> {
     let Some(call) = connection.calls.as_slice().get(index) else {
         return Ok(true);
     };
     let stream = call.stream;
     match step {
-        Step::Reply(part) => reply(connection, index, padded, *part),
-        Step::Head(fields) => head(connection, index, fields, END_HEADERS),
-        Step::Trailers(fields) => {
+        PlayStep::Reply(part) => reply(connection, index, padded, *part),
+        PlayStep::Head(fields) => head(connection, index, fields, END_HEADERS),
+        PlayStep::Trailers(fields) => {
             end(connection, index);
             head(connection, index, fields, END_HEADERS | END_STREAM)
         }
-        Step::Reset(code) => {
+        PlayStep::Reset(code) => {
             end(connection, index);
             reset(connection, index, stream, *code)
         }
-        Step::Continued(fields) => continued(connection, stream, fields),
+        PlayStep::Continued(fields) => continued(connection, stream, fields),
         _ => is_framed(connection, stream, step),
     }
 }
@@ -78,19 +78,19 @@ pub fn is_sent<L: Line>(
 fn is_framed<L: Line>(
     connection: &mut Connection<L>,
     stream: StreamId,
-    step: &Step,
+    step: &PlayStep,
 ) -> Result<bool, Halt> {
-    if !matches!(step, Step::Credit(_) | Step::GoAway(_)) {
+    if !matches!(step, PlayStep::Credit(_) | PlayStep::GoAway(_)) {
         connection.is_uncounted = true;
     }
     match step {
-        Step::Credit(increment) => connection.credit(stream, *increment)?,
-        Step::GoAway(last) => goaway(connection, stream, *last)?,
-        Step::Data(bytes) => connection.push(DATA, NO_FLAGS, stream, bytes)?,
-        Step::Frame(kind, flags, bytes) => connection.push(*kind, *flags, stream, bytes)?,
-        Step::TooLong => too_long(connection, stream)?,
-        Step::PastWindow => past_window(connection, stream)?,
-        Step::HalfFrame => {
+        PlayStep::Credit(increment) => connection.credit(stream, *increment)?,
+        PlayStep::GoAway(last) => goaway(connection, stream, *last)?,
+        PlayStep::Data(bytes) => connection.push(DATA, NO_FLAGS, stream, bytes)?,
+        PlayStep::Frame(kind, flags, bytes) => connection.push(*kind, *flags, stream, bytes)?,
+        PlayStep::TooLong => too_long(connection, stream)?,
+        PlayStep::PastWindow => past_window(connection, stream)?,
+        PlayStep::HalfFrame => {
             push_frame_head(&mut connection.out, DATA, NO_FLAGS, stream, 100)?;
             connection.out.extend_from_slice(&ZEROS[..50])?;
         }
@@ -160,11 +160,11 @@ fn reset<L: Line>(
 fn goaway<L: Line>(
     connection: &mut Connection<L>,
     stream: StreamId,
-    last: Last,
+    last: LastStream,
 ) -> Result<(), Halt> {
     let named = match last {
-        Last::ThisCall => stream,
-        Last::None => 0,
+        LastStream::ThisCall => stream,
+        LastStream::None => 0,
     };
     let mut content = Vec::new(connection.alloc);
     content.extend_from_slice(&named.to_be_bytes())?;
@@ -226,7 +226,7 @@ fn has_long_reply<L: Line>(connection: &mut Connection<L>, index: usize) -> Resu
     if reply_len(connection, index)? > USUAL_WINDOW {
         Ok(())
     } else {
-        Err(Halt::Lacks(Lack::Seen(SHORT_REPLY)))
+        Err(Halt::Lacks(ClientLack::Seen(SHORT_REPLY)))
     }
 }
 
@@ -375,7 +375,7 @@ fn send_padded_piece<L: Line>(
 /// Sends a DATA frame that is one byte longer than the client allows.
 fn too_long<L: Line>(connection: &mut Connection<L>, stream: StreamId) -> Result<(), Halt> {
     if connection.longest >= LONGEST {
-        return Err(Halt::Lacks(Lack::Seen(LONGEST_FRAMES)));
+        return Err(Halt::Lacks(ClientLack::Seen(LONGEST_FRAMES)));
     }
     let len = connection.longest + 1;
     push_frame_head(&mut connection.out, DATA, NO_FLAGS, stream, len)?;
@@ -395,7 +395,7 @@ fn push_zeros(out: &mut Vec<u8>, count: u32) -> Result<(), AllocError> {
 fn past_window<L: Line>(connection: &mut Connection<L>, stream: StreamId) -> Result<(), Halt> {
     let count = connection.windows.room(stream).saturating_add(PAST);
     if count > MOST_PAST {
-        return Err(Halt::Lacks(Lack::Seen(WIDE_WINDOWS)));
+        return Err(Halt::Lacks(ClientLack::Seen(WIDE_WINDOWS)));
     }
     let [a, b, c, d] = count.to_be_bytes();
     push_frame(

@@ -45,7 +45,7 @@ impl<T: Drop> From<AllocFailed<T>> for RunFault {
 
 /// Where misbehaviours are run, and for how long at most.
 #[derive(Clone, Copy)]
-pub struct Place<'a> {
+pub struct PlayPlace<'a> {
     /// The address that is listened on, or a name for it.
     pub host: &'a str,
     /// The port of the first; each later one has the next port.
@@ -80,7 +80,7 @@ pub struct Stage<R: Net> {
 
 /// What came of a misbehaviour, and what is printed of it.
 #[derive(Drop)]
-pub struct Played {
+pub struct PlayOutcome {
     pub outcome: Outcome,
     /// Lines: what was sent, what the client did, and last the verdict.
     pub text: String,
@@ -96,7 +96,7 @@ impl<R: Net + Clock + Copy + Drop> Stage<R> {
         rt: R,
         alloc: Global,
         plays: Vec<Misbehaviour>,
-        place: Place<'_>,
+        place: PlayPlace<'_>,
     ) -> Result<Stage<R>, RunFault> {
         let mut ports = Vec::new(alloc);
         let mut next = place.port;
@@ -154,7 +154,7 @@ impl<R: Net + Clock + Copy + Drop> Stage<R> {
 
     /// Runs the misbehaviour at a place until the client has gone, or its time is over. Nothing if
     /// there is none.
-    pub fn play(&mut self, at: usize) -> Result<Option<Played>, AllocError> {
+    pub fn play(&mut self, at: usize) -> Result<Option<PlayOutcome>, AllocError> {
         let Some(play) = self.plays.as_slice().get(at).copied() else {
             return Ok(None);
         };
@@ -166,13 +166,13 @@ impl<R: Net + Clock + Copy + Drop> Stage<R> {
         let outcome = outcome_of(self.alloc, &play, &host)?;
         let mut text = String::new(self.alloc);
         push_outcome(&mut text, host.log(), &outcome)?;
-        Ok(Some(Played { outcome, text }))
+        Ok(Some(PlayOutcome { outcome, text }))
     }
 }
 
 fn bind<R: Net + Clock + Copy + Drop>(
     rt: R,
-    place: Place<'_>,
+    place: PlayPlace<'_>,
     port: u16,
 ) -> Result<Port<R>, RunFault> {
     let limit = Duration::from_secs(u64::from(place.seconds));

@@ -36,7 +36,7 @@ impl Part {
 
 /// Which stream a GOAWAY names as the last.
 #[derive(Clone, Copy)]
-pub enum Last {
+pub enum LastStream {
     /// The call's: later ones are not answered.
     ThisCall,
     /// None: no call is answered.
@@ -45,7 +45,7 @@ pub enum Last {
 
 /// A step. A pause is in milliseconds.
 #[derive(Clone, Copy)]
-pub enum Step {
+pub enum PlayStep {
     /// Waits for the head of the next call.
     AwaitCall,
     /// Waits for a call that is made after the last SETTINGS were acknowledged. Its header block
@@ -80,7 +80,7 @@ pub enum Step {
     /// Sends PING.
     Ping,
     /// Sends GOAWAY with NO_ERROR.
-    GoAway(Last),
+    GoAway(LastStream),
     /// Sends RST_STREAM with this code.
     Reset(u32),
     /// Sends a header block.
@@ -105,24 +105,24 @@ pub enum Step {
     Close,
 }
 
-impl Step {
+impl PlayStep {
     /// What the step sends, in a word, or nothing where it waits.
     pub fn word(&self) -> &'static str {
         match self {
-            Step::Settings(_) => "SETTINGS",
-            Step::Credit(_) => "WINDOW_UPDATE",
-            Step::Ping => "PING",
-            Step::GoAway(_) => "GOAWAY",
-            Step::Reset(_) => "RST_STREAM",
-            Step::Head(_) => "HEADERS",
-            Step::Trailers(_) => "HEADERS with END_STREAM",
-            Step::Continued(_) => "HEADERS and 20 CONTINUATIONs",
-            Step::Reply(_) | Step::Data(_) | Step::PastWindow => "DATA",
-            Step::Frame(_, _, _) => "a frame",
-            Step::TooLong => "too long a frame",
-            Step::HalfFrame => "half of a DATA frame",
-            Step::Close => "the end of the connection",
-            Step::AnswerSlowly(_) => "replies",
+            PlayStep::Settings(_) => "SETTINGS",
+            PlayStep::Credit(_) => "WINDOW_UPDATE",
+            PlayStep::Ping => "PING",
+            PlayStep::GoAway(_) => "GOAWAY",
+            PlayStep::Reset(_) => "RST_STREAM",
+            PlayStep::Head(_) => "HEADERS",
+            PlayStep::Trailers(_) => "HEADERS with END_STREAM",
+            PlayStep::Continued(_) => "HEADERS and 20 CONTINUATIONs",
+            PlayStep::Reply(_) | PlayStep::Data(_) | PlayStep::PastWindow => "DATA",
+            PlayStep::Frame(_, _, _) => "a frame",
+            PlayStep::TooLong => "too long a frame",
+            PlayStep::HalfFrame => "half of a DATA frame",
+            PlayStep::Close => "the end of the connection",
+            PlayStep::AnswerSlowly(_) => "replies",
             _ => "",
         }
     }
@@ -130,14 +130,15 @@ impl Step {
     /// What of the client the step waits for.
     pub fn awaited(&self) -> &'static str {
         match self {
-            Step::AwaitCall => "a call",
-            Step::AwaitUpdatedCall => "a second call, made once the first had ended",
-            Step::AwaitRequest | Step::AwaitBytes(_) => "the rest of its request",
-            Step::AwaitAcks => "its acknowledgement of SETTINGS",
-            Step::AwaitPongs | Step::AwaitReading | Step::AwaitRejection => "its answer of a PING",
-            Step::AnswerSlowly(_) => "a second call",
-            Step::AwaitTwoCalls => "two calls at once",
-            Step::Reply(_) => "its credit for the rest of the reply",
+            PlayStep::AwaitCall => "a call",
+            PlayStep::AwaitUpdatedCall => "a second call, made once the first had ended",
+            PlayStep::AwaitRequest | PlayStep::AwaitBytes(_) => "the rest of its request",
+            PlayStep::AwaitAcks => "its acknowledgement of SETTINGS",
+            PlayStep::AwaitPongs | PlayStep::AwaitReading | PlayStep::AwaitRejection =>
+                "its answer of a PING",
+            PlayStep::AnswerSlowly(_) => "a second call",
+            PlayStep::AwaitTwoCalls => "two calls at once",
+            PlayStep::Reply(_) => "its credit for the rest of the reply",
             _ => "its next frame",
         }
     }

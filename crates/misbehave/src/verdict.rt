@@ -8,7 +8,7 @@ ghost use Rattle.misbehave.specs.declared.verdict.Judgement.TheVariants as judge
 use crate::breach::Breach;
 use crate::deeds::{Deeds, Ending};
 use crate::lack::{
-    LEFT_EARLY, LEFT_UNCLEAR, LEFT_UNREAD, Lack, NO_CALL, NO_CALL_ELSEWHERE, NO_SIGN,
+    ClientLack, LEFT_EARLY, LEFT_UNCLEAR, LEFT_UNREAD, NO_CALL, NO_CALL_ELSEWHERE, NO_SIGN,
     ONE_AT_A_TIME, Shortfall, TIME_OVER,
 };
 use crate::misbehaviour::{Duty, Misbehaviour, Need};
@@ -49,7 +49,7 @@ impl Fault {
 pub enum Judgement {
     Right,
     Wrong(Fault),
-    Untested(Lack),
+    Untested(ClientLack),
 }
 
 impl Judgement {
@@ -114,17 +114,17 @@ fn overdue(duty: Duty, deeds: &Deeds) -> Option<Breach>
 }
 
 /// Why a client wasn't shown what the server does wrong.
-fn unshown(deeds: &Deeds) -> Lack {
+fn unshown(deeds: &Deeds) -> ClientLack {
     if deeds.calls == 0 {
-        return Lack::Seen(NO_CALL);
+        return ClientLack::Seen(NO_CALL);
     }
     if let Some(reset) = deeds.reset {
-        return Lack::GaveUp(reset);
+        return ClientLack::GaveUp(reset);
     }
     if deeds.has_left && !deeds.is_over {
-        return Lack::Seen(LEFT_EARLY);
+        return ClientLack::Seen(LEFT_EARLY);
     }
-    Lack::Awaited(deeds.awaited)
+    ClientLack::Awaited(deeds.awaited)
 }
 
 /// Whether a client that was shown the misbehaviour did its duty.
@@ -156,7 +156,7 @@ fn completes(
 {
     if let Some(reset) = deeds.reset {
         if reset.is_early && reset.is_own_reason() {
-            return Judgement::Untested(Lack::GaveUp(reset));
+            return Judgement::Untested(ClientLack::GaveUp(reset));
         }
         if reset.is_early {
             return gives_up(giving_up, reset);
@@ -171,11 +171,11 @@ fn completes(
         return Judgement::Right;
     }
     if deeds.has_left {
-        return Judgement::Untested(Lack::Seen(LEFT_EARLY));
+        return Judgement::Untested(ClientLack::Seen(LEFT_EARLY));
     }
     match leaving_undone {
         Some(sentence) if deeds.is_stalled => Judgement::Wrong(Fault::Stalled(sentence)),
-        _ => Judgement::Untested(Lack::Awaited(deeds.awaited)),
+        _ => Judgement::Untested(ClientLack::Awaited(deeds.awaited)),
     }
 }
 
@@ -185,7 +185,7 @@ fn gives_up(forbidden: Option<Sentence>, ending: Ending) -> Judgement
 {
     match forbidden {
         Some(sentence) => Judgement::Wrong(Fault::GaveUp(ending, sentence)),
-        None => Judgement::Untested(Lack::Declined(ending)),
+        None => Judgement::Untested(ClientLack::Declined(ending)),
     }
 }
 
@@ -201,7 +201,7 @@ fn ends_stream(sentence: Sentence, deeds: &Deeds) -> Judgement
             return Judgement::Right;
         }
         if !reset.is_late {
-            return Judgement::Untested(Lack::GaveUp(reset));
+            return Judgement::Untested(ClientLack::GaveUp(reset));
         }
     }
     ends(Fault::KeptStream(sentence), deeds)
@@ -220,17 +220,17 @@ fn ends(fault: Fault, deeds: &Deeds) -> Judgement
             return Judgement::Right;
         }
         if !goaway.is_late {
-            return Judgement::Untested(Lack::GaveUp(goaway));
+            return Judgement::Untested(ClientLack::GaveUp(goaway));
         }
     }
     if deeds.has_gone_on {
         return Judgement::Wrong(fault);
     }
     if !deeds.has_left {
-        return Judgement::Untested(Lack::Seen(TIME_OVER));
+        return Judgement::Untested(ClientLack::Seen(TIME_OVER));
     }
     if deeds.has_read {
-        return Judgement::Untested(Lack::Seen(LEFT_UNCLEAR));
+        return Judgement::Untested(ClientLack::Seen(LEFT_UNCLEAR));
     }
     Judgement::Right
 }
@@ -253,7 +253,7 @@ fn judge_need(need: Need, deeds: &Deeds) -> Judgement
     if seen {
         Judgement::Right
     } else {
-        Judgement::Untested(Lack::Seen(shortfall))
+        Judgement::Untested(ClientLack::Seen(shortfall))
     }
 }
 

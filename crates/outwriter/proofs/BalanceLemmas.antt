@@ -78,7 +78,16 @@ use Rattle.flow.specs.WindowHistory.{
   room_after,
 }
 use Rattle.flow.specs.WindowHistory.{Step as WindowStep}
-use Rattle.flow.specs.Windows.{CreditFault, Fits, Meets, Shared, Windows, balance, lesser, room}
+use Rattle.flow.specs.Windows.{
+  CreditFault,
+  Fits,
+  Meets,
+  SharedWindow,
+  Windows,
+  balance,
+  lesser,
+  room,
+}
 use Rattle.flow.proofs.WindowSteps.{
   CanCredit-stream,
   CanResize-fits,
@@ -93,8 +102,8 @@ use Rattle.flow.proofs.WindowSteps.{
   room-open,
 }
 use Rattle.outwriter.specs.declared.states.Stream.{Stream}
-use Rattle.outwriter.specs.declared.stream.Looked.{Looked}
-use Rattle.outwriter.specs.declared.stream.Looked.TheVariants as looked
+use Rattle.outwriter.specs.declared.stream.NextData.{NextData}
+use Rattle.outwriter.specs.declared.stream.NextData.TheVariants as looked
 use Rattle.outwriter.specs.Data.{CutsData, Spends, TakesData}
 use Rattle.outwriter.specs.Resizes.{FitsOn}
 use Rattle.outwriter.specs.RunState.{spent}
@@ -123,7 +132,7 @@ flip a b = by (nat_eq a b) (nat_eq b a) refl refl
     by true false p q = absurd (true≢false (sym (eq-eqb b a (sym (eqb-true a b p))) ∙ q))
     by false true p q = absurd (true≢false (sym (eq-eqb a b (sym (eqb-true b a q))) ∙ p))
 
-pub found-balance : (shared : Shared) (es : List Entry) (id : ℕ)
+pub found-balance : (shared : SharedWindow) (es : List Entry) (id : ℕ)
     → balance (windows_of shared es) id ≡ balance_in (lookup (nat_eq id) es)
 found-balance shared [] id = refl
 found-balance shared (e ∷ es) id =
@@ -171,7 +180,8 @@ same-balances (e ∷ es) id w was found same =
     by rest false at = ap (λ (l : List (ℕ × ℤ)). balance_first e.0 e.1.balance l) (rest at)
 
 -- one stream changes, with what all windows share
-pub balance-puts : (from to : Shared) (es : List Entry) (id : ℕ) (w : Stream) (new : List Entry)
+pub balance-puts : (from to : SharedWindow) (es : List Entry) (id : ℕ) (w : Stream)
+    (new : List Entry)
     → PutsEntry es id w new
     → (k : ℕ)
     → balance (windows_of to new) k
@@ -188,7 +198,7 @@ balance-puts from to es id w new puts k =
 
 -- ---- steps of their history
 
-module _ (shared : Shared) (es : List Entry) (id : ℕ) (w : Stream) (new : List Entry)
+module _ (shared : SharedWindow) (es : List Entry) (id : ℕ) (w : Stream) (new : List Entry)
     (puts : PutsEntry es id w new) where
   sets : (kept : Option ℤ) → w.balance ≡ kept → (other : ℕ) → 0 < other
       → balance (windows_of shared new) other
@@ -232,7 +242,7 @@ module _ (shared : Shared) (es : List Entry) (id : ℕ) (w : Stream) (new : List
       by other false p = refl
 
 -- a stream that isn't there has no window
-pub none-closes : (shared : Shared) (es : List Entry) (id : ℕ) → lookup (nat_eq id) es ≡ None
+pub none-closes : (shared : SharedWindow) (es : List Entry) (id : ℕ) → lookup (nat_eq id) es ≡ None
     → (h : List WindowStep) → Follows h (windows_of shared es)
     → Follows (Closing id ∷ h) (windows_of shared es)
 none-closes shared es id none h f =
@@ -248,7 +258,7 @@ none-closes shared es id none h f =
     by other false p = refl
 
 -- the entries that are found are the same
-pub found-stays : (shared : Shared) (es new : List Entry)
+pub found-stays : (shared : SharedWindow) (es new : List Entry)
     → ((k : ℕ) → lookup (nat_eq k) new ≡ lookup (nat_eq k) es)
     → (h : List WindowStep) → Follows h (windows_of shared es) → Follows h (windows_of shared new)
 found-stays shared es new same h f = Follows-same h (windows_of shared es) f (windows_of shared new)
@@ -264,7 +274,7 @@ Credited old new id n answer = Meets (CreditFault old id n) answer
     × OnOk answer ((h : List WindowStep) → Follows h old → CanCredit h id n)
     × OnErr answer ((h : List WindowStep) → Follows h old → ¬ CanCredit h id n)
 
-pub credit-none : (shared : Shared) (es new : List Entry) (id n : ℕ)
+pub credit-none : (shared : SharedWindow) (es new : List Entry) (id n : ℕ)
     (answer : Result (Unit {0}) WindowFault)
     → 0 < id → lookup (nat_eq id) es ≡ None → answer ≡ Err Unknown
     → Credited (windows_of shared es) (windows_of shared new) id n answer
@@ -278,7 +288,7 @@ credit-none shared es new id n answer there none is =
       λ h f. cannot-credit-closed h (windows_of shared es) f id n there closed,
     )
 
-pub credit-some : (shared : Shared) (es new : List Entry) (id n : ℕ) (was now : Stream)
+pub credit-some : (shared : SharedWindow) (es new : List Entry) (id n : ℕ) (was now : Stream)
     (answer : Result (Unit {0}) WindowFault)
     → 0 < id → lookup (nat_eq id) es ≡ Some was
     → PutsEntry es id now new → CreditsStream shared was.balance now.balance n answer
@@ -348,7 +358,7 @@ fits-test : (size : ℕ) (o : Option ℤ) → IfSome o (λ b. Fits (pos size +�
 fits-test size None e = refl
 fits-test size (Some b) e = grind (arith, ints)
 
-pub all-fit : (shared : Shared) (es : List Entry) (size : ℕ) → size ≤ MAX_WINDOW
+pub all-fit : (shared : SharedWindow) (es : List Entry) (size : ℕ) → size ≤ MAX_WINDOW
     → list_all (λ (s : Stream). fits_with size s.balance) (values_of es) ≡ true
     → FitsOn (windows_of shared es) size
 all-fit shared es size low all = (
@@ -368,7 +378,8 @@ all-fit shared es size low all = (
     by None h = tt
     by (Some s) h = fits-is size s.balance h
 
-pub some-over : (shared : Shared) (es : List Entry) (size : ℕ) → IsDistinct nat_eq (keys_of es)
+pub some-over : (shared : SharedWindow) (es : List Entry) (size : ℕ)
+    → IsDistinct nat_eq (keys_of es)
     → is_some (lookup (nat_eq 0) es) ≡ false
     → list_all (λ (s : Stream). fits_with size s.balance) (values_of es) ≡ false
     → ¬ FitsOn (windows_of shared es) size
@@ -416,24 +427,25 @@ lesser-below connection n (pos m) below = omega (arith, below)
 lesser-below connection n (negsuc m) below = omega (arith, below)
 
 -- nothing is taken
-pub spends-none : (from to : Shared) (was now : Option ℤ) (n : ℕ) → n ≡ 0 → Spends from to was now n
+pub spends-none : (from to : SharedWindow) (was now : Option ℤ) (n : ℕ) → n ≡ 0
+    → Spends from to was now n
     → (to ≡ from) × (now ≡ was)
 spends-none from to None now n none spends = (spends.1, spends.2)
 spends-none from to (Some b) now n none spends = (
   spends.1
-      ∙ ap (λ c. let s : Shared = record { connection = c; initial = from.initial } in s)
+      ∙ ap (λ c. let s : SharedWindow = record { connection = c; initial = from.initial } in s)
       (omega (arith, none)),
   spends.2 ∙ ap Some (omega (arith, ints, none)),
 )
 
-module _ (from to : Shared) (es : List Entry) (id : ℕ) (was now : Stream) (new : List Entry)
+module _ (from to : SharedWindow) (es : List Entry) (id : ℕ) (was now : Stream) (new : List Entry)
     (message rest : List ℕ) (found : lookup (nat_eq id) es ≡ Some was)
     (is : new ≡ set_value (nat_eq id) es now) (puts : PutsEntry es id now new) where
   here : balance (windows_of from es) id ≡ was.balance
   here = found-balance from es id ∙ ap balance_in found
 
   same : to ≡ from → now.balance ≡ was.balance → windows_of to new ≡ windows_of from es
-  same shared kept = ap (λ (s : Shared). windows_of s new) shared
+  same shared kept = ap (λ (s : SharedWindow). windows_of s new) shared
       ∙ ap (λ (l : List (ℕ × ℤ)).
       let w : Windows = record {
         connection = from.connection;
@@ -461,10 +473,11 @@ module _ (from to : Shared) (es : List Entry) (id : ℕ) (was now : Stream) (new
         (λ other there.
         balance-puts from to es id now new puts other
         ∙ ap (λ o. if nat_eq other id then o else balance (windows_of from es) other) spends.2)
-        (ap (λ (s : Shared). s.connection) spends.1) (ap (λ (s : Shared). s.initial) spends.1)),
+        (ap (λ (s : SharedWindow). s.connection) spends.1)
+        (ap (λ (s : SharedWindow). s.initial) spends.1)),
   )
 
-  pub data-view : (l : Looked) → CutsData id from to was.balance now.balance message rest l
+  pub data-view : (l : NextData) → CutsData id from to was.balance now.balance message rest l
       → TakesData id (windows_of from es) (windows_of to new) message rest l
   data-view (looked.Frame frame) cuts =
       let takes = frame-cut cuts.0 was.balance refl cuts.3 cuts.5 in

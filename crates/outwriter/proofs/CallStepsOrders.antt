@@ -34,7 +34,7 @@ use Rattle.account.specs.declared.call.OutItem.{OutItem}
 use Rattle.h2frame.specs.declared.error_code.ErrorCode.{ErrorCode}
 use Rattle.lists.specs.declared.field.Field.{Field}
 use Rattle.outwriter.specs.OpenStreams.{Closes, OpenStreams}
-use Rattle.outwriter.specs.declared.control.Control.TheVariants as order
+use Rattle.outwriter.specs.declared.control.WriterOrder.TheVariants as order
 use Rattle.outwriter.specs.declared.due.Due.{Due}
 use Rattle.outwriter.specs.declared.due.Due.TheVariants as due_kind
 use Rattle.outwriter.specs.declared.outbound.Outbound.{Outbound}

@@ -22,12 +22,12 @@ use Rattle.std.proofs.Common.{
 }
 use Rattle.std.specs.Prelude.{drop, take, map, IfNone, IfSome}
 use Rattle.std.proofs.lemmas.List.{length-take-le, take-append-drop}
-use Rattle.flow.specs.Windows.{Shared, Windows, room}
+use Rattle.flow.specs.Windows.{SharedWindow, Windows, room}
 use Rattle.h2frame.specs.declared.frame.Frame.{Frame}
 use Rattle.outwriter.specs.declared.sending.Sending.{Sending}
 use Rattle.outwriter.specs.declared.outbound.Outbound.{Outbound}
-use Rattle.outwriter.specs.declared.stream.Looked.{Looked}
-use Rattle.outwriter.specs.declared.stream.Looked.TheVariants as looked
+use Rattle.outwriter.specs.declared.stream.NextData.{NextData}
+use Rattle.outwriter.specs.declared.stream.NextData.TheVariants as looked
 use Rattle.outwriter.specs.Data.{CutsData, Spends, TakesFrames, TakesData}
 use Rattle.outwriter.specs.Frames.{IsSound, data_frame}
 use Rattle.outwriter.specs.OpenStreams.{HandIs, kept}
@@ -45,7 +45,7 @@ use Rattle.outwriter.proofs.TellSteps.{plain-tells}
 
 -- ---- what is taken
 
-pub data-cut : (id len : ℕ) (from to : Shared) (was now : Option ℤ)
+pub data-cut : (id len : ℕ) (from to : SharedWindow) (was now : Option ℤ)
     (message front rest : List ℕ) (frame : Frame)
     → front ≡ take len message → rest ≡ drop len message → len ≤ length message → 0 < len
     → len ≤ 16384 → frame ≡ data_frame id front
@@ -85,7 +85,7 @@ module _ (o after : Outbound) (id : ℕ) (message rest : List ℕ) (between : Is
     ≡ record o {
       states = record o.states { opened = after.states.opened; windows = after.states.windows };
     }) where
-  pub data-progress : (found : Looked)
+  pub data-progress : (found : NextData)
       → TakesData id o.states.windows after.states.windows message rest found
       → Progress (frame_in found) o after
   data-progress (looked.Frame frame) takes = λ run m.
@@ -106,7 +106,7 @@ module _ (o after : Outbound) (id : ℕ) (message rest : List ℕ) (between : Is
       let same = same-windows o after is takes.1 in
       (λ run m. mirrors-but-open run o after same m, between-still o after same between)
 
-  pub data-sound : (found : Looked)
+  pub data-sound : (found : NextData)
       → TakesData id o.states.windows after.states.windows message rest found
       → IfSome (frame_in found) IsSound
   data-sound (looked.Frame frame) takes =
@@ -121,7 +121,7 @@ module _ (o after : Outbound) (id : ℕ) (message rest : List ℕ) (between : Is
     ap (λ (x : Outbound). x.block) same,
   )
 
-  pub data-own : (found : Looked)
+  pub data-own : (found : NextData)
       → TakesData id o.states.windows after.states.windows message rest found
       → IfNone (frame_in found) (SameOwn o after)
   data-own (looked.Frame frame) takes = tt
@@ -148,7 +148,7 @@ kept-some (byte ∷ bytes) some = refl
 module _ {L In Out Shut : Type 0} where
   -- DATA of a front of some bytes, of which the rest is in hand then; or all of them are, as there
   -- is no room
-  abbrev pub TellsData : ℕ → List ℕ → Looked → Sending L In Out Shut
+  abbrev pub TellsData : ℕ → List ℕ → NextData → Sending L In Out Shut
       → Sending L In Out Shut → Type 0
   TellsData id bytes (looked.Frame frame) old new =
       (front : List ℕ) × (rest : List ℕ) × (bytes ≡ front ++ rest)
@@ -166,7 +166,7 @@ module _ {L In Out Shut : Type 0} where
       (bytes ≡ []) × HandIs id None (open_at old.outbound.states) (open_at new.outbound.states)
       × SameButOpen old.outbound new.outbound
 
-  pub tells-data : (found : Looked) (old new : Sending L In Out Shut) (id : ℕ)
+  pub tells-data : (found : NextData) (old new : Sending L In Out Shut) (id : ℕ)
       (message rest : List ℕ)
       → IsBetween old.outbound → TakesFrames old.outbound.states id
       → HandIs id (kept rest) (open_at old.outbound.states) (open_at new.outbound.states)

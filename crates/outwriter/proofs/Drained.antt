@@ -28,7 +28,7 @@ use Rattle.std.proofs.lemmas.List.Folds.{list_any-append}
 use Rattle.h2frame.specs.declared.frame.Frame.{Frame}
 use Rattle.h2frame.specs.declared.kind.FrameKind.{FrameKind}
 use Rattle.h2frame.specs.declared.kind.FrameKind.TheVariants as kind
-use Rattle.outwriter.specs.declared.control.Control.TheVariants.{
+use Rattle.outwriter.specs.declared.control.WriterOrder.TheVariants.{
   Settings,
   Ping,
   Probe,

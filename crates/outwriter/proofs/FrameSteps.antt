@@ -39,7 +39,7 @@ use Rattle.h2frame.specs.declared.frame.Frame.{Frame}
 use Rattle.h2frame.specs.declared.kind.FrameKind.TheVariants as kind
 use Rattle.reasons.specs.declared.Reason.{Reason}
 use Rattle.outwriter.specs.declared.blocks.HeaderBlock.{HeaderBlock}
-use Rattle.outwriter.specs.declared.control.Control.TheVariants.{Goaway}
+use Rattle.outwriter.specs.declared.control.WriterOrder.TheVariants.{Goaway}
 use Rattle.outwriter.specs.declared.due.Due.{Due}
 use Rattle.outwriter.specs.States.{States, over_on}
 use Rattle.outwriter.specs.Frames.{

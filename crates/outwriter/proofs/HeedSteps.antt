@@ -32,7 +32,7 @@ use Rattle.h2frame.specs.declared.error_code.ErrorCode.{ErrorCode}
 use Rattle.hpack_codec.proofs.HuffmanTable.{and_true}
 use Rattle.lists.specs.declared.field.Field.{Field}
 use Rattle.outwriter.specs.OpenStreams.{Closes, OpenStreams, stream_at}
-use Rattle.outwriter.specs.declared.control.Control.TheVariants as order
+use Rattle.outwriter.specs.declared.control.WriterOrder.TheVariants as order
 use Rattle.outwriter.specs.declared.due.Due.TheVariants as due_kind
 use Rattle.outwriter.specs.declared.outbound.Outbound.{Outbound}
 use Rattle.outwriter.specs.declared.stream.OpenStream.{OpenStream}

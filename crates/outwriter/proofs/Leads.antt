@@ -49,9 +49,9 @@ use Rattle.h2frame.specs.declared.error_code.ErrorCode.{ErrorCode}
 use Rattle.h2frame.specs.declared.frame.Frame.{Frame}
 use Rattle.lists.specs.declared.field.Field.{Field}
 use Rattle.reasons.specs.declared.Reason.{Reason}
-use Rattle.outwriter.specs.declared.control.Control.{Control}
-use Rattle.outwriter.specs.declared.control.Control.TheVariants as order
-use Rattle.outwriter.specs.declared.control.Control.TheVariants.{Goaway}
+use Rattle.outwriter.specs.declared.control.WriterOrder.{WriterOrder}
+use Rattle.outwriter.specs.declared.control.WriterOrder.TheVariants as order
+use Rattle.outwriter.specs.declared.control.WriterOrder.TheVariants.{Goaway}
 use Rattle.outwriter.specs.declared.control.OutFault.{OutFault}
 use Rattle.outwriter.specs.declared.control.OutFault.TheVariants.{OutOfMemory}
 use Rattle.outwriter.specs.declared.due.Due.{Due}
@@ -620,7 +620,7 @@ module _ {L In Out Shut : Type 0} (got : Out → List OutItem) where
 
     -- or taken
     pub leads-taken : (after : Outbound) (closed leaving probed failed : Bool)
-        (control given : Control (Sender L In Out Shut))
+        (control given : WriterOrder (Sender L In Out Shut))
         → control ≡ given
         → (closes (order_of given) || old.closed) ≡ closed
         → ((run : List Step) → IsUnsaid run old.is_leaving old.has_probed old.has_failed
@@ -642,7 +642,7 @@ module _ {L In Out Shut : Type 0} (got : Out → List OutItem) where
           sending = record old.sending { outbound = after };
         } in
         let all = calls got old.sending.senders.items in
-        subst (λ (c : Control (Sender L In Out Shut)). LeadsOn got (Taken (order_of c)) old new)
+        subst (λ (c : WriterOrder (Sender L In Out Shut)). LeadsOn got (Taken (order_of c)) old new)
         (sym is) (λ run l.
         leads-living (Taken (order_of given) ∷ run) new alive l.lawful
         (ap (λ b. closes (order_of given) || b) l.closed ∙ closes_it)
@@ -650,7 +650,7 @@ module _ {L In Out Shut : Type 0} (got : Out → List OutItem) where
 
     -- one that is answered
     pub leads-answered : (result : Result (Unit {0}) (OutFault (Sender L In Out Shut)))
-        (after : Sending L In Out Shut) (control given : Control (Sender L In Out Shut))
+        (after : Sending L In Out Shut) (control given : WriterOrder (Sender L In Out Shut))
         → control ≡ given
         → closes (order_of given) ≡ false → goaway_by (order_of given) ≡ None
         → probes (order_of given) ≡ false → fails (order_of given) ≡ false
@@ -663,7 +663,7 @@ module _ {L In Out Shut : Type 0} (got : Out → List OutItem) where
         → LeadsControl got result control old (record old { sending = after })
     leads-answered (Ok done) after control given is opens no_goaway no_probe
         no_error kept still back =
-        subst (λ (c : Control (Sender L In Out Shut)).
+        subst (λ (c : WriterOrder (Sender L In Out Shut)).
         IsUnused got c → LeadsOn got (Taken (order_of c)) old (record old { sending = after }))
         (sym is) (λ unused run l.
         leads-living (Taken (order_of given) ∷ run) (record old { sending = after }) alive l.lawful
@@ -675,7 +675,7 @@ module _ {L In Out Shut : Type 0} (got : Out → List OutItem) where
         no_error kept still back =
         subst (λ (f : OutFault (Sender L In Out Shut)).
         LeadsControl got (Err f) control old (record old { sending = after })) (sym back) (
-          ap (λ (c : Control (Sender L In Out Shut)). Some c) (sym is),
+          ap (λ (c : WriterOrder (Sender L In Out Shut)). Some c) (sym is),
           λ run l.
               leads-living run (record old { sending = after }) alive l.lawful l.closed
               (l.unsaid alive) (still run
@@ -684,7 +684,7 @@ module _ {L In Out Shut : Type 0} (got : Out → List OutItem) where
 
     -- of a stream
     pub leads-ordered : (result : Result (Unit {0}) (OutFault (Sender L In Out Shut)))
-        (after : Outbound) (control given : Control (Sender L In Out Shut))
+        (after : Outbound) (control given : WriterOrder (Sender L In Out Shut))
         → control ≡ given
         → closes (order_of given) ≡ false → goaway_by (order_of given) ≡ None
         → probes (order_of given) ≡ false → fails (order_of given) ≡ false

@@ -21,18 +21,18 @@ use Rattle.account.specs.declared.call.OutItem.{OutItem}
 use Rattle.callbox.specs.declared.sender.Sender.{Sender}
 use Rattle.h2frame.specs.declared.frame.Frame.{Frame}
 use Rattle.hpack_codec.specs.Codec.{Encoding}
-use Rattle.flow.specs.Windows.{Shared, room}
+use Rattle.flow.specs.Windows.{SharedWindow, room}
 use Rattle.outwriter.specs.declared.sending.Sending.{Sending}
 use Rattle.outwriter.specs.declared.outbound.Outbound.{Outbound}
 use Rattle.outwriter.specs.declared.states.Stream.{Stream}
-use Rattle.outwriter.specs.declared.stream.Found.{Found}
-use Rattle.outwriter.specs.declared.stream.Found.TheVariants as found
-use Rattle.outwriter.specs.declared.stream.Hand.{Hand}
-use Rattle.outwriter.specs.declared.stream.Hand.TheVariants as hand
-use Rattle.outwriter.specs.declared.stream.Looked.{Looked}
+use Rattle.outwriter.specs.declared.stream.NextItem.{NextItem}
+use Rattle.outwriter.specs.declared.stream.NextItem.TheVariants as found
+use Rattle.outwriter.specs.declared.stream.MessageInHand.{MessageInHand}
+use Rattle.outwriter.specs.declared.stream.MessageInHand.TheVariants as hand
+use Rattle.outwriter.specs.declared.stream.NextData.{NextData}
 use Rattle.outwriter.specs.declared.stream.OpenStream.{OpenStream}
-use Rattle.outwriter.specs.declared.stream.Polled.{Polled}
-use Rattle.outwriter.specs.declared.stream.Polled.TheVariants as polled
+use Rattle.outwriter.specs.declared.stream.SenderItem.{SenderItem}
+use Rattle.outwriter.specs.declared.stream.SenderItem.TheVariants as polled
 use Rattle.outwriter.specs.CallState.{Heeds, Serves}
 use Rattle.outwriter.specs.Cores.{calls, IsStuck}
 use Rattle.outwriter.specs.Data.{LooksAtStream, TakesFrames}
@@ -67,8 +67,9 @@ use Rattle.outwriter.proofs.StuckSteps.{looks-data, stuck-nothing, stuck-shut}
 -- ---- a stream
 
 module _ {L In Out Shut : Type 0} (got ahead : Out → List OutItem) (id : ℕ) (old : Stream)
-    (from : Shared) (senders : List (ℕ × Sender L In Out Shut)) (before : Option Encoding) where
-  pub next-hand : (new : Stream) (to : Shared) (found_it : Hand) (l : Looked)
+    (from : SharedWindow) (senders : List (ℕ × Sender L In Out Shut))
+    (before : Option Encoding) where
+  pub next-hand : (new : Stream) (to : SharedWindow) (found_it : MessageInHand) (l : NextData)
       → new.state ≡ old.state → LooksAtStream id old new from to found_it
       → found_it ≡ hand.Message l
       → NextOnStream got ahead id old new from to senders senders before before (found.Message l)
@@ -142,17 +143,17 @@ module _ {L In Out Shut : Type 0} where
     abbrev after : Sending L In Out Shut
     after = record left { outbound = record old.outbound { encoder = encoder; states = states } }
 
-    abbrev AsksFor : Polled → Type 0
+    abbrev AsksFor : SenderItem → Type 0
     AsksFor one =
         Asks got ahead (shows (open_at old.outbound.states) id) old.senders.items left.senders.items
         old.outbound.encoder encoder one
 
-    abbrev IsNext : Found → Type 0
+    abbrev IsNext : NextItem → Type 0
     IsNext result =
         TakesNext got ahead id old.outbound.states states old.senders.items left.senders.items
         old.outbound.encoder encoder result
 
-    took-for : (one : Polled) → AsksFor one → Took got ahead old mid id one
+    took-for : (one : SenderItem) → AsksFor one → Took got ahead old mid id one
     took-for one asks = record { takes = asks.0; outbound = refl }
 
     unchanged : states ≡ old.outbound.states → encoder ≡ old.outbound.encoder
@@ -163,7 +164,7 @@ module _ {L In Out Shut : Type 0} where
 
     -- ---- nothing
 
-    quiet-picks : (one : Polled) → AsksFor one
+    quiet-picks : (one : SenderItem) → AsksFor one
         → TakesUp id old.outbound.states states one found.Nothing → Picks got None old after
     quiet-picks polled.Nothing asks same =
         subst (λ (x : States).
@@ -178,7 +179,7 @@ module _ {L In Out Shut : Type 0} where
     quiet-picks (polled.Message bytes) asks up = absurd up
     quiet-picks (polled.Block bytes ends) asks up = absurd up
 
-    quiet-stuck : (one : Polled) → AsksFor one
+    quiet-stuck : (one : SenderItem) → AsksFor one
         → TakesUp id old.outbound.states states one found.Nothing → GetsStuck got ahead id old after
     quiet-stuck polled.Nothing asks same =
         subst (λ (x : States).
@@ -190,7 +191,7 @@ module _ {L In Out Shut : Type 0} where
     quiet-stuck (polled.Message bytes) asks up = absurd up
     quiet-stuck (polled.Block bytes ends) asks up = absurd up
 
-    pub nothing-picks : (result : Found) → IsNext result → result ≡ found.Nothing
+    pub nothing-picks : (result : NextItem) → IsNext result → result ≡ found.Nothing
         → Picks got None old after
     nothing-picks result next is = by (subst IsNext is next)
       where
@@ -199,7 +200,7 @@ module _ {L In Out Shut : Type 0} where
             still-picks got ahead old after (unchanged same asks.1) asks.0 between
         by (inr (can, one, asks, up)) = quiet-picks one asks up
 
-    pub nothing-stuck : (result : Found) → IsNext result → result ≡ found.Nothing
+    pub nothing-stuck : (result : NextItem) → IsNext result → result ≡ found.Nothing
         → GetsStuck got ahead id old after
     nothing-stuck result next is = by (subst IsNext is next)
       where
@@ -210,7 +211,8 @@ module _ {L In Out Shut : Type 0} where
 
     -- ---- DATA
 
-    message-looks : (l : Looked) (one : Polled) → TakesFrames old.outbound.states id → AsksFor one
+    message-looks : (l : NextData) (one : SenderItem)
+        → TakesFrames old.outbound.states id → AsksFor one
         → TakesUp id old.outbound.states states one (found.Message l)
         → Picks got (frame_in l) old after × LooksAt got ahead id l old after
     message-looks l (polled.Message bytes) can asks begins =
@@ -235,11 +237,12 @@ module _ {L In Out Shut : Type 0} where
     message-looks l polled.Nothing can asks up = absurd up
     message-looks l (polled.Block bytes ends) can asks up = absurd up
 
-    pub message-found : (result : Found) (l : Looked) → IsNext result → result ≡ found.Message l
+    pub message-found : (result : NextItem) (l : NextData) → IsNext result
+        → result ≡ found.Message l
         → Picks got (frame_in l) old after × LooksAt got ahead id l old after
     message-found result l next is = by (subst IsNext is next)
       where
-        message-nothing : (r : Found) → r ≡ found.Message l → r ≡ found.Nothing → ⊥
+        message-nothing : (r : NextItem) → r ≡ found.Message l → r ≡ found.Nothing → ⊥
         message-nothing r e f = cc
 
         by : IsNext (found.Message l)
@@ -254,7 +257,8 @@ module _ {L In Out Shut : Type 0} where
         TakesFrames old.outbound.states id × AsksFor (polled.Block bytes ends)
         × EndsOn id ends old.outbound.states states
 
-    block-of : (bytes : List ℕ) (ends : Bool) (one : Polled) → TakesFrames old.outbound.states id
+    block-of : (bytes : List ℕ) (ends : Bool) (one : SenderItem)
+        → TakesFrames old.outbound.states id
         → AsksFor one → TakesUp id old.outbound.states states one (found.Block bytes ends)
         → TakesBlock bytes ends
     block-of bytes ends (polled.Block block ends_it) can asks up =
@@ -263,11 +267,11 @@ module _ {L In Out Shut : Type 0} where
     block-of bytes ends polled.Nothing can asks up = absurd up
     block-of bytes ends (polled.Message message) can asks up = absurd up
 
-    pub block-found : (result : Found) (bytes : List ℕ) (ends : Bool) → IsNext result
+    pub block-found : (result : NextItem) (bytes : List ℕ) (ends : Bool) → IsNext result
         → result ≡ found.Block bytes ends → TakesBlock bytes ends
     block-found result bytes ends next is = by (subst IsNext is next)
       where
-        block-nothing : (r : Found) → r ≡ found.Block bytes ends → r ≡ found.Nothing → ⊥
+        block-nothing : (r : NextItem) → r ≡ found.Block bytes ends → r ≡ found.Nothing → ⊥
         block-nothing r e f = cc
 
         by : IsNext (found.Block bytes ends) → TakesBlock bytes ends

@@ -37,7 +37,7 @@ use Rattle.h2frame.specs.declared.error_code.ErrorCode.{ErrorCode}
 use Rattle.h2frame.specs.declared.frame.Frame.{Frame}
 use Rattle.lists.specs.declared.field.Field.{Field}
 use Rattle.outwriter.specs.declared.blocks.HeaderBlock.{HeaderBlock}
-use Rattle.outwriter.specs.declared.control.Control.TheVariants.{Open, Refuse, Reset}
+use Rattle.outwriter.specs.declared.control.WriterOrder.TheVariants.{Open, Refuse, Reset}
 use Rattle.outwriter.specs.declared.due.Due.{Due}
 use Rattle.outwriter.specs.declared.outbound.Outbound.{Outbound}
 use Rattle.outwriter.specs.declared.stream_state.StreamState.{StreamState}

@@ -38,10 +38,10 @@ use Rattle.hpack_codec.specs.Codec.{Encoding, Writes}
 use Rattle.outwriter.specs.declared.sending.Sending.{Sending}
 use Rattle.outwriter.specs.declared.outbound.Outbound.{Outbound}
 use Rattle.outwriter.specs.declared.stream.OpenStream.{OpenStream}
-use Rattle.outwriter.specs.declared.stream.Polled.{Polled}
-use Rattle.outwriter.specs.declared.stream.Polled.TheVariants as polled
-use Rattle.outwriter.specs.declared.stream.Looked.{Looked}
-use Rattle.outwriter.specs.declared.stream.Looked.TheVariants as looked
+use Rattle.outwriter.specs.declared.stream.SenderItem.{SenderItem}
+use Rattle.outwriter.specs.declared.stream.SenderItem.TheVariants as polled
+use Rattle.outwriter.specs.declared.stream.NextData.{NextData}
+use Rattle.outwriter.specs.declared.stream.NextData.TheVariants as looked
 use Rattle.outwriter.specs.Calls.{is_served, TellFronts}
 use Rattle.outwriter.specs.Frames.{IsSound}
 use Rattle.outwriter.specs.Cores.{calls}
@@ -139,13 +139,13 @@ fronts-grow run place news calls now g all k d lt = by (k == place) refl
 -- ---- what was taken
 
 -- the bytes of a message that was found
-abbrev bytes_of : Result Polled (Unit {0}) → List ℕ
+abbrev bytes_of : Result SenderItem (Unit {0}) → List ℕ
 bytes_of (Ok (polled.Message bytes)) = bytes
 bytes_of _ = []
 
 -- this was found
 abbrev Found : Shown → List (ℕ × List OutItem) → List (ℕ × List OutItem) → List (List OutItem)
-    → Option Encoding → Option Encoding → Polled → Type 0
+    → Option Encoding → Option Encoding → SenderItem → Type 0
 Found view old new ahead from to found =
     TakesAt {E = Unit {0}} view old new ahead from to (Ok found)
 
@@ -158,7 +158,7 @@ pub takes-message : (view : Shown) (old new : List (ℕ × List OutItem)) (ahead
 takes-message None old new ahead from to bytes t =
     absurd (message-nothing (Ok (polled.Message bytes)) refl t.0)
   where
-    message-nothing : (r : Result Polled (Unit {0})) → r ≡ Ok (polled.Message bytes)
+    message-nothing : (r : Result SenderItem (Unit {0})) → r ≡ Ok (polled.Message bytes)
         → r ≡ Ok polled.Nothing → ⊥
     message-nothing r f e = cc
 takes-message (Some (place, Some bs)) old new ahead from to bytes t = (
@@ -188,13 +188,13 @@ pub takes-block : (view : Shown) (old new : List (ℕ × List OutItem)) (ahead :
 takes-block None old new ahead from to bytes ends_it t =
     absurd (block-nothing (Ok (polled.Block bytes ends_it)) refl t.0)
   where
-    block-nothing : (r : Result Polled (Unit {0})) → r ≡ Ok (polled.Block bytes ends_it)
+    block-nothing : (r : Result SenderItem (Unit {0})) → r ≡ Ok (polled.Block bytes ends_it)
         → r ≡ Ok polled.Nothing → ⊥
     block-nothing r f e = cc
 takes-block (Some (place, Some bs)) old new ahead from to bytes ends_it t =
     absurd (block-message bs (Ok (polled.Block bytes ends_it)) refl t.0)
   where
-    block-message : (bs : List ℕ) (r : Result Polled (Unit {0}))
+    block-message : (bs : List ℕ) (r : Result SenderItem (Unit {0}))
         → r ≡ Ok (polled.Block bytes ends_it) → r ≡ Ok (polled.Message bs) → ⊥
     block-message bs r f e = cc
 takes-block (Some (place, None)) old new ahead from to bytes ends_it t =
@@ -222,7 +222,7 @@ takes-nothing None old new ahead from to t = (inl t.1, t.2, refl, λ s e. absurd
 takes-nothing (Some (place, Some bs)) old new ahead from to t =
     absurd (nothing-message bs (Ok polled.Nothing) refl t.0)
   where
-    nothing-message : (bs : List ℕ) (r : Result Polled (Unit {0})) → r ≡ Ok polled.Nothing
+    nothing-message : (bs : List ℕ) (r : Result SenderItem (Unit {0})) → r ≡ Ok polled.Nothing
         → r ≡ Ok (polled.Message bs) → ⊥
     nothing-message bs r f e = cc
 takes-nothing (Some (place, None)) old new ahead from to t =
@@ -439,7 +439,7 @@ module _ {L In Out Shut : Type 0} where
 
   -- what was found, in hand or at the sender, and the encoder after it
   pub record Took (got ahead : Out → List OutItem) (old mid : Sending L In Out Shut) (id : ℕ)
-      (found : Polled) : Type 0 where
+      (found : SenderItem) : Type 0 where
     pub takes :
         Found (shows (open_at old.outbound.states) id) (calls got old.senders.items)
         (calls got mid.senders.items) (aheads ahead mid.senders.items)
@@ -447,7 +447,7 @@ module _ {L In Out Shut : Type 0} where
     pub outbound : mid.outbound ≡ record old.outbound { encoder = mid.outbound.encoder }
 
   -- what a look at a message found
-  pub look-picks : (got : Out → List OutItem) (old mid new : Sending L In Out Shut) (l : Looked)
+  pub look-picks : (got : Out → List OutItem) (old mid new : Sending L In Out Shut) (l : NextData)
       → Stays old.outbound mid.outbound → SameOwn old.outbound mid.outbound
       → IfSome (frame_in l) IsSound → Progress (frame_in l) mid.outbound new.outbound
       → IfNone (frame_in l) (SameOwn mid.outbound new.outbound)
@@ -460,11 +460,11 @@ module _ {L In Out Shut : Type 0} where
   )
 
   pub look-nothing : (got ahead : Out → List OutItem) (old mid : Sending L In Out Shut)
-      (id : ℕ) (result : Polled)
+      (id : ℕ) (result : SenderItem)
       → Took got ahead old mid id result → result ≡ polled.Nothing → HoldsOn got None old mid
   look-nothing got ahead old mid id result took is run (marks, s, heeds) =
       let t =
-      subst (λ (p : Polled).
+      subst (λ (p : SenderItem).
       Found (shows (open_at old.outbound.states) id) (calls got old.senders.items)
       (calls got mid.senders.items) (aheads ahead mid.senders.items) old.outbound.encoder
       mid.outbound.encoder p) is took.takes in
@@ -534,7 +534,7 @@ module _ {L In Out Shut : Type 0} where
           (open_at new.outbound.states) hands) heeds,
     )
 
-    pub look-data : (l : Looked) → TellsData id bytes l mid new → HoldsOn got (frame_in l) old new
+    pub look-data : (l : NextData) → TellsData id bytes l mid new → HoldsOn got (frame_in l) old new
     look-data (looked.Frame frame) from = λ run h.
         let tells =
         subst (λ (x : Outbound).

@@ -37,8 +37,8 @@ use Rattle.lane.proofs.KnownItems.{last_of_push}
 use Rattle.hpack_codec.specs.Codec.{Encoding}
 use Rattle.outwriter.specs.OpenStreams.{Shown, shown}
 use Rattle.outwriter.specs.declared.stream.OpenStream.{OpenStream}
-use Rattle.outwriter.specs.declared.stream.Polled.{Polled}
-use Rattle.outwriter.specs.declared.stream.Polled.TheVariants as polled
+use Rattle.outwriter.specs.declared.stream.SenderItem.{SenderItem}
+use Rattle.outwriter.specs.declared.stream.SenderItem.TheVariants as polled
 use Rattle.outwriter.specs.Cores.{calls, lanes}
 use Rattle.outwriter.specs.StreamLooks.{with_item, one_more, TakesHand, TakesAt, SameAhead, aheads}
 use Rattle.outwriter.specs.NextOn.{GetsOne}
@@ -77,7 +77,7 @@ module _ {L In Out Shut : Type 0} where
   pub polled-at : {E : Type 0} (got ahead : Out → List OutItem)
       (senders : List (ℕ × Sender L In Out Shut)) (place : ℕ) (entry : ℕ × Sender L In Out Shut)
       (new : Sender L In Out Shut)
-      (from to : Option Encoding) (result : Result Polled E)
+      (from to : Option Encoding) (result : Result SenderItem E)
       → place < length senders → entry ≡ get_or senders place entry
       → IfOk result (Polls (got entry.1.rx) (got new.rx) (ahead new.rx) from to)
       → OnErr result ((one : OutItem) × (got new.rx ≡ got entry.1.rx ++ one ∷ []))
@@ -125,7 +125,7 @@ module _ {L In Out Shut Name : Type 0} where
 
 -- it gave one item at most
 pub takes-one : {E : Type 0} (place : ℕ) (old new : List (ℕ × List OutItem))
-    (ahead : List (List OutItem)) (from to : Option Encoding) (result : Result Polled E)
+    (ahead : List (List OutItem)) (from to : Option Encoding) (result : Result SenderItem E)
     → TakesHand None place old new ahead from to result → GetsOne old new
 takes-one place old new ahead from to (Ok polled.Nothing) (inl e, none, same) = inl e
 takes-one place old new ahead from to (Ok polled.Nothing) (inr e, none, same) =
@@ -142,7 +142,7 @@ shows-is o stream e none =
     ap shown (sym e) ∙ ap (λ (h : Option (List ℕ)). Some (stream.place, h)) none
 
 pub takes-at : {E : Type 0} (view : Shown) (place : ℕ) (old new : List (ℕ × List OutItem))
-    (ahead : List (List OutItem)) (from to : Option Encoding) (result : Result Polled E)
+    (ahead : List (List OutItem)) (from to : Option Encoding) (result : Result SenderItem E)
     → view ≡ Some (place, None) → TakesHand None place old new ahead from to result
     → TakesAt view old new ahead from to result
 takes-at view place old new ahead from to result e t =

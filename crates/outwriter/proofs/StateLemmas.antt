@@ -72,16 +72,16 @@ use Rattle.outwriter.specs.declared.states.Stream.{Stream}
 use Rattle.outwriter.specs.declared.stream.OpenStream.{OpenStream}
 use Rattle.flow.specs.WindowHistory.{Closing, Follows, Opening}
 use Rattle.flow.specs.WindowHistory.{Step as WindowStep}
-use Rattle.flow.specs.Windows.{Shared, Windows}
+use Rattle.flow.specs.Windows.{SharedWindow, Windows}
 use Rattle.flow.specs.declared.send_windows.WindowFault.{WindowFault}
 use Rattle.flow.specs.declared.send_windows.WindowFault.TheVariants.{Unknown}
 use Rattle.account.specs.declared.call.OutItem.{OutItem}
 use Rattle.callbox.specs.declared.sender.Sender.{Sender}
 use Rattle.hpack_codec.specs.Codec.{Encoding}
-use Rattle.outwriter.specs.declared.stream.Found.{Found}
-use Rattle.outwriter.specs.declared.stream.Found.TheVariants.{Nothing, Message, Block}
-use Rattle.outwriter.specs.declared.stream.Polled.{Polled}
-use Rattle.outwriter.specs.declared.stream.Polled.TheVariants as polled
+use Rattle.outwriter.specs.declared.stream.NextItem.{NextItem}
+use Rattle.outwriter.specs.declared.stream.NextItem.TheVariants.{Nothing, Message, Block}
+use Rattle.outwriter.specs.declared.stream.SenderItem.{SenderItem}
+use Rattle.outwriter.specs.declared.stream.SenderItem.TheVariants as polled
 use Rattle.outwriter.specs.declared.stream_state.Over.TheVariants as end_by
 use Rattle.outwriter.specs.NextOn.{
   Asks,
@@ -94,7 +94,7 @@ use Rattle.outwriter.specs.NextOn.{
   TakesUp,
   TakesUpStream,
 }
-use Rattle.outwriter.specs.declared.stream.Looked.{Looked}
+use Rattle.outwriter.specs.declared.stream.NextData.{NextData}
 use Rattle.outwriter.specs.Data.{BeginsMessage, BeginsOnStream, TakesFrames}
 use Rattle.outwriter.specs.OpenStreams.{Closes, SameHands, Shown, kept, shown, shows, with_hand}
 use Rattle.outwriter.specs.States.{
@@ -482,11 +482,11 @@ lookup-mapped {X} {Y} f (e ∷ es) id = by (nat_eq id e.0) (lookup-mapped f es i
     by true rest = refl
     by false rest = rest
 
-pub found-state : (connection : ℕ) (sent : Shared) (es : List Entry) (id : ℕ)
+pub found-state : (connection : ℕ) (sent : SharedWindow) (es : List Entry) (id : ℕ)
     → lookup (nat_eq id) (states_of connection sent es).streams ≡ state_of (lookup (nat_eq id) es)
 found-state connection sent es id = lookup-mapped (λ (stream : Stream). stream.state) es id
 
-pub found-open : (connection : ℕ) (sent : Shared) (es : List Entry) (id : ℕ)
+pub found-open : (connection : ℕ) (sent : SharedWindow) (es : List Entry) (id : ℕ)
     → open_at (states_of connection sent es) id ≡ opened_of (lookup (nat_eq id) es)
 found-open connection sent es id =
     ap opened_in (lookup-mapped (λ (stream : Stream). stream.opened) es id)
@@ -496,11 +496,11 @@ found-open connection sent es id =
     by None = refl
     by (Some stream) = refl
 
-pub state-found : (connection : ℕ) (sent : Shared) (es : List Entry) (id : ℕ)
+pub state-found : (connection : ℕ) (sent : SharedWindow) (es : List Entry) (id : ℕ)
     → state_on (states_of connection sent es) id ≡ state_in (state_of (lookup (nat_eq id) es))
 state-found connection sent es id = ap state_in (found-state connection sent es id)
 
-pub heard-found : (connection : ℕ) (sent : Shared) (es : List Entry) (id : ℕ)
+pub heard-found : (connection : ℕ) (sent : SharedWindow) (es : List Entry) (id : ℕ)
     → is_heard (states_of connection sent es) id ≡ is_some (lookup (nat_eq id) es)
 heard-found connection sent es id =
     ap is_some (found-state connection sent es id) ∙ by (lookup (nat_eq id) es)
@@ -513,7 +513,7 @@ heard-found connection sent es id =
 pub everywhere : {X Y : Type 0} (f g : X → Y) → ((x : X) → f x ≡ g x) → f ≡ g
 everywhere f g same = λ i x. same x i
 
-pub puts-view : (connection : ℕ) (sent : Shared) (es : List Entry) (id : ℕ) (w : Stream)
+pub puts-view : (connection : ℕ) (sent : SharedWindow) (es : List Entry) (id : ℕ) (w : Stream)
     (new : List Entry)
     → PutsEntry es id w new
     → Puts (states_of connection sent es) id w.state (states_of connection sent new)
@@ -527,7 +527,7 @@ puts-view connection sent es id w new puts k =
     by false = sym (found-state connection sent es k)
 
 -- where the same is kept of the open stream
-open-view : (connection : ℕ) (sent : Shared) (es : List Entry) (id : ℕ) (w : Stream)
+open-view : (connection : ℕ) (sent : SharedWindow) (es : List Entry) (id : ℕ) (w : Stream)
     (new : List Entry)
     → PutsEntry es id w new → opened_of (lookup (nat_eq id) es) ≡ w.opened
     → SameOpen (states_of connection sent es) (states_of connection sent new)
@@ -543,7 +543,7 @@ open-view connection sent es id w new puts same =
     by k false e = refl
 
 -- the connection is owed nothing
-nothing : (sent : Shared) (es : List Entry) → IsSettledFrom 0 es → (id : ℕ)
+nothing : (sent : SharedWindow) (es : List Entry) → IsSettledFrom 0 es → (id : ℕ)
     → owed_on (states_of 0 sent es) id ≡ 0
 nothing sent es settled id = by (id == 0)
   where
@@ -714,7 +714,7 @@ after-less change_by.Hear old new after = omega (arith, after.1)
 after-less change_by.Reset old new after = omega (arith, after.1)
 after-less (change_by.End over) old new after = omega (arith, after.1)
 
-pub put-becomes : (connection : ℕ) (sent : Shared) (es : List Entry) (id : ℕ) (now : Stream)
+pub put-becomes : (connection : ℕ) (sent : SharedWindow) (es : List Entry) (id : ℕ) (now : Stream)
     (opened : Option OpenStream) (new : List Entry)
     → now.opened ≡ (stream_in opened (lookup (nat_eq id) es)).opened → PutsEntry es id now new
     → BecomesOpen (states_of connection sent es) id opened (states_of connection sent new)
@@ -759,7 +759,7 @@ becomes-none old new id becomes shut =
     by k false true p q = sym (ap (λ n. open_at old n) (eqb-true k id q) ∙ shut p)
     by k false false p q = refl
 
-pub unheard-shut : (connection : ℕ) (sent : Shared) (es : List Entry) (id : ℕ)
+pub unheard-shut : (connection : ℕ) (sent : SharedWindow) (es : List Entry) (id : ℕ)
     → is_heard (states_of connection sent es) id ≡ false
     → open_at (states_of connection sent es) id ≡ None
 unheard-shut connection sent es id e =
@@ -770,7 +770,7 @@ unheard-shut connection sent es id e =
     by None f = refl
     by (Some stream) f = absurd (true≢false f)
 
-module _ (connection : ℕ) (sent : Shared) (es : List Entry) (id : ℕ) (change : Change)
+module _ (connection : ℕ) (sent : SharedWindow) (es : List Entry) (id : ℕ) (change : Change)
     (opened : Option OpenStream) (new : List Entry)
     (changes : Changes es id change opened new) where
   abbrev former : Stream
@@ -846,7 +846,7 @@ module _ (connection : ℕ) (sent : Shared) (es : List Entry) (id : ℕ) (change
       by change_by.Reset is = put-closes sent es id changes.0 new changes.2 is
       by (change_by.End over) is = put-closes sent es id changes.0 new changes.2 is
 
-pub changed-within : {X E : Type 0} (connection : ℕ) (sent : Shared) (es : List Entry)
+pub changed-within : {X E : Type 0} (connection : ℕ) (sent : SharedWindow) (es : List Entry)
     (owing id : ℕ) (change : Change) (opened : Option OpenStream) (r : Result X E)
     (new : List Entry)
     → IsWithin connection es owing → 0 < id → id < 2 ^ 31 → OnOk r (Changes es id change opened new)
@@ -953,7 +953,7 @@ Rewrites old id new =
     × (now.state ≡ was.state) × (new ≡ set_value (nat_eq id) old now))
 
 -- but for what is open and the windows, all is the same
-pub rewrite-stands : (connection : ℕ) (from to : Shared) (es : List Entry) (id : ℕ)
+pub rewrite-stands : (connection : ℕ) (from to : SharedWindow) (es : List Entry) (id : ℕ)
     (new : List Entry)
     → Rewrites es id new
     → StandButWindows (states_of connection from es) (states_of connection to new)
@@ -972,7 +972,8 @@ rewritten es id new (inl e) = inl e
 rewritten es id new (inr (was, opened, found, is)) =
     inr (was, record was { opened = opened }, found, refl, is)
 
-pub edit-stands : (connection : ℕ) (sent : Shared) (es : List Entry) (id : ℕ) (new : List Entry)
+pub edit-stands : (connection : ℕ) (sent : SharedWindow) (es : List Entry) (id : ℕ)
+    (new : List Entry)
     → Edits es id new → StandAs (states_of connection sent es) (states_of connection sent new)
 edit-stands connection sent es id new edits =
     rewrite-stands connection sent sent es id new (rewritten es id new edits)
@@ -991,7 +992,8 @@ edit-stands connection sent es id new edits =
         ap balances_of is ∙ same-balances es id (record was { opened = opened }) was found refl
 
 -- but for the windows, all is the same where no more than the balance of a stream is written
-pub balance-stands : (connection : ℕ) (from to : Shared) (es : List Entry) (id : ℕ) (was : Stream)
+pub balance-stands : (connection : ℕ) (from to : SharedWindow) (es : List Entry)
+    (id : ℕ) (was : Stream)
     (kept : Option ℤ) (new : List Entry)
     → lookup (nat_eq id) es ≡ Some was
     → new ≡ set_value (nat_eq id) es (record was { balance = kept })
@@ -1039,7 +1041,8 @@ edit-within connection es owing id new edits w =
     rewrite-within connection es owing id new (rewritten es id new edits) w
 
 -- of the other streams nothing does
-edit-elsewhere : (connection : ℕ) (sent : Shared) (es : List Entry) (id : ℕ) (new : List Entry)
+edit-elsewhere : (connection : ℕ) (sent : SharedWindow) (es : List Entry) (id : ℕ)
+    (new : List Entry)
     → Rewrites es id new → (k : ℕ) → (k == id) ≡ false
     → open_at (states_of connection sent new) k ≡ open_at (states_of connection sent es) k
 edit-elsewhere connection sent es id new (inl e) k apart =
@@ -1056,7 +1059,8 @@ edit-elsewhere connection sent es id new (inr (was, now, found, same, is)) k apa
     by false e = refl
 
 -- what is shown of it is as said, and of the others as before
-pub rewrite-shows : (connection : ℕ) (sent : Shared) (es : List Entry) (id : ℕ) (new : List Entry)
+pub rewrite-shows : (connection : ℕ) (sent : SharedWindow) (es : List Entry) (id : ℕ)
+    (new : List Entry)
     (f : Shown → Shown)
     → Rewrites es id new
     → shown (opened_of (lookup (nat_eq id) new)) ≡ f (shown (opened_of (lookup (nat_eq id) es)))
@@ -1078,7 +1082,8 @@ rewrite-shows connection sent es id new f edits here k = by (k == id) refl
         ∙ ap (λ n. f (shown (opened_of (lookup (nat_eq n) es)))) (sym same)
         ∙ ap (λ o. f (shown o)) (sym (found-open connection sent es k))
 
-pub edit-shows : (connection : ℕ) (sent : Shared) (es : List Entry) (id : ℕ) (new : List Entry)
+pub edit-shows : (connection : ℕ) (sent : SharedWindow) (es : List Entry) (id : ℕ)
+    (new : List Entry)
     (f : Shown → Shown)
     → Edits es id new
     → shown (opened_of (lookup (nat_eq id) new)) ≡ f (shown (opened_of (lookup (nat_eq id) es)))
@@ -1089,7 +1094,8 @@ pub edit-shows : (connection : ℕ) (sent : Shared) (es : List Entry) (id : ℕ)
 edit-shows connection sent es id new f edits here =
     rewrite-shows connection sent es id new f (rewritten es id new edits) here
 
-pub edit-closes : (connection : ℕ) (sent : Shared) (es : List Entry) (id : ℕ) (new : List Entry)
+pub edit-closes : (connection : ℕ) (sent : SharedWindow) (es : List Entry) (id : ℕ)
+    (new : List Entry)
     → Edits es id new → opened_of (lookup (nat_eq id) new) ≡ None
     → Closes id (open_at (states_of connection sent es)) (open_at (states_of connection sent new))
 edit-closes connection sent es id new edits none k = by (k == id) refl
@@ -1104,7 +1110,7 @@ edit-closes connection sent es id new edits none k = by (k == id) refl
 
 -- ---- the balance of a window is written
 
-module _ (connection : ℕ) (sent : Shared) (es : List Entry) (owing id : ℕ) (new : List Entry)
+module _ (connection : ℕ) (sent : SharedWindow) (es : List Entry) (owing id : ℕ) (new : List Entry)
     (sets : SetsBalance es id None new) where
   abbrev Unset : Option Stream → Type 0
   Unset o =
@@ -1145,7 +1151,7 @@ module _ (connection : ℕ) (sent : Shared) (es : List Entry) (owing id : ℕ) (
           (subst (PutsEntry es id (record was { balance = None })) (sym is)
           (put-there es id (record was { balance = None }) was found)) refl
 
-module _ (connection : ℕ) (sent : Shared) (es : List Entry) (owing id n : ℕ)
+module _ (connection : ℕ) (sent : SharedWindow) (es : List Entry) (owing id n : ℕ)
     (answer : Result (Unit {0}) WindowFault) (new : List Entry)
     (credits : CreditsEntry sent es id new n answer) where
   abbrev Uncredited : Option Stream → Type 0
@@ -1222,7 +1228,7 @@ module _ (connection : ℕ) (sent : Shared) (es : List Entry) (owing id n : ℕ)
 -- ---- all that is owed is taken
 
 pub takes_all : (old : List Entry) (owing place : ℕ) (taken : Option (ℕ × ℕ)) (new : List Entry)
-    (connection : ℕ) (sent : Shared)
+    (connection : ℕ) (sent : SharedWindow)
     → connection ≡ 0 → IsWithin connection old owing
     → TakesLast old place taken new → IsSettledFrom place new
     → TakesAll (states_of connection sent old) taken (states_of connection sent new)
@@ -1281,7 +1287,7 @@ hears-again old new id heard hears k = hears k ∙ by (k == id) refl
 
 -- no end is written
 pub taken-ends : (old : List Entry) (owing place : ℕ) (taken : Option (ℕ × ℕ)) (new : List Entry)
-    (connection : ℕ) (sent : Shared)
+    (connection : ℕ) (sent : SharedWindow)
     → IsWithin connection old owing → TakesLast old place taken new
     → SameEnds (states_of connection sent old) (states_of connection sent new)
 taken-ends old owing place None new connection sent w t =
@@ -1315,7 +1321,7 @@ taken-numbered old place (Some taken) new numbered t = numbered taken.0 (ap is_s
 
 -- nor does a stream become open
 pub taken-open : (old : List Entry) (place : ℕ) (taken : Option (ℕ × ℕ)) (new : List Entry)
-    (connection : ℕ) (sent : Shared)
+    (connection : ℕ) (sent : SharedWindow)
     → TakesLast old place taken new
     → SameOpen (states_of connection sent old) (states_of connection sent new)
 taken-open old place None new connection sent t =
@@ -1326,7 +1332,7 @@ taken-open old place (Some taken) new connection sent t =
 
 -- nor does a window change
 pub taken-moves : (old : List Entry) (place : ℕ) (taken : Option (ℕ × ℕ)) (new : List Entry)
-    (connection : ℕ) (sent : Shared)
+    (connection : ℕ) (sent : SharedWindow)
     → TakesLast old place taken new
     → Moves (states_of connection sent old) [] (states_of connection sent new)
 taken-moves old place None new connection sent t =
@@ -1337,7 +1343,7 @@ taken-moves old place (Some taken) new connection sent t =
 -- ---- more is owed
 
 -- on a stream on which none may be
-pub none-grants : (connection : ℕ) (sent : Shared) (old new : List Entry) (id n : ℕ) → 0 < id
+pub none-grants : (connection : ℕ) (sent : SharedWindow) (old new : List Entry) (id n : ℕ) → 0 < id
     → Adds old id n None new
     → Grants (states_of connection sent old) id n (states_of connection sent new)
 none-grants connection sent old new id n positive adds =
@@ -1376,7 +1382,7 @@ none-grants connection sent old new id n positive adds =
         else 0) away
         ∙ ap (λ b. if b then more (owed_on (states_of connection sent old) id) n else 0) unpaid)
 
-module _ (connection : ℕ) (sent : Shared) (old mid new : List Entry) (id n place : ℕ)
+module _ (connection : ℕ) (sent : SharedWindow) (old mid new : List Entry) (id n place : ℕ)
     (positive : 0 < id) (adds : Adds old id n (Some place) mid)
     (same : (k : ℕ) → lookup (nat_eq k) new ≡ lookup (nat_eq k) mid) where
   found : state_on (states_of connection sent old) id ≡ Call adds.0 adds.1
@@ -1464,8 +1470,8 @@ can-unreset (Reset is_call None) e = absurd (true≢false (sym e))
 can-unreset (Reset is_call (Some by)) e = absurd (true≢false (sym e))
 
 -- what is next on a stream, where it is among the entries
-pub entry-next : {L In Out Shut E : Type 0} (got ahead : Out → List OutItem) (r : Result Found E)
-    (es : List Entry) (id : ℕ) (was now : Stream) (new : List Entry) (from to : Shared)
+pub entry-next : {L In Out Shut E : Type 0} (got ahead : Out → List OutItem) (r : Result NextItem E)
+    (es : List Entry) (id : ℕ) (was now : Stream) (new : List Entry) (from to : SharedWindow)
     (senders left : List (ℕ × Sender L In Out Shut)) (before after : Option Encoding)
     → lookup (nat_eq id) es ≡ Some was → new ≡ set_value (nat_eq id) es now
     → IfOk r (NextOnStream got ahead id was now from to senders left before after)
@@ -1480,7 +1486,7 @@ entry-next got ahead (Ok result) es id was now new from to senders left before a
     × NextOnStream got ahead id s now from to senders left before after result))
     (sym there) (now, is, next)
 
-module _ (connection : ℕ) (sent : Shared) (es : List Entry) (owing id : ℕ)
+module _ (connection : ℕ) (sent : SharedWindow) (es : List Entry) (owing id : ℕ)
     (within : IsWithin connection es owing) (was : Stream)
     (found : lookup (nat_eq id) es ≡ Some was) where
   state-there : state_on (states_of connection sent es) id ≡ was.state
@@ -1522,7 +1528,8 @@ module _ (connection : ℕ) (sent : Shared) (es : List Entry) (owing id : ℕ)
       → PutsEntry es id now new
   puts-there new now is = subst (PutsEntry es id now) (sym is) (put-there es id now was found)
 
-  begins-there : (new : List Entry) (now : Stream) (to : Shared) (message : List ℕ) (l : Looked)
+  begins-there : (new : List Entry) (now : Stream) (to : SharedWindow)
+      (message : List ℕ) (l : NextData)
       → Rewrites es id new → new ≡ set_value (nat_eq id) es now
       → BeginsOnStream id was now sent to message l
       → BeginsMessage id (states_of connection sent es) (states_of connection to new) message l
@@ -1572,18 +1579,19 @@ module _ (connection : ℕ) (sent : Shared) (es : List Entry) (owing id : ℕ)
         put-closes sent es id now new (puts-there new now is) closed,
       )
 
-  takes-there : (new : List Entry) (now : Stream) (to : Shared) (one : Polled) (result : Found)
+  takes-there : (new : List Entry) (now : Stream) (to : SharedWindow) (one : SenderItem)
+      (result : NextItem)
       → new ≡ set_value (nat_eq id) es now
       → TakesUpStream id was now sent to one result
       → TakesUp id (states_of connection sent es) (states_of connection to new) one result
   takes-there new now to polled.Nothing Nothing is takes =
-      ap (λ (x : Shared). states_of connection x new) takes.1 ∙ unwritten new now is takes.0
+      ap (λ (x : SharedWindow). states_of connection x new) takes.1 ∙ unwritten new now is takes.0
   takes-there new now to (polled.Message bytes) (Message l) is takes =
       begins-there new now to bytes l (inr (was, now, found, takes.0, is)) is takes.1
   takes-there new now to (polled.Block bytes ends_it) (Block block ends) is takes = (
     takes.0,
     takes.1,
-    subst (λ (x : Shared).
+    subst (λ (x : SharedWindow).
         EndsOn id ends_it (states_of connection sent es) (states_of connection x new)) (sym takes.3)
         (ends-there new now ends_it is takes.2),
   )
@@ -1596,9 +1604,9 @@ module _ (connection : ℕ) (sent : Shared) (es : List Entry) (owing id : ℕ)
 
 -- and among all of them
 pub next-view : {L In Out Shut : Type 0} (got ahead : Out → List OutItem) (connection : ℕ)
-    (sent : Shared) (es : List Entry) (owing id : ℕ) (new : List Entry) (to : Shared)
+    (sent : SharedWindow) (es : List Entry) (owing id : ℕ) (new : List Entry) (to : SharedWindow)
     (senders left : List (ℕ × Sender L In Out Shut))
-    (before after : Option Encoding) (result : Found)
+    (before after : Option Encoding) (result : NextItem)
     → IsWithin connection es owing
     → NextAtEntry got ahead id es new sent to senders left before after result
     → TakesNext got ahead id (states_of connection sent es) (states_of connection to new) senders
@@ -1613,7 +1621,7 @@ next-view got ahead connection sent es owing id new to senders left before after
     on was now found is (inl (shut, none, same, window, asks)) = inl (
       shut-there connection sent es owing id within was found shut,
       none,
-      ap (λ (x : Shared). states_of connection x new) window
+      ap (λ (x : SharedWindow). states_of connection x new) window
           ∙ unwritten connection sent es owing id within was found new now is same,
       asks,
     )
@@ -1636,13 +1644,14 @@ next-view got ahead connection sent es owing id new to senders left before after
     by None none (is, same, window, asks) = inl (
       inr (found-open connection sent es id ∙ ap opened_of none),
       is,
-      ap (λ (x : Shared). states_of connection x new) window ∙ ap (states_of connection sent) same,
+      ap (λ (x : SharedWindow). states_of connection x new) window
+          ∙ ap (states_of connection sent) same,
       asks,
     )
     by (Some was) found (now, is, next) = on was now found is next
 
 -- what is shown of each stream is the same
-pub edit-same : (connection : ℕ) (sent : Shared) (es : List Entry) (id : ℕ) (new : List Entry)
+pub edit-same : (connection : ℕ) (sent : SharedWindow) (es : List Entry) (id : ℕ) (new : List Entry)
     → Edits es id new
     → shown (opened_of (lookup (nat_eq id) new)) ≡ shown (opened_of (lookup (nat_eq id) es))
     → SameHands (open_at (states_of connection sent es)) (open_at (states_of connection sent new))

@@ -27,10 +27,10 @@ use Rattle.flow.specs.Windows.{Windows, room}
 use Rattle.outwriter.specs.declared.sending.Sending.{Sending}
 use Rattle.outwriter.specs.declared.outbound.Outbound.{Outbound}
 use Rattle.outwriter.specs.declared.stream.OpenStream.{OpenStream}
-use Rattle.outwriter.specs.declared.stream.Polled.{Polled}
-use Rattle.outwriter.specs.declared.stream.Polled.TheVariants as polled
-use Rattle.outwriter.specs.declared.stream.Looked.{Looked}
-use Rattle.outwriter.specs.declared.stream.Looked.TheVariants as looked
+use Rattle.outwriter.specs.declared.stream.SenderItem.{SenderItem}
+use Rattle.outwriter.specs.declared.stream.SenderItem.TheVariants as polled
+use Rattle.outwriter.specs.declared.stream.NextData.{NextData}
+use Rattle.outwriter.specs.declared.stream.NextData.TheVariants as looked
 use Rattle.outwriter.specs.Cores.{calls, IsStuck}
 use Rattle.outwriter.specs.declared.stream_state.StreamState.{StreamState}
 use Rattle.outwriter.specs.declared.stream_state.StreamState.TheVariants.{NoCall, Call, Reset}
@@ -160,7 +160,7 @@ module _ {L In Out Shut : Type 0} where
       by stream e (inr none) = none-some stream (sym none ∙ e)
 
   pub stuck-nothing : (got ahead : Out → List OutItem) (old mid : Sending L In Out Shut)
-      (id : ℕ) (result : Polled)
+      (id : ℕ) (result : SenderItem)
       → Took got ahead old mid id result
       → SameAhead (shows (open_at old.outbound.states) id) (aheads ahead old.senders.items)
       (aheads ahead mid.senders.items)
@@ -171,7 +171,7 @@ module _ {L In Out Shut : Type 0} where
         takes-nothing (shows (open_at old.outbound.states) id) (calls got old.senders.items)
         (calls got mid.senders.items) (aheads ahead mid.senders.items) old.outbound.encoder
         mid.outbound.encoder
-        (subst (λ (p : Polled). Took got ahead old mid id p) is took).takes in
+        (subst (λ (p : SenderItem). Took got ahead old mid id p) is took).takes in
         let hand =
         hand-of None (shows (open_at old.outbound.states) id) (stream.place, stream.in_hand)
         (found.2
@@ -186,7 +186,7 @@ module _ {L In Out Shut : Type 0} where
   )
 
   pub stuck-data : (got ahead : Out → List OutItem) (old mid new : Sending L In Out Shut) (id : ℕ)
-      (bytes : List ℕ) (result : Polled)
+      (bytes : List ℕ) (result : SenderItem)
       → Took got ahead old mid id result
       → SameAhead (shows (open_at old.outbound.states) id) (aheads ahead old.senders.items)
       (aheads ahead mid.senders.items)
@@ -213,7 +213,7 @@ module _ {L In Out Shut : Type 0} where
 
   -- a message without bytes
   pub leaves-empty : (got ahead : Out → List OutItem) (old mid new : Sending L In Out Shut) (id : ℕ)
-      (bytes : List ℕ) (result : Polled)
+      (bytes : List ℕ) (result : SenderItem)
       → Took got ahead old mid id result
       → SameAhead (shows (open_at old.outbound.states) id) (aheads ahead old.senders.items)
       (aheads ahead mid.senders.items)
@@ -228,7 +228,7 @@ module _ {L In Out Shut : Type 0} where
       ∙ ap (λ (o : Outbound). o.states.windows) took.outbound)
 
   pub looks-data : (got ahead : Out → List OutItem) (old mid new : Sending L In Out Shut) (id : ℕ)
-      (bytes : List ℕ) (result : Polled) (found : Looked)
+      (bytes : List ℕ) (result : SenderItem) (found : NextData)
       → Took got ahead old mid id result
       → SameAhead (shows (open_at old.outbound.states) id) (aheads ahead old.senders.items)
       (aheads ahead mid.senders.items)

@@ -68,7 +68,7 @@ use Rattle.flow.specs.WindowHistory.{
 }
 use Rattle.flow.specs.WindowHistory.{Step as WindowStep}
 use Rattle.flow.specs.Windows.{Windows, window, balance, CreditFault, Meets}
-use Rattle.outwriter.specs.declared.control.Control.TheVariants.{Window, Settings, Open, Reset}
+use Rattle.outwriter.specs.declared.control.WriterOrder.TheVariants.{Window, Settings, Open, Reset}
 use Rattle.h2frame.specs.declared.error_code.ErrorCode.{ErrorCode}
 use Rattle.h2frame.specs.declared.settings.PeerSetting.{PeerSetting}
 use Rattle.outwriter.specs.Histories.{

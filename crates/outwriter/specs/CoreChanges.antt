@@ -17,7 +17,7 @@ use Rattle.std.specs.Prelude.{
 }
 use Rattle.account.specs.declared.call.OutItem.{OutItem}
 use Rattle.h2frame.specs.declared.error_code.ErrorCode.{ErrorCode}
-use Rattle.outwriter.specs.declared.control.Control.TheVariants.{Open}
+use Rattle.outwriter.specs.declared.control.WriterOrder.TheVariants.{Open}
 use Rattle.outwriter.specs.declared.due.Due.{Due}
 use Rattle.outwriter.specs.declared.due.Due.TheVariants as due_kind
 use Rattle.outwriter.specs.declared.outbound.Outbound.{Outbound}

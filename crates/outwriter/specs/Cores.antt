@@ -25,8 +25,8 @@ use Rattle.callbox.specs.declared.sender.Sender.{Sender}
 use Rattle.flow.specs.Windows.{room}
 use Rattle.reasons.specs.declared.Reason.{Reason}
 use Rattle.outwriter.specs.States.{open_at, pays}
-use Rattle.outwriter.specs.declared.control.Control.{Control}
-use Rattle.outwriter.specs.declared.control.Control.TheVariants.{Open, Goaway}
+use Rattle.outwriter.specs.declared.control.WriterOrder.{WriterOrder}
+use Rattle.outwriter.specs.declared.control.WriterOrder.TheVariants.{Open, Goaway}
 use Rattle.outwriter.specs.declared.control.OutFault.{OutFault}
 use Rattle.outwriter.specs.declared.control.OutFault.TheVariants.{OutOfMemory, PeerWindow}
 use Rattle.outwriter.specs.declared.next.Next.{Next}
@@ -84,7 +84,7 @@ module _ {L In Out Shut : Type 0} where
 
   -- the sender that an Open brings comes after the others; nothing else changes them
   abbrev pub Brings : Result (Unit {0}) (OutFault (Sender L In Out Shut))
-      → Control (Sender L In Out Shut) → List (ℕ × Sender L In Out Shut)
+      → WriterOrder (Sender L In Out Shut) → List (ℕ × Sender L In Out Shut)
       → List (ℕ × Sender L In Out Shut) → Type 0
   Brings (Ok done) (Open id sender) old new = new ≡ old ++ (id, sender) ∷ []
   Brings (Ok done) _ old new = new ≡ old
@@ -126,13 +126,13 @@ module _ {L In Out Shut : Type 0} where
   LeadsStill got old new = (run : List Step) → Leads got run old → Leads got run new
 
   -- the sender of an Open gave nothing before
-  abbrev pub IsUnused : (Out → List OutItem) → Control (Sender L In Out Shut) → Type 0
+  abbrev pub IsUnused : (Out → List OutItem) → WriterOrder (Sender L In Out Shut) → Type 0
   IsUnused got (Open id sender) = got sender.rx ≡ []
   IsUnused got _ = Unit {0}
 
   -- a control that is taken is the next step; where it is handed back, there is none
   abbrev pub LeadsControl : (Out → List OutItem)
-      → Result (Unit {0}) (OutFault (Sender L In Out Shut)) → Control (Sender L In Out Shut)
+      → Result (Unit {0}) (OutFault (Sender L In Out Shut)) → WriterOrder (Sender L In Out Shut)
       → OutCore L In Out Shut → OutCore L In Out Shut → Type 0
   LeadsControl got (Ok done) control old new =
       IsUnused got control → LeadsOn got (Taken (order_of control)) old new

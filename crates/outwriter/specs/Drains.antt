@@ -24,7 +24,7 @@ use Rattle.std.specs.Option.{is_some, option_or}
 use Rattle.h2frame.specs.declared.error_code.ErrorCode.TheVariants.{NoError}
 use Rattle.h2frame.specs.declared.frame.Frame.{Frame}
 use Rattle.reasons.specs.declared.Reason.TheVariants.{Code}
-use Rattle.outwriter.specs.declared.control.Control.TheVariants.{Probe, Goaway}
+use Rattle.outwriter.specs.declared.control.WriterOrder.TheVariants.{Probe, Goaway}
 use Rattle.outwriter.specs.Frames.{goaway_frame, is_last}
 use Rattle.outwriter.specs.Runs.{is_goaway}
 use Rattle.outwriter.specs.Steps.{Order, Step, Taken, Granted, Written, Returned, frames_of}

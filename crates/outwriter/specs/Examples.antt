@@ -10,8 +10,8 @@ use Rattle.hpack_codec.specs.Codec.{first_encoding}
 use Rattle.hpack_codec.specs.Table.{empty_table}
 use Rattle.lists.specs.declared.field.Field.{Field}
 use Rattle.reasons.specs.declared.Reason.TheVariants.{Code}
-use Rattle.outwriter.specs.declared.control.Control.TheVariants.{Settings, Ping, Goaway}
-use Rattle.outwriter.specs.declared.control.Control.TheVariants as order
+use Rattle.outwriter.specs.declared.control.WriterOrder.TheVariants.{Settings, Ping, Goaway}
+use Rattle.outwriter.specs.declared.control.WriterOrder.TheVariants as order
 use Rattle.h2frame.specs.declared.settings.PeerSetting.TheVariants.{TableSize, WindowSize}
 use Rattle.outwriter.specs.Calls.{is_called_off}
 use Rattle.outwriter.specs.Credit.{granted, updated}

@@ -17,15 +17,15 @@ use Rattle.std.specs.Prelude.{
 use Rattle.std.specs.Map.{lookup, set_value}
 use Rattle.account.specs.declared.call.OutItem.{OutItem}
 use Rattle.callbox.specs.declared.sender.Sender.{Sender}
-use Rattle.flow.specs.Windows.{Shared}
+use Rattle.flow.specs.Windows.{SharedWindow}
 use Rattle.hpack_codec.specs.Codec.{Encoding}
 use Rattle.outwriter.specs.declared.stream_state.Change.TheVariants as change
 use Rattle.outwriter.specs.declared.stream_state.Over.TheVariants as end_by
 use Rattle.outwriter.specs.declared.states.Stream.{Stream}
-use Rattle.outwriter.specs.declared.stream.Found.{Found}
-use Rattle.outwriter.specs.declared.stream.Found.TheVariants as found
-use Rattle.outwriter.specs.declared.stream.Polled.{Polled}
-use Rattle.outwriter.specs.declared.stream.Polled.TheVariants as polled
+use Rattle.outwriter.specs.declared.stream.NextItem.{NextItem}
+use Rattle.outwriter.specs.declared.stream.NextItem.TheVariants as found
+use Rattle.outwriter.specs.declared.stream.SenderItem.{SenderItem}
+use Rattle.outwriter.specs.declared.stream.SenderItem.TheVariants as polled
 use Rattle.outwriter.specs.Cores.{calls}
 use Rattle.outwriter.specs.Data.{BeginsMessage, BeginsOnStream, TakesFrames}
 use Rattle.outwriter.specs.OpenStreams.{Removes, Shown, shown, shows}
@@ -47,7 +47,8 @@ EndsStream true old new =
 EndsStream false old new = new ≡ old
 
 -- what is written: nothing; DATA of a message, whose rest is in hand then; or a header block
-abbrev pub TakesUpStream : ℕ → Stream → Stream → Shared → Shared → Polled → Found → Type 0
+abbrev pub TakesUpStream : ℕ → Stream → Stream → SharedWindow → SharedWindow → SenderItem
+    → NextItem → Type 0
 TakesUpStream id old new from to polled.Nothing found.Nothing = (new ≡ old) × (to ≡ from)
 TakesUpStream id old new from to (polled.Message bytes) (found.Message l) =
     (new.state ≡ old.state) × BeginsOnStream id old new from to bytes l
@@ -61,7 +62,7 @@ EndsOn id ends_it old new =
     Removes id ends_it (open_at old) (open_at new) × Ends old id ends_it new × SameOwed old new
     × Moves old (closing id ends_it) new
 
-abbrev pub TakesUp : ℕ → States → States → Polled → Found → Type 0
+abbrev pub TakesUp : ℕ → States → States → SenderItem → NextItem → Type 0
 TakesUp id old new polled.Nothing found.Nothing = new ≡ old
 TakesUp id old new (polled.Message bytes) (found.Message l) = BeginsMessage id old new bytes l
 TakesUp id old new (polled.Block bytes ends_it) (found.Block block ends) =
@@ -74,7 +75,7 @@ module _ {L In Out Shut : Type 0} where
   -- this was found, in hand or at the sender, and what is ahead of the other senders didn't change
   abbrev pub Asks : (Out → List OutItem) → (Out → List OutItem) → Shown
       → List (ℕ × Sender L In Out Shut) → List (ℕ × Sender L In Out Shut) → Option Encoding
-      → Option Encoding → Polled → Type 0
+      → Option Encoding → SenderItem → Type 0
   Asks got ahead view old new from to one =
       TakesAt {E = Unit {0}} view (calls got old) (calls got new)
       (aheads ahead new) from to (Ok one)
@@ -88,21 +89,21 @@ module _ {L In Out Shut : Type 0} where
   -- nothing is next on a stream that isn't open, or on which nothing may be written; else what was
   -- found is taken up
   abbrev pub NextOnStream : (Out → List OutItem) → (Out → List OutItem) → ℕ → Stream
-      → Stream → Shared → Shared
+      → Stream → SharedWindow → SharedWindow
       → List (ℕ × Sender L In Out Shut) → List (ℕ × Sender L In Out Shut) → Option Encoding
-      → Option Encoding → Found → Type 0
+      → Option Encoding → NextItem → Type 0
   NextOnStream got ahead id old new from to senders left before after result =
       (((can_write old.state ≡ false) ⊎ (old.opened ≡ None)) × (result ≡ found.Nothing)
       × (new ≡ old) × (to ≡ from) × AsksNone senders left before after)
-      ⊎ ((can_write old.state ≡ true) × (one : Polled)
+      ⊎ ((can_write old.state ≡ true) × (one : SenderItem)
       × Asks got ahead (shown old.opened) senders left before after one
       × TakesUpStream id old new from to one result)
 
   -- what is next on a stream among the entries, if it is there
   abbrev pub NextAtEntry : (Out → List OutItem) → (Out → List OutItem) → ℕ → List (ℕ × Stream)
-      → List (ℕ × Stream) → Shared → Shared
+      → List (ℕ × Stream) → SharedWindow → SharedWindow
       → List (ℕ × Sender L In Out Shut) → List (ℕ × Sender L In Out Shut) → Option Encoding
-      → Option Encoding → Found → Type 0
+      → Option Encoding → NextItem → Type 0
   NextAtEntry got ahead id old new from to senders left before after result =
       MatchOption (lookup (nat_eq id) old)
       ((result ≡ found.Nothing) × (new ≡ old) × (to ≡ from) × AsksNone senders left before after)
@@ -113,9 +114,9 @@ module _ {L In Out Shut : Type 0} where
   -- what is next on a stream among all streams
   abbrev pub TakesNext : (Out → List OutItem) → (Out → List OutItem) → ℕ → States → States
       → List (ℕ × Sender L In Out Shut) → List (ℕ × Sender L In Out Shut) → Option Encoding
-      → Option Encoding → Found → Type 0
+      → Option Encoding → NextItem → Type 0
   TakesNext got ahead id old new senders left before after result =
       (IsShut old id × (result ≡ found.Nothing) × (new ≡ old) × AsksNone senders left before after)
-      ⊎ (TakesFrames old id × (one : Polled)
+      ⊎ (TakesFrames old id × (one : SenderItem)
       × Asks got ahead (shows (open_at old) id) senders left before after one
       × TakesUp id old new one result)

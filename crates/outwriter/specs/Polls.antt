@@ -5,8 +5,8 @@ use Rattle.account.specs.declared.call.OutItem.TheVariants.{Head, Message, Trail
 use Rattle.lane.specs.Lawful.{last_of}
 use Rattle.lists.specs.declared.field.Field.{Field}
 use Rattle.hpack_codec.specs.Codec.{Encoding, Writes}
-use Rattle.outwriter.specs.declared.stream.Polled.{Polled}
-use Rattle.outwriter.specs.declared.stream.Polled.TheVariants as polled
+use Rattle.outwriter.specs.declared.stream.SenderItem.{SenderItem}
+use Rattle.outwriter.specs.declared.stream.SenderItem.TheVariants as polled
 
 -- the item of which a header block is written: trailers end their stream
 abbrev pub block_item : Bool → List Field → OutItem
@@ -34,7 +34,7 @@ GotNone before left after = (after ≡ before) ⊎ (after ≡ left)
 -- the call was left, and nothing is to be written; or one more item: a message, or fields, whose
 -- block an encoder that kept `from` wrote, and now keeps `to`.
 abbrev pub Polls : List OutItem → List OutItem → List OutItem → Option Encoding
-    → Option Encoding → Polled → Type 0
+    → Option Encoding → SenderItem → Type 0
 Polls before after coming from to polled.Nothing =
     GotNone before (before ++ Left ∷ []) after × (coming ≡ []) × (to ≡ from)
 Polls before after coming from to (polled.Message bytes) =

@@ -32,8 +32,8 @@ use Rattle.h2frame.specs.declared.error_code.ErrorCode.{ErrorCode}
 use Rattle.h2frame.specs.declared.frame.Frame.{Frame}
 use Rattle.outwriter.specs.declared.blocks.HeaderBlock.{HeaderBlock}
 use Rattle.outwriter.specs.Blocks.{frame_of, rest_of}
-use Rattle.outwriter.specs.declared.control.Control.{Control}
-use Rattle.outwriter.specs.declared.control.Control.TheVariants as control
+use Rattle.outwriter.specs.declared.control.WriterOrder.{WriterOrder}
+use Rattle.outwriter.specs.declared.control.WriterOrder.TheVariants as control
 use Rattle.outwriter.specs.declared.stream.OpenStream.{OpenStream}
 use Rattle.outwriter.specs.declared.control.OutFault.{OutFault}
 use Rattle.outwriter.specs.declared.control.OutFault.TheVariants.{OutOfMemory, PeerWindow}
@@ -266,26 +266,26 @@ is_held (Some stream) room_now = is_some stream.in_hand && (room_now == 0)
 
 module _ {S : Type 0} where
   -- a fault of the peer comes from its credit, on that stream, or at 0 from its SETTINGS
-  abbrev pub Concerns : OutFault S → Control S → Type 0
+  abbrev pub Concerns : OutFault S → WriterOrder S → Type 0
   Concerns (OutOfMemory back) taken = Unit {0}
   Concerns (PeerWindow id) (control.Window stream n) = id ≡ stream
   Concerns (PeerWindow id) (control.Settings settings) = id ≡ 0
   Concerns (PeerWindow id) _ = ⊥
 
   -- the control would make a window larger than 2^31 - 1 bytes
-  abbrev pub IsTooMuch : Control S → List WindowStep → Type 0
+  abbrev pub IsTooMuch : WriterOrder S → List WindowStep → Type 0
   IsTooMuch (control.Window stream n) history = Overflows history stream n
   IsTooMuch (control.Settings settings) history = ¬ All (CanResize history) (window_sizes settings)
   IsTooMuch _ history = ⊥
 
   -- why a control is a fault of the peer, by what the run did to the windows
-  abbrev pub Blames : OutFault S → Control S → List Step → Type 0
+  abbrev pub Blames : OutFault S → WriterOrder S → List Step → Type 0
   Blames (OutOfMemory back) taken run = Unit {0}
   Blames (PeerWindow id) taken run =
       (history : List WindowStep) × HasHistory run history × IsTooMuch taken history
 
   -- why a control is no fault of the peer
-  abbrev pub HasRoom : Control S → List Step → Type 0
+  abbrev pub HasRoom : WriterOrder S → List Step → Type 0
   HasRoom (control.Window stream n) run =
       (history : List WindowStep) × HasHistory run history
       × (HasWindow history stream → CanCredit history stream n)

@@ -50,7 +50,7 @@ use Rattle.flow.specs.WindowHistory.{Step, Follows, Opening, Closing}
 use Rattle.flow.specs.declared.send_windows.WindowFault.{WindowFault}
 use Rattle.flow.specs.declared.send_windows.WindowFault.TheVariants.{Overflow, Unknown}
 use Rattle.flow.specs.Windows.{
-  Shared,
+  SharedWindow,
   Windows,
   Fits as FitsWindow,
   balance,
@@ -315,7 +315,7 @@ PutsAfter change old id new =
 -- ---- the window of one stream, by its balance
 
 -- how many bytes may be sent on it: none, if its window isn't open
-abbrev pub room_in : Shared → Option ℤ → ℕ
+abbrev pub room_in : SharedWindow → Option ℤ → ℕ
 room_in shared kept =
     lesser_if_open shared.connection (option_map (λ b. pos shared.initial +ℤ b) kept)
 
@@ -325,7 +325,8 @@ fits_with size None = true
 fits_with size (Some b) = int_le (pos size +ℤ b) (pos MAX_WINDOW)
 
 -- it is credited, or isn't open, or would be larger than 2^31 - 1
-abbrev pub CreditsStream : Shared → Option ℤ → Option ℤ → ℕ → Result (Unit {0}) WindowFault → Type 0
+abbrev pub CreditsStream : SharedWindow → Option ℤ → Option ℤ → ℕ
+    → Result (Unit {0}) WindowFault → Type 0
 CreditsStream shared None new n answer = (new ≡ None) × (answer ≡ Err Unknown)
 CreditsStream shared (Some b) new n (Ok done) =
     (new ≡ Some (b +ℤ pos n)) × FitsWindow ((pos shared.initial +ℤ b) +ℤ pos n)
@@ -343,7 +344,7 @@ abbrev pub balances_of : List (ℕ × Stream) → List (ℕ × ℤ)
 balances_of [] = []
 balances_of (entry ∷ entries) = balance_first entry.0 entry.1.balance (balances_of entries)
 
-abbrev pub windows_of : Shared → List (ℕ × Stream) → Windows
+abbrev pub windows_of : SharedWindow → List (ℕ × Stream) → Windows
 windows_of shared streams = record {
   connection = shared.connection;
   initial = shared.initial;
@@ -355,7 +356,7 @@ balance_in None = None
 balance_in (Some stream) = stream.balance
 
 -- the states that entries are
-abbrev pub states_of : ℕ → Shared → List (ℕ × Stream) → States
+abbrev pub states_of : ℕ → SharedWindow → List (ℕ × Stream) → States
 states_of connection shared streams = record {
   connection = connection;
   streams = map (λ entry. (entry.0, entry.1.state)) streams;
@@ -401,7 +402,7 @@ SetsBalance old id kept new =
     (λ was. new ≡ set_value (nat_eq id) old (record was { balance = kept }))
 
 -- the window of a stream is credited, if the stream is there
-abbrev pub CreditsEntry : Shared → List (ℕ × Stream) → ℕ → List (ℕ × Stream) → ℕ
+abbrev pub CreditsEntry : SharedWindow → List (ℕ × Stream) → ℕ → List (ℕ × Stream) → ℕ
     → Result (Unit {0}) WindowFault → Type 0
 CreditsEntry shared old id new n answer =
     MatchOption (lookup (nat_eq id) old) ((new ≡ old) × (answer ≡ Err Unknown))

@@ -3,8 +3,8 @@
 use Rattle.std.specs.Prelude.{ℕ, List, [], ◌∷◌}
 use Rattle.account.specs.declared.call.OutItem.{OutItem}
 use Rattle.h2frame.specs.declared.frame.Frame.{Frame}
-use Rattle.outwriter.specs.declared.control.Control.{Control}
-use Rattle.outwriter.specs.declared.control.Control.TheVariants.{
+use Rattle.outwriter.specs.declared.control.WriterOrder.{WriterOrder}
+use Rattle.outwriter.specs.declared.control.WriterOrder.TheVariants.{
   Settings,
   Ping,
   Probe,
@@ -21,10 +21,10 @@ use Rattle.outwriter.specs.declared.control.OutFault.TheVariants.{OutOfMemory, P
 
 -- a control without the sender that an Open brings
 abbrev pub Order : Type 0
-Order = Control (Unit {0})
+Order = WriterOrder (Unit {0})
 
 module _ {S : Type 0} where
-  abbrev pub order_of : Control S → Order
+  abbrev pub order_of : WriterOrder S → Order
   order_of (Settings settings) = Settings settings
   order_of (Ping bytes) = Ping bytes
   order_of (Probe bytes) = Probe bytes

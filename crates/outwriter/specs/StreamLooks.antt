@@ -29,10 +29,10 @@ use Rattle.hpack_codec.specs.Codec.{Encoding, Writes}
 use Rattle.outwriter.specs.States.{open_at}
 use Rattle.outwriter.specs.declared.sending.Sending.{Sending}
 use Rattle.outwriter.specs.declared.stream.OpenStream.{OpenStream}
-use Rattle.outwriter.specs.declared.stream.Polled.{Polled}
-use Rattle.outwriter.specs.declared.stream.Polled.TheVariants as polled
-use Rattle.outwriter.specs.declared.stream.Looked.{Looked}
-use Rattle.outwriter.specs.declared.stream.Looked.TheVariants as looked
+use Rattle.outwriter.specs.declared.stream.SenderItem.{SenderItem}
+use Rattle.outwriter.specs.declared.stream.SenderItem.TheVariants as polled
+use Rattle.outwriter.specs.declared.stream.NextData.{NextData}
+use Rattle.outwriter.specs.declared.stream.NextData.TheVariants as looked
 use Rattle.outwriter.specs.Calls.{TellFronts}
 use Rattle.outwriter.specs.Frames.{IsSound}
 use Rattle.outwriter.specs.Cores.{calls, lanes, IsStuck, AreStuck, IsQuiet}
@@ -55,7 +55,7 @@ one_more place one all = set all place (with_item one (get_or all place (0, []))
 
 -- what is found at a place
 abbrev pub Finds : ℕ → List (ℕ × List OutItem) → List (ℕ × List OutItem) → List (List OutItem)
-    → Option Encoding → Option Encoding → Polled → Type 0
+    → Option Encoding → Option Encoding → SenderItem → Type 0
 Finds place old new ahead from to polled.Nothing =
     GotNone old (one_more place item.Left old) new × (get_or ahead place [] ≡ []) × (to ≡ from)
 Finds place old new ahead from to (polled.Message bytes) =
@@ -67,7 +67,7 @@ Finds place old new ahead from to (polled.Block bytes ends) =
 module _ {E : Type 0} where
   -- what is in hand comes first
   abbrev pub TakesHand : Option (List ℕ) → ℕ → List (ℕ × List OutItem) → List (ℕ × List OutItem)
-      → List (List OutItem) → Option Encoding → Option Encoding → Result Polled E → Type 0
+      → List (List OutItem) → Option Encoding → Option Encoding → Result SenderItem E → Type 0
   TakesHand (Some bytes) place old new ahead from to result =
       (result ≡ Ok (polled.Message bytes)) × (new ≡ old) × (to ≡ from)
   TakesHand None place old new ahead from to (Ok found) = Finds place old new ahead from to found
@@ -75,7 +75,7 @@ module _ {E : Type 0} where
       (one : OutItem) × (new ≡ one_more place one old)
 
   abbrev pub TakesAt : Shown → List (ℕ × List OutItem) → List (ℕ × List OutItem)
-      → List (List OutItem) → Option Encoding → Option Encoding → Result Polled E → Type 0
+      → List (List OutItem) → Option Encoding → Option Encoding → Result SenderItem E → Type 0
   TakesAt None old new ahead from to result =
       (result ≡ Ok polled.Nothing) × (new ≡ old) × (to ≡ from)
   TakesAt (Some s) old new ahead from to result = TakesHand s.1 s.0 old new ahead from to result
@@ -91,7 +91,7 @@ SameAhead (Some s) old new = SameElsewhere s.0 old new
 -- ---- a core
 
 -- the frame that a look found
-abbrev pub frame_in : Looked → Option Frame
+abbrev pub frame_in : NextData → Option Frame
 frame_in (looked.Frame frame) = Some frame
 frame_in looked.Nothing = None
 frame_in looked.Empty = None
@@ -165,7 +165,7 @@ module _ {L In Out Shut : Type 0} where
       → StuckAt ahead k new
 
   -- where a look at a stream found nothing, nothing can be written on it
-  abbrev pub LooksAt : (Out → List OutItem) → (Out → List OutItem) → ℕ → Looked
+  abbrev pub LooksAt : (Out → List OutItem) → (Out → List OutItem) → ℕ → NextData
       → Sending L In Out Shut → Sending L In Out Shut → Type 0
   LooksAt got ahead id (looked.Frame frame) old new = Unit {0}
   LooksAt got ahead id looked.Nothing old new = GetsStuck got ahead id old new

@@ -20,8 +20,8 @@ use Rattle.std.specs.Prelude.{
 use Rattle.hpack_codec.specs.Codec.{Encoding, limited}
 use Rattle.h2frame.specs.declared.kind.FrameKind.{FrameKind}
 use Rattle.h2frame.specs.declared.kind.FrameKind.TheVariants.{Headers}
-use Rattle.outwriter.specs.declared.control.Control.{Control}
-use Rattle.outwriter.specs.declared.control.Control.TheVariants.{Settings}
+use Rattle.outwriter.specs.declared.control.WriterOrder.{WriterOrder}
+use Rattle.outwriter.specs.declared.control.WriterOrder.TheVariants.{Settings}
 use Rattle.outwriter.specs.declared.control.OutFault.{OutFault}
 use Rattle.outwriter.specs.declared.control.OutFault.TheVariants.{OutOfMemory, PeerWindow}
 use Rattle.outwriter.specs.Histories.{table_sizes}
@@ -40,12 +40,12 @@ limited_by kept (limit ∷ limits) = limited_by (limited kept limit) limits
 
 module _ {S : Type 0} where
   -- the limits that a control has
-  abbrev pub limits_of : Control S → List ℕ
+  abbrev pub limits_of : WriterOrder S → List ℕ
   limits_of (Settings settings) = table_sizes settings
   limits_of _ = []
 
   -- the encoder gets the limits of a control that is taken, and nothing else changes it
-  abbrev pub TakesLimits : Result (Unit {0}) (OutFault S) → Control S → Option Encoding
+  abbrev pub TakesLimits : Result (Unit {0}) (OutFault S) → WriterOrder S → Option Encoding
       → Option Encoding → Type 0
   TakesLimits (Ok done) taken old new = new ≡ limited_by old (limits_of taken)
   TakesLimits (Err (PeerWindow id)) taken old new = new ≡ limited_by old (limits_of taken)

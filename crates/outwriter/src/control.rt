@@ -7,7 +7,7 @@ use std::fmt;
 
 /// What the peer says to the core, or its own side. `S` is the sender of a call.
 #[derive(Drop)]
-pub enum Control<S> {
+pub enum WriterOrder<S> {
     /// The peer's SETTINGS, which the core applies and then acknowledges (section 6.5.3).
     Settings(PeerSettings),
     /// A PING of the peer, whose eight bytes the core sends back (section 6.7).
@@ -45,7 +45,7 @@ pub enum Control<S> {
 #[derive(Drop)]
 pub enum OutFault<S> {
     /// Out of memory. A control that wasn't taken comes back; without one the core is dead.
-    OutOfMemory(Option<Control<S>>),
+    OutOfMemory(Option<WriterOrder<S>>),
     /// A window would be larger than 2^31 - 1 bytes: the stream's, or at 0 the connection's, or by
     /// SETTINGS some stream's. No window changes; the control counts as taken.
     PeerWindow(StreamId),

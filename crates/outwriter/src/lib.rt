@@ -1,4 +1,4 @@
-//! Which frame a connection's writer writes next (RFC 9113, sections 5, 6 and 8.1).
+//! Chooses the frame that a connection's writer writes next (RFC 9113, sections 5, 6 and 8.1).
 //!
 //! An `OutCore` takes controls, which are what the peer said or what this side is to say, and
 //! credit for the peer. It looks at the senders of the open calls, and answers the next frame, one
@@ -11,10 +11,11 @@
 //! carry, and what items spell.
 //!
 //! Read `control` for what goes in; `out_frame`, `frames` and `blocks` for the frames that come
-//! out; `stream`, `due`, `stream_state`, `resize` and `states` for what is kept, and `outbound`,
-//! `writing` and `sending`, which bring it together; `out_core` for what a control does, `next` for
-//! the choice of a frame, `left` for the calls that were left without trailers, and `release` for
-//! the senders that are given back. `laws` has what follows from the definitions.
+//! out; `stream`, `due`, `stream_state`, `resize` and `states` with `states::entries` for what is
+//! kept, and `outbound`, `writing` and `sending`, which bring it together; `out_core` for what a
+//! control does, `next` for the choice of a frame, `left` for the calls that were left without
+//! trailers, and `release` for the senders that are given back. `laws` has what follows from the
+//! definitions.
 #![tactic(auto)]
 
 mod blocks;
@@ -35,7 +36,7 @@ mod stream;
 mod stream_state;
 mod writing;
 
-pub use control::{Control, OutFault};
+pub use control::{OutFault, WriterOrder};
 pub use next::Next;
 pub use out_core::OutCore;
 pub use out_frame::OutFrame;

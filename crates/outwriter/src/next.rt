@@ -24,7 +24,7 @@ use crate::out_core::OutCore;
 use crate::out_frame::OutFrame;
 use crate::sending::Sending;
 use crate::states::StreamStates;
-use crate::stream::{Found, Looked};
+use crate::stream::{NextData, NextItem};
 use account::OutItem;
 use callbox::Sender;
 use h2frame::StreamId;
@@ -246,16 +246,16 @@ impl<L: Lane<Item = OutItem>> Sending<L> {
     {
         for _ in 0..u32::MAX {
             match self.look_once(id)? {
-                Looked::Frame(frame) => return Ok(Some(frame)),
-                Looked::Nothing => return Ok(None),
-                Looked::Empty => {}
+                NextData::Frame(frame) => return Ok(Some(frame)),
+                NextData::Nothing => return Ok(None),
+                NextData::Empty => {}
             }
         }
         Err(AllocError)
     }
 
     /// A frame of what is next on this stream, or that this is a message without bytes.
-    fn look_once(&mut self, id: StreamId) -> Result<Looked, AllocError>
+    fn look_once(&mut self, id: StreamId) -> Result<NextData, AllocError>
         requires { IsBetween self.old.outbound }
         ensures picks { IfOk result (λ l. Picks L.got (frame_in l) self.old self.new) }
         ensures gives { Gives L.got L.out_name self.old self.new }
@@ -267,10 +267,10 @@ impl<L: Lane<Item = OutItem>> Sending<L> {
             .states
             .next_on(id, &mut self.senders, &mut self.outbound.encoder)?;
         match found {
-            Found::Nothing => Ok(Looked::Nothing),
-            Found::Message(looked) => Ok(looked),
-            Found::Block { bytes, ends } => {
-                Ok(Looked::Frame(self.outbound.headers_frame(id, ends, bytes)?))
+            NextItem::Nothing => Ok(NextData::Nothing),
+            NextItem::Message(looked) => Ok(looked),
+            NextItem::Block { bytes, ends } => {
+                Ok(NextData::Frame(self.outbound.headers_frame(id, ends, bytes)?))
             }
         }
     }

@@ -47,9 +47,9 @@ ghost use Rattle.outwriter.specs.Drains.{has_failed, is_going_away, was_probed};
 ghost use Rattle.outwriter.specs.Frames.{IsSound, goaway_frame, is_last};
 ghost use Rattle.outwriter.specs.Steps.{Step, Taken, Granted, Written};
 ghost use Rattle.outwriter.specs.TableLimits.{TakesLimits};
-ghost use Rattle.outwriter.specs.declared.control.Control.TheVariants as order;
+ghost use Rattle.outwriter.specs.declared.control.WriterOrder.TheVariants as order;
 
-use crate::control::{Control, OutFault};
+use crate::control::{OutFault, WriterOrder};
 use crate::frames::make_goaway;
 use crate::out_frame::OutFrame;
 use crate::sending::Sending;
@@ -99,7 +99,7 @@ impl<L: Lane<Item = OutItem>> OutCore<L> {
     /// would be larger than 2^31 - 1 bytes is a fault of the peer: no window changes, and the
     /// control counts as taken. A dead core hands each control back. InputEnded and Close take no
     /// memory.
-    pub fn control(&mut self, control: Control<Sender<L>>) -> Result<(), OutFault<Sender<L>>>
+    pub fn control(&mut self, control: WriterOrder<Sender<L>>) -> Result<(), OutFault<Sender<L>>>
         // The control is the next step of the run, unless it is handed back. The sender of an Open
         // has given nothing before.
         ensures leads { LeadsControl L.got result control self.old self.new }
@@ -134,8 +134,8 @@ impl<L: Lane<Item = OutItem>> OutCore<L> {
             return Err(OutFault::OutOfMemory(Some(control)));
         }
         match control {
-            Control::InputEnded => Ok(()),
-            Control::Close => {
+            WriterOrder::InputEnded => Ok(()),
+            WriterOrder::Close => {
                 self.closed = true;
                 Ok(())
             }
@@ -144,7 +144,7 @@ impl<L: Lane<Item = OutItem>> OutCore<L> {
     }
 
     /// Takes a control that needs room.
-    fn obey(&mut self, control: Control<Sender<L>>) -> Result<(), OutFault<Sender<L>>>
+    fn obey(&mut self, control: WriterOrder<Sender<L>>) -> Result<(), OutFault<Sender<L>>>
         requires living { self.old.is_dead ≡ false }
         requires goes_on { control ≢ order.InputEnded }
         requires open { control ≢ order.Close }
@@ -164,38 +164,41 @@ impl<L: Lane<Item = OutItem>> OutCore<L> {
             return Err(OutFault::OutOfMemory(Some(control)));
         };
         match control {
-            Control::Settings(settings) => {
+            WriterOrder::Settings(settings) => {
                 match self.sending.outbound.take_settings(&settings) {
                     Ok(()) => Ok(()),
                     Err(_fault) => Err(OutFault::PeerWindow(0)),
                 }
             }
-            Control::Ping(bytes) => {
+            WriterOrder::Ping(bytes) => {
                 self.sending.outbound.take_ping(bytes);
                 Ok(())
             }
-            Control::Probe(bytes) => {
+            WriterOrder::Probe(bytes) => {
                 self.has_probed = true;
                 self.sending.outbound.take_probe(bytes);
                 Ok(())
             }
-            Control::Window(id, increment) => {
+            WriterOrder::Window(id, increment) => {
                 if self.sending.outbound.take_window(id, increment) {
                     Ok(())
                 } else {
                     Err(OutFault::PeerWindow(id))
                 }
             }
-            Control::Open(id, sender) => self.sending.begin(id, sender),
-            Control::Refuse(id, fields) => self.sending.outbound.refuse(id, fields),
-            Control::Reset { id, code, written } => self.sending.outbound.reset(id, code, written),
-            Control::Goaway { last, reason } => {
+            WriterOrder::Open(id, sender) => self.sending.begin(id, sender),
+            WriterOrder::Refuse(id, fields) => self.sending.outbound.refuse(id, fields),
+            WriterOrder::Reset { id, code, written } => self
+                .sending
+                .outbound
+                .reset(id, code, written),
+            WriterOrder::Goaway { last, reason } => {
                 self.is_leaving = true;
                 self.has_failed = self.fails_by(reason);
                 self.sending.outbound.take_goaway(last, reason);
                 Ok(())
             }
-            Control::InputEnded | Control::Close => unreachable!(),
+            WriterOrder::InputEnded | WriterOrder::Close => unreachable!(),
         }
     }
 

@@ -53,7 +53,7 @@ ghost use Rattle.outwriter.specs.ToldByNow.{SpellsOf};
 ghost use Rattle.flow.specs.declared.send_windows.WindowFault.TheVariants as window_fault;
 
 use crate::blocks::HeaderBlock;
-use crate::control::{Control, OutFault};
+use crate::control::{OutFault, WriterOrder};
 use crate::due::Due;
 use crate::resize::resize;
 use crate::states::StreamStates;
@@ -94,7 +94,7 @@ impl Outbound {
       is_new_call as is_new_call_of,
     };
     ghost use Rattle.outwriter.specs.declared.control.OutFault.TheVariants as out_fault;
-    ghost use Rattle.outwriter.specs.declared.control.Control.TheVariants as order;
+    ghost use Rattle.outwriter.specs.declared.control.WriterOrder.TheVariants as order;
     ghost use Rattle.outwriter.specs.declared.due.Due.TheVariants as due_kind;
 
     /// A connection on which nothing was written. It takes no memory yet.
@@ -228,7 +228,7 @@ impl Outbound {
         }
         match self.take_refuse(id, fields) {
             Ok(()) => Ok(()),
-            Err(fields) => Err(OutFault::OutOfMemory(Some(Control::Refuse(id, fields)))),
+            Err(fields) => Err(OutFault::OutOfMemory(Some(WriterOrder::Refuse(id, fields)))),
         }
     }
 
@@ -275,7 +275,7 @@ impl Outbound {
                 self.states.close(id);
                 Ok(())
             }
-            Err(_e) => Err(OutFault::OutOfMemory(Some(Control::Reset { id, code, written }))),
+            Err(_e) => Err(OutFault::OutOfMemory(Some(WriterOrder::Reset { id, code, written }))),
         }
     }
 

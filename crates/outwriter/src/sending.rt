@@ -15,7 +15,7 @@ ghost use Rattle.std.specs.Prelude.{
   vec_capacity,
 };
 
-use crate::control::{Control, OutFault};
+use crate::control::{OutFault, WriterOrder};
 use crate::outbound::Outbound;
 use account::OutItem;
 use callbox::Sender;
@@ -44,7 +44,7 @@ impl<L: Lane<Item = OutItem>> Sending<L> {
     ghost use Rattle.outwriter.specs.CoreChanges.{KeptStill, KeptWith};
     ghost use Rattle.outwriter.specs.Steps.{Step, Taken};
     ghost use Rattle.outwriter.specs.ToldByNow.{SpellsOf};
-    ghost use Rattle.outwriter.specs.declared.control.Control.TheVariants as order;
+    ghost use Rattle.outwriter.specs.declared.control.WriterOrder.TheVariants as order;
     ghost use Rattle.outwriter.specs.declared.control.OutFault.TheVariants as out_fault;
 
     /// A connection on which nothing was written. It takes no memory yet.
@@ -85,7 +85,7 @@ impl<L: Lane<Item = OutItem>> Sending<L> {
                 self.senders.push_reserved((id, sender));
                 Ok(())
             }
-            Err(_e) => Err(OutFault::OutOfMemory(Some(Control::Open(id, sender)))),
+            Err(_e) => Err(OutFault::OutOfMemory(Some(WriterOrder::Open(id, sender)))),
         }
     }
 

@@ -5,32 +5,22 @@
 ghost use Rattle.std.specs.Prelude.{
   ◌≡◌,
   ◌<◌,
-  ◌≤◌,
   ◌^◌,
-  ℕ,
   pos,
   ◌&&◌,
   if◌then◌else◌,
   List,
   [],
   ◌∷◌,
-  Option,
   None,
   Some,
-  false,
-  true,
   not,
   is_some,
   IfSome,
   IfOk,
   OnOk,
   OnErr,
-  length,
-  nat_eq,
 };
-ghost use Rattle.std.specs.List.{list_all};
-ghost use Rattle.std.specs.Map.{lookup, values_of};
-ghost use Rattle.indexmap.specs.IndexMap.{IsUnique};
 ghost use Rattle.flow.specs.WindowHistory.{
   CanCredit,
   CanResize,
@@ -44,25 +34,19 @@ ghost use Rattle.flow.specs.Windows.{CreditFault, Meets, room};
 ghost use Rattle.outwriter.specs.States.{
   nothing_known,
   open_at,
-  is_reset,
   pays,
   state_on,
   amount_of,
   by_reset,
-  more,
   is_heard,
   can_write,
   balance_after as balance_after_of,
   fits_with,
   room_in,
   steps_of,
-  Changes,
-  CreditsEntry,
   CreditsStream,
   IsAfter,
-  KeepsAmount,
   PutsAfter,
-  SetsBalance,
   Hears,
   Opens,
   BecomesOpen,
@@ -76,15 +60,7 @@ ghost use Rattle.outwriter.specs.States.{
   SameOpen,
   StandAs,
   SetsEnd,
-  Edits,
   TakesAll,
-  Adds,
-  AllFit,
-  IsSettledBut,
-  IsSettledFrom,
-  TakesAt,
-  TakesLast,
-  opened_of,
   opening,
 };
 ghost use Rattle.outwriter.specs.Resizes.{FitsOn};
@@ -93,7 +69,6 @@ ghost use Rattle.outwriter.specs.Data.{BeginsOnStream, LooksAtStream};
 ghost use Rattle.outwriter.specs.NextOn.{
   EndsStream,
   GetsOne,
-  NextAtEntry,
   NextOnStream,
   TakesNext,
   TakesUpStream,
@@ -111,10 +86,18 @@ ghost use Rattle.outwriter.specs.OpenStreams.{
   with_place,
 };
 
-use crate::stream::{Found, Hand, Looked, Opened, Polled, next_data, poll_at};
+mod entries;
+
+use crate::stream::{
+    BoxedStream, MessageInHand, NextData, NextItem, SenderItem, next_data, poll_at,
+};
 use crate::stream_state::{Change, Over, StreamState};
 use account::OutItem;
 use callbox::Sender;
+use entries::{
+    add, all_fit, bring_forward, change_of, close_of, close_window_of, credit_of, move_place_of,
+    next_at, sum, take_last, turn_of,
+};
 use flow::{Balance, ConnectionWindow, MAX_WINDOW, WindowFault};
 use h2frame::StreamId;
 use hpack_codec::Encoder;
@@ -129,7 +112,7 @@ use zeros::ZeroTail;
 pub(crate) struct Stream {
     state: StreamState,
     /// What is to be written on it, while it is open.
-    opened: Option<Opened>,
+    opened: Option<BoxedStream>,
     /// The balance of its window, while the window is open.
     balance: Option<Balance>,
 }
@@ -188,7 +171,7 @@ impl Stream {
         window: &mut ConnectionWindow,
         senders: &mut Vec<(StreamId, Sender<L>)>,
         encoder: &mut Encoder,
-    ) -> Result<Found, AllocError>
+    ) -> Result<NextItem, AllocError>
         ensures amount { amount_of self.new.state ≡ amount_of self.old.state }
         ensures next { IfOk result
             (NextOnStream L.got (coming L.got L.ahead) id self.old self.new window.old
@@ -198,25 +181,29 @@ impl Stream {
             ≡ lanes L.out_name senders.old.items }
     {
         let place = match self.look(id, window)? {
-            Hand::Shut => return Ok(Found::Nothing),
-            Hand::Message(looked) => return Ok(Found::Message(looked)),
-            Hand::Empty(place) => place,
+            MessageInHand::Shut => return Ok(NextItem::Nothing),
+            MessageInHand::Message(looked) => return Ok(NextItem::Message(looked)),
+            MessageInHand::Empty(place) => place,
         };
         let polled = poll_at(senders, encoder, place)?;
         self.take_up(id, window, polled)
     }
 
     /// Looks at what is in hand, if something may be written on it.
-    fn look(&mut self, id: StreamId, window: &mut ConnectionWindow) -> Result<Hand, AllocError>
+    fn look(
+        &mut self,
+        id: StreamId,
+        window: &mut ConnectionWindow,
+    ) -> Result<MessageInHand, AllocError>
         ensures state { self.new.state ≡ self.old.state }
         ensures looks { IfOk result (LooksAtStream id self.old self.new window.old window.new) }
     {
         if !self.state.can_write() {
-            return Ok(Hand::Shut);
+            return Ok(MessageInHand::Shut);
         }
         match &mut self.opened {
             Some(stream) => stream.look(id, window, &mut self.balance),
-            None => Ok(Hand::Shut),
+            None => Ok(MessageInHand::Shut),
         }
     }
 
@@ -226,18 +213,18 @@ impl Stream {
         &mut self,
         id: StreamId,
         window: &mut ConnectionWindow,
-        polled: Polled,
-    ) -> Result<Found, AllocError>
+        polled: SenderItem,
+    ) -> Result<NextItem, AllocError>
         ensures amount { amount_of self.new.state ≡ amount_of self.old.state }
         ensures takes { IfOk result
             (TakesUpStream id self.old self.new window.old window.new polled) }
     {
         match polled {
-            Polled::Nothing => Ok(Found::Nothing),
-            Polled::Message(bytes) => Ok(Found::Message(self.begin(id, window, bytes)?)),
-            Polled::Block { bytes, ends } => {
+            SenderItem::Nothing => Ok(NextItem::Nothing),
+            SenderItem::Message(bytes) => Ok(NextItem::Message(self.begin(id, window, bytes)?)),
+            SenderItem::Block { bytes, ends } => {
                 self.end_if(ends);
-                Ok(Found::Block { bytes, ends })
+                Ok(NextItem::Block { bytes, ends })
             }
         }
     }
@@ -258,7 +245,7 @@ impl Stream {
         id: StreamId,
         window: &mut ConnectionWindow,
         message: ZeroTail,
-    ) -> Result<Looked, AllocError>
+    ) -> Result<NextData, AllocError>
         ensures state { self.new.state ≡ self.old.state }
         ensures begins { IfOk result
             (BeginsOnStream id self.old self.new window.old window.new message) }
@@ -447,7 +434,7 @@ impl StreamStates {
         ensures windows { OnOk result (Moves self.old (opening self.old id) self.new) }
         ensures unchanged { OnErr result (self.new ≡ self.old) }
     {
-        let opened = Opened::new(*self.streams.allocator(), place)?;
+        let opened = BoxedStream::new(*self.streams.allocator(), place)?;
         self.change(id, Change::Open, Some(opened))
     }
 
@@ -548,7 +535,7 @@ impl StreamStates {
         &mut self,
         id: StreamId,
         change: Change,
-        opened: Option<Opened>,
+        opened: Option<BoxedStream>,
     ) -> Result<(), AllocError>
         requires stream { 0 < id }
         requires number { id < 2 ^ 31 }
@@ -571,7 +558,7 @@ impl StreamStates {
         id: StreamId,
         senders: &mut Vec<(StreamId, Sender<L>)>,
         encoder: &mut Encoder,
-    ) -> Result<Found, AllocError>
+    ) -> Result<NextItem, AllocError>
         ensures next { IfOk result
             (TakesNext L.got (coming L.got L.ahead) id self.old self.new senders.old.items
             senders.new.items encoder.old encoder.new) }
@@ -639,208 +626,4 @@ impl StreamStates {
         self.owing = owing;
         taken
     }
-}
-
-/// Changes the state of a stream. One of which nothing was heard becomes open as `opened` says, if
-/// it is given.
-fn change_of(
-    streams: &mut IndexMap<StreamId, Stream>,
-    id: StreamId,
-    change: Change,
-    opened: Option<Opened>,
-) -> Result<(), AllocError>
-    ensures changes { OnOk result
-        (Changes streams.old.entries id change opened streams.new.entries) }
-    ensures unchanged { OnErr result (streams.new.entries ≡ streams.old.entries) }
-{
-    if let Some(stream) = streams.get_mut(&id) {
-        stream.change(change);
-        return Ok(());
-    }
-    let mut stream = Stream {
-        state: StreamState::NoCall { over: None },
-        opened,
-        balance: None,
-    };
-    stream.change(change);
-    match streams.insert(id, stream) {
-        Ok(_before) => Ok(()),
-        Err(_refused) => Err(AllocError),
-    }
-}
-
-/// Closes the window of a stream.
-fn close_window_of(streams: &mut IndexMap<StreamId, Stream>, id: StreamId)
-    ensures { SetsBalance streams.old.entries id None streams.new.entries }
-{
-    if let Some(stream) = streams.get_mut(&id) {
-        stream.balance = None;
-    }
-}
-
-/// Adds the peer's credit to the window of a stream.
-fn credit_of(
-    streams: &mut IndexMap<StreamId, Stream>,
-    window: &ConnectionWindow,
-    id: StreamId,
-    increment: u32,
-) -> Result<(), WindowFault>
-    ensures { CreditsEntry window.now streams.old.entries id streams.new.entries increment result }
-{
-    match streams.get_mut(&id) {
-        Some(stream) => stream.credit(window, increment),
-        None => Err(WindowFault::Unknown),
-    }
-}
-
-/// Whether each open window with this initial size is at most 2^31 - 1 bytes.
-fn all_fit(streams: &IndexMap<StreamId, Stream>, size: u32) -> bool
-    ensures value { result ≡ list_all (λ stream. fits_with size stream.balance)
-        (values_of streams.now.entries) }
-    ensures unique { IsUnique nat_eq streams.now }
-{
-    // `len` says that no key comes twice.
-    let _count = streams.len();
-    streams.values().all(|stream| stream.fits(size))
-}
-
-/// What is next on a stream, if it is open and something may be written on it.
-fn next_at<L: Lane<Item = OutItem>>(
-    streams: &mut IndexMap<StreamId, Stream>,
-    id: StreamId,
-    window: &mut ConnectionWindow,
-    senders: &mut Vec<(StreamId, Sender<L>)>,
-    encoder: &mut Encoder,
-) -> Result<Found, AllocError>
-    ensures amount { KeepsAmount streams.old.entries id streams.new.entries }
-    ensures next { IfOk result
-        (NextAtEntry L.got (coming L.got L.ahead) id streams.old.entries streams.new.entries
-        window.old window.new senders.old.items senders.new.items encoder.old encoder.new) }
-    ensures got { GetsOne (calls L.got senders.old.items) (calls L.got senders.new.items) }
-    ensures senders { lanes L.out_name senders.new.items
-        ≡ lanes L.out_name senders.old.items }
-{
-    match streams.get_mut(&id) {
-        Some(stream) => stream.next(id, window, senders, encoder),
-        None => Ok(Found::Nothing),
-    }
-}
-
-/// Lets a stream take turns from now on, or none, if it is open. Answers whether it is open.
-fn turn_of(streams: &mut IndexMap<StreamId, Stream>, id: StreamId, in_turn: bool) -> bool
-    ensures edits { Edits streams.old.entries id streams.new.entries }
-    ensures hand { shown (opened_of (lookup (nat_eq id) streams.new.entries))
-        ≡ shown (opened_of (lookup (nat_eq id) streams.old.entries)) }
-{
-    match streams.get_mut(&id) {
-        Some(stream) => stream.turn(in_turn),
-        None => false,
-    }
-}
-
-/// Moves the place of an open stream's sender, if the sender was at `from`.
-fn move_place_of(streams: &mut IndexMap<StreamId, Stream>, id: StreamId, from: usize, to: usize)
-    ensures edits { Edits streams.old.entries id streams.new.entries }
-    ensures place { shown (opened_of (lookup (nat_eq id) streams.new.entries))
-        ≡ with_place from to (shown (opened_of (lookup (nat_eq id) streams.old.entries))) }
-{
-    if let Some(stream) = streams.get_mut(&id) {
-        stream.move_place(from, to);
-    }
-}
-
-/// Makes a stream no longer open.
-fn close_of(streams: &mut IndexMap<StreamId, Stream>, id: StreamId)
-    ensures edits { Edits streams.old.entries id streams.new.entries }
-    ensures closed { opened_of (lookup (nat_eq id) streams.new.entries) ≡ None }
-{
-    if let Some(stream) = streams.get_mut(&id) {
-        stream.opened = None;
-    }
-}
-
-/// Adds to what is owed on a stream, and answers its place.
-fn add(streams: &mut IndexMap<StreamId, Stream>, id: StreamId, n: u32) -> Option<usize>
-    ensures { Adds streams.old.entries id n result streams.new.entries }
-{
-    let (place, _id, stream) = streams.get_full(&id)?;
-    let StreamState::Call { owed, over } = stream.state else {
-        return None;
-    };
-    if let Some(stream) = streams.get_index_mut(place) {
-        stream.state = StreamState::Call {
-            owed: sum(owed, n),
-            over,
-        };
-    }
-    Some(place)
-}
-
-/// Moves the stream at a place to those on which something may be owed, and answers how many these
-/// are.
-fn bring_forward(streams: &mut IndexMap<StreamId, Stream>, place: usize, owing: usize) -> usize
-    requires place { place < length streams.old.entries }
-    requires owing { owing ≤ length streams.old.entries }
-    requires settled { IsSettledBut place owing streams.old.entries }
-    ensures owing { result ≤ length streams.new.entries }
-    ensures settled { IsSettledFrom result streams.new.entries }
-    ensures fit { AllFit streams.old.entries → AllFit streams.new.entries }
-    ensures same { (id : ℕ) → lookup (nat_eq id) streams.new.entries
-        ≡ lookup (nat_eq id) streams.old.entries }
-{
-    if place < owing {
-        return owing;
-    }
-    let count = streams.len();
-    prove!(owing < count);
-    streams.swap_indices(place, owing);
-    owing + 1
-}
-
-/// Takes what is owed at the last of the first `owing` places that owes something. Nothing is owed
-/// from there on.
-fn take_last(
-    streams: &mut IndexMap<StreamId, Stream>,
-    owing: usize,
-) -> (usize, Option<(StreamId, u32)>)
-    requires owing { owing ≤ length streams.old.entries }
-    requires settled { IsSettledFrom owing streams.old.entries }
-    ensures takes { TakesLast streams.old.entries result.0 result.1 streams.new.entries }
-    ensures owing { result.0 ≤ length streams.new.entries }
-    ensures settled { IsSettledFrom result.0 streams.new.entries }
-{
-    let mut left = owing;
-    while left > 0 {
-        left -= 1;
-        let taken = take_at(streams, left);
-        if taken.is_some() {
-            return (left, taken);
-        }
-    }
-    (0, None)
-}
-
-/// Takes what is owed at a place.
-fn take_at(streams: &mut IndexMap<StreamId, Stream>, place: usize) -> Option<(StreamId, u32)>
-    requires { place < length streams.old.entries }
-    ensures { TakesAt streams.old.entries place result streams.new.entries }
-{
-    let (id, stream) = streams.get_index(place)?;
-    let id = *id;
-    let StreamState::Call { owed, over } = stream.state else {
-        return None;
-    };
-    if owed == 0 {
-        return None;
-    }
-    if let Some(stream) = streams.get_index_mut(place) {
-        stream.state = StreamState::Call { owed: 0, over };
-    }
-    Some((id, owed))
-}
-
-fn sum(owed: u32, n: u32) -> u32
-    ensures { result ≡ more owed n }
-{
-    owed.saturating_add(n).min(MAX_WINDOW)
 }

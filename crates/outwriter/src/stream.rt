@@ -37,11 +37,11 @@ struct OpenStream {
 
 /// An open stream, in a box of its own, so that a stream that is over takes less memory.
 #[derive(Drop)]
-pub(crate) struct Opened {
+pub(crate) struct BoxedStream {
     stream: Box<OpenStream>,
 }
 
-impl Model for Opened {
+impl Model for BoxedStream {
     ghost use Rattle.outwriter.specs.declared.stream.OpenStream.{OpenStream};
 
     ghost Value = { OpenStream };
@@ -49,9 +49,9 @@ impl Model for Opened {
     ghost view = { λ opened. opened.stream.value };
 }
 
-impl Opened {
+impl BoxedStream {
     /// A stream whose sender is at this place, with nothing in hand.
-    pub(crate) fn new(alloc: Global, place: usize) -> Result<Opened, AllocError>
+    pub(crate) fn new(alloc: Global, place: usize) -> Result<BoxedStream, AllocError>
         ensures { IfOk result (λ opened. opened ≡ stream_at place) }
     {
         let stream = OpenStream {
@@ -59,7 +59,7 @@ impl Opened {
             in_hand: None,
             in_turn: false,
         };
-        Ok(Opened {
+        Ok(BoxedStream {
             stream: Box::new(alloc, stream)?,
         })
     }
@@ -108,16 +108,16 @@ impl Opened {
         id: StreamId,
         window: &mut ConnectionWindow,
         balance: &mut Option<Balance>,
-    ) -> Result<Hand, AllocError>
+    ) -> Result<MessageInHand, AllocError>
         ensures { IfOk result
             (LooksAtOpen id self.old self.new window.old window.new balance.old balance.new) }
     {
         let Some(mut rest) = self.stream.in_hand.take() else {
-            return Ok(Hand::Empty(self.stream.place));
+            return Ok(MessageInHand::Empty(self.stream.place));
         };
         let looked = next_data(window, balance, id, &mut rest)?;
         self.keep(rest);
-        Ok(Hand::Message(looked))
+        Ok(MessageInHand::Message(looked))
     }
 }
 
@@ -130,18 +130,18 @@ pub(crate) fn kept(rest: ZeroTail) -> Option<ZeroTail>
 
 /// What a look at the message in hand of a stream finds.
 #[derive(Drop)]
-pub(crate) enum Hand {
+pub(crate) enum MessageInHand {
     /// The stream isn't open, or nothing may be written on it.
     Shut,
     /// Nothing is in hand. The stream's sender is at this place.
     Empty(usize),
     /// What may be written of the message in hand.
-    Message(Looked),
+    Message(NextData),
 }
 
 /// What a stream's sender has next.
 #[derive(Drop)]
-pub(crate) enum Polled {
+pub(crate) enum SenderItem {
     Nothing,
     /// The bytes of a message.
     Message(ZeroTail),
@@ -151,18 +151,18 @@ pub(crate) enum Polled {
 
 /// What is next on a stream.
 #[derive(Drop)]
-pub(crate) enum Found {
+pub(crate) enum NextItem {
     /// Nothing may be written.
     Nothing,
     /// What may be written of a message.
-    Message(Looked),
+    Message(NextData),
     /// A header block, and whether it ends the stream. If so, the stream is closed now.
     Block { bytes: Bytes, ends: bool },
 }
 
 /// What a look at an open stream finds.
 #[derive(Drop)]
-pub(crate) enum Looked {
+pub(crate) enum NextData {
     Frame(OutFrame),
     Nothing,
     /// A message without bytes, which has no frame.
@@ -176,20 +176,20 @@ pub(crate) fn next_data(
     balance: &mut Option<Balance>,
     id: StreamId,
     message: &mut ZeroTail,
-) -> Result<Looked, AllocError>
+) -> Result<NextData, AllocError>
     ensures { IfOk result
         (CutsData id window.old window.new balance.old balance.new message.old message.new) }
 {
     if message.is_empty() {
-        return Ok(Looked::Empty);
+        return Ok(NextData::Empty);
     }
     let most = message.len().min(MAX_PAYLOAD as usize) as u32;
     let len = spend_up_to(window, balance, most);
     if len == 0 {
-        return Ok(Looked::Nothing);
+        return Ok(NextData::Nothing);
     }
     let piece = message.split_to(len as usize)?;
-    Ok(Looked::Frame(make_data(id, piece)))
+    Ok(NextData::Frame(make_data(id, piece)))
 }
 
 /// Takes as many bytes as may be sent now, and at most `most`, out of both windows. Answers how
@@ -209,7 +209,7 @@ pub(crate) fn poll_at<L: Lane<Item = OutItem>>(
     senders: &mut Vec<(StreamId, Sender<L>)>,
     encoder: &mut Encoder,
     place: usize,
-) -> Result<Polled, AllocError>
+) -> Result<SenderItem, AllocError>
     ensures takes { TakesHand None place (calls L.got senders.old.items)
         (calls L.got senders.new.items)
         (aheads (coming L.got L.ahead) senders.new.items) encoder.old encoder.new result }
@@ -220,7 +220,7 @@ pub(crate) fn poll_at<L: Lane<Item = OutItem>>(
 {
     match senders.get_mut(place) {
         Some(call) => poll(&mut call.1, encoder),
-        None => Ok(Polled::Nothing),
+        None => Ok(SenderItem::Nothing),
     }
 }
 
@@ -229,7 +229,7 @@ pub(crate) fn poll_at<L: Lane<Item = OutItem>>(
 pub(crate) fn poll<L: Lane<Item = OutItem>>(
     sender: &mut Sender<L>,
     encoder: &mut Encoder,
-) -> Result<Polled, AllocError>
+) -> Result<SenderItem, AllocError>
     ensures name { L.out_name sender.new.rx ≡ L.out_name sender.old.rx }
     ensures id { sender.new.id ≡ sender.old.id }
     ensures ok { IfOk result
@@ -240,16 +240,16 @@ pub(crate) fn poll<L: Lane<Item = OutItem>>(
         × (L.got sender.new.rx ≡ L.got sender.old.rx ++ item ∷ [])) }
 {
     match sender.next() {
-        None => Ok(Polled::Nothing),
-        Some(OutItem::Left) => Ok(Polled::Nothing),
-        Some(OutItem::Message(bytes)) => Ok(Polled::Message(bytes.clone()?)),
+        None => Ok(SenderItem::Nothing),
+        Some(OutItem::Left) => Ok(SenderItem::Nothing),
+        Some(OutItem::Message(bytes)) => Ok(SenderItem::Message(bytes.clone()?)),
         Some(OutItem::Head(fields)) => {
             let bytes = encoded(encoder, fields.as_slice())?;
-            Ok(Polled::Block { bytes, ends: false })
+            Ok(SenderItem::Block { bytes, ends: false })
         }
         Some(OutItem::Trailers(fields)) => {
             let bytes = encoded(encoder, fields.as_slice())?;
-            Ok(Polled::Block { bytes, ends: true })
+            Ok(SenderItem::Block { bytes, ends: true })
         }
     }
 }

@@ -30,7 +30,7 @@ use Rattle.std.proofs.lemmas.Bool.{ne_eqb}
 use Rattle.std.proofs.lemmas.List.Folds.{list_any-append}
 use Rattle.account.specs.declared.call.OutItem.{OutItem}
 use Rattle.callparts.specs.declared.call_account.CallAccount.{CallAccount}
-use Rattle.handlers.specs.declared.step.Step.{Step as Answer}
+use Rattle.handlers.specs.declared.step.MethodStep.{MethodStep as Answer}
 use Rattle.readerloop.specs.Calls.{Rises, is_admitted}
 use Rattle.readerloop.specs.Reports.{IsAccounted, IsSettled, IsUnserved}
 use Rattle.readerloop.specs.Steps.{

@@ -47,9 +47,9 @@ use Rattle.std.proofs.lemmas.List.Sorted.{
   sum_by_popped,
 }
 use Rattle.std.proofs.lemmas.List.Sums.{get_or-le-sum_by, sum_by-le, sum_by-set, sum_by_push}
-use Rattle.callparts.specs.declared.job.Finished.{Finished}
-use Rattle.callparts.specs.declared.order.Returning.{Returning}
-use Rattle.callparts.specs.declared.order.Sending.{Sending}
+use Rattle.callparts.specs.declared.job.FinishedJob.{FinishedJob}
+use Rattle.callparts.specs.declared.order.ReturningCall.{ReturningCall}
+use Rattle.callparts.specs.declared.order.SendingEnd.{SendingEnd}
 use Rattle.callparts.specs.declared.register.CallNumber.{CallNumber}
 use Rattle.callparts.specs.declared.register.Naming.{Ghosts}
 use Rattle.readerloop.specs.declared.call.Call.{Call}
@@ -183,14 +183,14 @@ module _ {J : Type 0} {book : Ghosts J} where
       → new.finished ≡ old.finished → is_undone n new ≡ is_undone n old
   undone-as n old new number finished =
       ap (λ (m : CallNumber J book). nat_eq m.value n && is_none new.finished) number
-      ∙ ap (λ (found : Option (Finished J book)). nat_eq old.number.value n && is_none found)
+      ∙ ap (λ (found : Option (FinishedJob J book)). nat_eq old.number.value n && is_none found)
       finished
 
   unsent-as : (n : ℕ) (old new : Call J book) → new.number ≡ old.number
       → new.returning ≡ old.returning → is_unsent n new ≡ is_unsent n old
   unsent-as n old new number returning =
       ap (λ (m : CallNumber J book). nat_eq m.value n && is_none new.returning) number
-      ∙ ap (λ (found : Option (Returning J book)).
+      ∙ ap (λ (found : Option (ReturningCall J book)).
       nat_eq old.number.value n && is_none found) returning
 
   -- a call became another with the same ends
@@ -262,12 +262,12 @@ module _ {J : Type 0} {book : Ghosts J} where
           ∙ sym (other-number n number call.number.value (is_none call.finished) value other)))
 
   -- what is looked for by the number that lies in a box
-  pub found-by : (inner sending : Sending J book) (calls : List (Call J book)) (found : Option ℕ)
+  pub found-by : (inner sending : SendingEnd J book) (calls : List (Call J book)) (found : Option ℕ)
       → inner ≡ sending
       → found ≡ position (λ (c : Call J book). is_unsent inner.number.value c) calls
       → position (λ (c : Call J book). is_unsent sending.number.value c) calls ≡ found
   found-by inner sending calls found same is =
-      ap (λ (s : Sending J book).
+      ap (λ (s : SendingEnd J book).
       position (λ (c : Call J book). is_unsent s.number.value c) calls) (sym same)
       ∙ sym is
 
@@ -333,7 +333,7 @@ module _ {J : Type 0} {book : Ghosts J} where
   undone-added n calls call none =
       sum_by_push (λ (c : Call J book). weight (is_undone n c)) calls call
       ∙ ap (λ (b : Bool). undone n calls + weight b) (and-true (nat_eq call.number.value n)
-      (is_none call.finished) (ap (λ (found : Option (Finished J book)). is_none found) none))
+      (is_none call.finished) (ap (λ (found : Option (FinishedJob J book)). is_none found) none))
 
   pub unsent-added : (n : ℕ) (calls : List (Call J book)) (call : Call J book)
       → call.returning ≡ None
@@ -341,7 +341,7 @@ module _ {J : Type 0} {book : Ghosts J} where
   unsent-added n calls call none =
       sum_by_push (λ (c : Call J book). weight (is_unsent n c)) calls call
       ∙ ap (λ (b : Bool). unsent n calls + weight b) (and-true (nat_eq call.number.value n)
-      (is_none call.returning) (ap (λ (found : Option (Returning J book)). is_none found) none))
+      (is_none call.returning) (ap (λ (found : Option (ReturningCall J book)). is_none found) none))
 
   -- a call that is over is taken out
   pub awaits-settled : (calls rest : List (Call J book)) (place : ℕ) (call : Call J book)

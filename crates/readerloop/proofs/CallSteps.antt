@@ -28,12 +28,12 @@ use Rattle.std.proofs.lemmas.List.Elements.{All-nil}
 use Rattle.std.proofs.lemmas.List.Folds.{list_any-append}
 use Rattle.account.specs.declared.call.OutItem.{OutItem}
 use Rattle.callhead.specs.declared.head.CallHead.{CallHead}
-use Rattle.callparts.specs.declared.job.Finished.{Finished}
-use Rattle.callparts.specs.declared.order.Returning.{Returning}
+use Rattle.callparts.specs.declared.job.FinishedJob.{FinishedJob}
+use Rattle.callparts.specs.declared.order.ReturningCall.{ReturningCall}
 use Rattle.callparts.specs.declared.register.CallNumber.{CallNumber}
 use Rattle.callparts.specs.declared.register.Naming.{Ghosts}
 use Rattle.connbook.specs.declared.answers.Receipt.TheVariants.{Feed}
-use Rattle.handlers.specs.declared.step.Step.{Step as Answer}
+use Rattle.handlers.specs.declared.step.MethodStep.{MethodStep as Answer}
 use Rattle.session.specs.declared.event.InEvent.TheVariants as events
 use Rattle.readerloop.specs.declared.call.Call.{Call}
 use Rattle.readerloop.specs.Calls.{
@@ -45,7 +45,7 @@ use Rattle.readerloop.specs.Calls.{
   Rises,
   is_admitted,
 }
-use Rattle.readerloop.specs.Halves.{IsHalf, Shown, grown, shown}
+use Rattle.readerloop.specs.Halves.{HalfView, IsHalf, grown, shown}
 use Rattle.readerloop.specs.Kept.{IsFresh}
 use Rattle.readerloop.specs.Steps.{
   Admitted,
@@ -103,8 +103,8 @@ module _ {J : Type 0} {book : Ghosts J} {known : ℕ → List (List ℕ) → Boo
     {names : List ℕ → ℕ → Type 0} {carries : ℕ → List OutItem → Type 0} where
   -- a call of whose half this step makes something else
   pub call-step : (told : List Step) (step : Step) (id method : ℕ) (number : CallNumber J book)
-      (old new : Shown) (finished : Option (Finished J book))
-      (returning : Option (Returning J book))
+      (old new : HalfView) (finished : Option (FinishedJob J book))
+      (returning : Option (ReturningCall J book))
       → Rises told step
       → (IsHalf id (since id told) old → IsHalf id (step ∷ since id told) new)
       → IsCallOf known names carries told id method number old finished returning
@@ -137,11 +137,11 @@ module _ {J : Type 0} {book : Ghosts J} {known : ℕ → List (List ℕ) → Boo
       passes.feeds half) is
 
   -- one of which something came back
-  pub call-back : (told : List Step) (id method : ℕ) (number : CallNumber J book) (half : Shown)
-      (finished new_finished : Option (Finished J book))
-      (returning new_returning : Option (Returning J book))
+  pub call-back : (told : List Step) (id method : ℕ) (number : CallNumber J book) (half : HalfView)
+      (finished new_finished : Option (FinishedJob J book))
+      (returning new_returning : Option (ReturningCall J book))
       → IfSome new_finished (HasAnswered known)
-      → IfSome new_returning (λ (r : Returning J book). HasReturned carries r.sending.value)
+      → IfSome new_returning (λ (r : ReturningCall J book). HasReturned carries r.sending.value)
       → IsCallOf known names carries told id method number half finished returning
       → IsCallOf known names carries told id method number half new_finished new_returning
   call-back told id method number half finished new_finished returning new_returning answered
@@ -172,23 +172,23 @@ module _ {J : Type 0} {book : Ghosts J} {known : ℕ → List (List ℕ) → Boo
     opened = head-opens call.id head told ∙ ap (λ (h : CallHead). Some h) (sym fresh.same_head);
     named = subst (λ (h : CallHead). names h.path call.method) (sym fresh.same_head) fresh.named;
     fed =
-        subst (λ (half : Shown).
+        subst (λ (half : HalfView).
         IsHalf call.id (since call.id (opening call.id head ∷ told)) half) (sym fresh.half)
         (rw (eq-eqb call.id call.id refl)
         (record { there = refl; fed = refl; closing = refl; full = All-nil _ }));
     answered =
-        subst (λ (found : Option (Finished J book)). IfSome found (HasAnswered known))
+        subst (λ (found : Option (FinishedJob J book)). IfSome found (HasAnswered known))
         (sym fresh.answered) tt;
     returned =
-        subst (λ (found : Option (Returning J book)).
-        IfSome found (λ (r : Returning J book). HasReturned carries r.sending.value))
+        subst (λ (found : Option (ReturningCall J book)).
+        IfSome found (λ (r : ReturningCall J book). HasReturned carries r.sending.value))
         (sym fresh.returned) tt;
   }
 
   -- a piece is fed to it
   pub call-fed : (told : List Step) (counted : ℕ) (piece : List ℕ) (id method : ℕ)
-      (number : CallNumber J book) (old new : Shown) (finished : Option (Finished J book))
-      (returning : Option (Returning J book))
+      (number : CallNumber J book) (old new : HalfView) (finished : Option (FinishedJob J book))
+      (returning : Option (ReturningCall J book))
       → new.there ≡ old.there → new.closing ≡ old.closing
       → (old.there ≡ true → new.items ≡ grown piece old.closing old.items)
       → IsCallOf known names carries told id method number old finished returning
@@ -200,11 +200,12 @@ module _ {J : Type 0} {book : Ghosts J} {known : ℕ → List (List ℕ) → Boo
       (λ half. fed-half id counted (since id told) piece old new there closing taken half) is
 
   -- its half is as it was
-  pub call-same : (told : List Step) (id method : ℕ) (number : CallNumber J book) (old new : Shown)
-      (finished : Option (Finished J book)) (returning : Option (Returning J book))
+  pub call-same : (told : List Step) (id method : ℕ) (number : CallNumber J book)
+      (old new : HalfView)
+      (finished : Option (FinishedJob J book)) (returning : Option (ReturningCall J book))
       → new ≡ old
       → IsCallOf known names carries told id method number old finished returning
       → IsCallOf known names carries told id method number new finished returning
   call-same told id method number old new finished returning same is =
-      subst (λ (half : Shown).
+      subst (λ (half : HalfView).
       IsCallOf known names carries told id method number half finished returning) (sym same) is

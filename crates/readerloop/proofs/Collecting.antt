@@ -21,13 +21,13 @@ use Rattle.std.proofs.lemmas.List.{append-nil, append_assoc}
 use Rattle.std.proofs.lemmas.List.Elements.{All-cons, All-head, All-nil, All-tail}
 use Rattle.callparts.specs.Blocks.{has_room, items_of}
 use Rattle.callparts.specs.declared.accounts.Accounts.{Accounts}
-use Rattle.callparts.specs.declared.order.Returning.{Returning}
+use Rattle.callparts.specs.declared.order.ReturningCall.{ReturningCall}
 use Rattle.callparts.specs.declared.register.Naming.{Ghosts}
-use Rattle.handlers.specs.declared.step.Step.{Step as Answer}
+use Rattle.handlers.specs.declared.step.MethodStep.{MethodStep as Answer}
 use Rattle.lane.specs.Ring.{out_name, taken}
 use Rattle.readerloop.specs.declared.calls.Calls.{Calls}
 use Rattle.readerloop.specs.declared.reading.Reading.{Reading}
-use Rattle.readerloop.specs.Calls.{HasReturned, Sent, carried_in}
+use Rattle.readerloop.specs.Calls.{HasReturned, SentItems, carried_in}
 use Rattle.readerloop.specs.Readings.{CollectsTo, HasCollected, KeepsNext}
 use Rattle.readerloop.proofs.ReadingSteps.{reads-same}
 
@@ -79,12 +79,12 @@ module _ {J : Type 0} {book : Ghosts J} where
       (subst (λ (n : ℕ). n < id) (sym last) next.0, room ∙ next.1, next.2)
 
   -- what is carried of one
-  pub carried-one : (sent : List Sent) (returning : Returning J book)
-      → All (λ (r : Returning J book).
+  pub carried-one : (sent : List SentItems) (returning : ReturningCall J book)
+      → All (λ (r : ReturningCall J book).
       HasReturned (carried_in sent) r.sending.value) (returning ∷ [])
       → HasReturned (carried_in sent) returning.sending.value
   carried-one sent returning all =
-      All-head (λ (r : Returning J book).
+      All-head (λ (r : ReturningCall J book).
       HasReturned (carried_in sent) r.sending.value) returning [] all
 
 module _ {J M : Type 0} {book : Ghosts J} {known : ℕ → List (List ℕ) → Bool → Answer → Type 0}
@@ -115,11 +115,11 @@ module _ {J M : Type 0} {book : Ghosts J} {known : ℕ → List (List ℕ) → B
     more = first.more ++ then.more;
     took =
         then.took
-        ∙ (ap (λ (items : List (Returning J book)). items ++ then.more) first.took
+        ∙ (ap (λ (items : List (ReturningCall J book)). items ++ then.more) first.took
         ∙ append_assoc (taken old.home) first.more then.more);
     name = then.name ∙ first.name;
     keeps = λ sent all told kept.
-        let P = λ (returning : Returning J book).
+        let P = λ (returning : ReturningCall J book).
         HasReturned (carried_in sent) returning.sending.value in
         then.keeps sent (all-right P first.more then.more all) told
         (first.keeps sent (all-left P first.more then.more all) told kept);

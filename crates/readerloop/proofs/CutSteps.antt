@@ -37,11 +37,16 @@ use Rattle.std.proofs.lemmas.List.Elements.{All-tail}
 use Rattle.std.proofs.lemmas.List.Sorted.{All-permutation, IsPermutation-swap_remove}
 use Rattle.std.proofs.lemmas.Option.{slice_get-get_or, slice_get_past}
 use Rattle.callparts.specs.declared.register.Naming.{Ghosts}
-use Rattle.handlers.specs.declared.step.Step.{Step as Answer}
+use Rattle.handlers.specs.declared.step.MethodStep.{MethodStep as Answer}
 use Rattle.account.specs.declared.call.OutItem.{OutItem}
 use Rattle.readerloop.specs.declared.call.Call.{Call}
-use Rattle.readerloop.specs.declared.half.Half.{Half}
-use Rattle.readerloop.specs.declared.half.Half.TheVariants.{Open, Shut as Closed, Missed, Moving}
+use Rattle.readerloop.specs.declared.feeder_half.FeederHalf.{FeederHalf}
+use Rattle.readerloop.specs.declared.feeder_half.FeederHalf.TheVariants.{
+  Open,
+  Shut as Closed,
+  Missed,
+  Moving,
+}
 use Rattle.readerloop.specs.Calls.{IsCall}
 use Rattle.readerloop.specs.Halves.{is_closed, is_open, shown}
 use Rattle.readerloop.specs.Kept.{AreCut, fed_but, fed_in, ids_of}
@@ -65,7 +70,7 @@ not-open : (open_now : Bool) (one : ℕ) → open_now ≡ false
 not-open open_now one is = ap (λ (b : Bool). if b then Some one else None) is
 
 -- a half to which no more may be fed, and which isn't being moved, was closed
-pub cut-closed : (half : Half) → is_open half ≡ false → (shown half).there ≡ true
+pub cut-closed : (half : FeederHalf) → is_open half ≡ false → (shown half).there ≡ true
     → is_closed half ≡ true
 cut-closed (Open feeder) cut there = absurd cc
 cut-closed (Closed end) cut there = refl
@@ -157,7 +162,7 @@ module _ {J : Type 0} {book : Ghosts J} where
   cut-set calls place call moved there is same cut =
       set-each (λ (c : Call J book). is_open c.half ≡ false)
       (λ (c : Call J book). is_open c.half ≡ false) calls place moved there
-      (ap (λ (half : Half). is_open half) (same ∙ ap (λ (c : Call J book). c.half) is)
+      (ap (λ (half : FeederHalf). is_open half) (same ∙ ap (λ (c : Call J book). c.half) is)
       ∙ cut place call there) (λ n d within away now. now) cut
 
   pub cut-out : (calls rest : List (Call J book)) (place : ℕ) (call : Call J book)

@@ -32,7 +32,7 @@ use Rattle.callbox.specs.InSides.{bytes_of, pieces_of}
 use Rattle.callbox.proofs.InLemmas.{bytes_of-bytes}
 use Rattle.connbook.specs.declared.answers.Receipt.TheVariants.{Feed}
 use Rattle.session.specs.declared.event.InEvent.TheVariants as events
-use Rattle.readerloop.specs.Halves.{IsHalf, Shown, grown}
+use Rattle.readerloop.specs.Halves.{HalfView, IsHalf, grown}
 use Rattle.readerloop.specs.Steps.{
   Closing,
   Step,
@@ -107,12 +107,12 @@ pub same_number : (id : ℕ) → nat_eq id id ≡ true
 same_number id = eq-eqb id id refl
 
 -- a half of which nothing is changed that `IsHalf` speaks of
-pub same-half : (id : ℕ) (steps : List Step) (old new : Shown) → new ≡ old → IsHalf id steps old
+pub same-half : (id : ℕ) (steps : List Step) (old new : HalfView) → new ≡ old → IsHalf id steps old
     → IsHalf id steps new
-same-half id steps old new is h = subst (λ (now : Shown). IsHalf id steps now) (sym is) h
+same-half id steps old new is h = subst (λ (now : HalfView). IsHalf id steps now) (sym is) h
 
 -- a step that is nothing to it
-pub still-half : (id : ℕ) (steps : List Step) (step : Step) (half : Shown)
+pub still-half : (id : ℕ) (steps : List Step) (step : Step) (half : HalfView)
     → closing_at id step ≡ None → data_at id step ≡ [] → IsHalf id steps half
     → IsHalf id (step ∷ steps) half
 still-half id steps step half none empty h = record {
@@ -128,7 +128,7 @@ still-half id steps step half none empty h = record {
 }
 
 -- a step that closes it, where it was open
-pub close-half : (id : ℕ) (steps : List Step) (step : Step) (kind : Closing) (old new : Shown)
+pub close-half : (id : ℕ) (steps : List Step) (step : Step) (kind : Closing) (old new : HalfView)
     → closing_at id step ≡ Some kind → old.closing ≡ None
     → new.there ≡ true → new.closing ≡ Some kind → pieces_of new.items ≡ pieces_of old.items
     → IsHalf id steps old → IsHalf id (step ∷ steps) new
@@ -149,7 +149,7 @@ close-half id steps step kind old new by_step none there closed pieces h =
     }
 
 -- and where it was closed before
-pub closed-before : (id : ℕ) (steps : List Step) (step : Step) (kind : Closing) (half : Shown)
+pub closed-before : (id : ℕ) (steps : List Step) (step : Step) (kind : Closing) (half : HalfView)
     → half.closing ≡ Some kind → IsHalf id steps half → IsHalf id (step ∷ steps) half
 closed-before id steps step kind half closed h =
     let before : closing_by id steps ≡ Some kind = sym h.closing ∙ closed in
@@ -165,7 +165,7 @@ closed-before id steps step kind half closed h =
     }
 
 -- a piece is fed
-pub fed-half : (id counted : ℕ) (steps : List Step) (piece : List ℕ) (old new : Shown)
+pub fed-half : (id counted : ℕ) (steps : List Step) (piece : List ℕ) (old new : HalfView)
     → new.there ≡ old.there → new.closing ≡ old.closing
     → (old.there ≡ true → new.items ≡ grown piece old.closing old.items)
     → IsHalf id steps old

@@ -20,7 +20,7 @@ use Rattle.readerloop.specs.Steps.{
 use Rattle.std.specs.Prelude.{IfErr, IfSome, IsSomeAnd, OnErr, OnOk, Result, Ok, Err}
 use Rattle.callhead.specs.declared.head.CallHead.{CallHead}
 use Rattle.callhead.specs.declared.fault.HeadFault.{HeadFault}
-use Rattle.session.specs.declared.event.Control.{Control}
+use Rattle.session.specs.declared.event.PeerControl.{PeerControl}
 use Rattle.session.specs.declared.event.InEvent.TheVariants as events
 use Rattle.readerloop.specs.Concerns.{IsIdle}
 
@@ -57,7 +57,7 @@ pub idle-head : (id : ℕ) (fault : HeadFault) (fate : Fate)
 idle-head id fault fate =
     record { admits = refl; reports = refl; closes = λ other. refl; feeds = λ other. refl }
 
-pub idle-control : (control : Control) → IsIdle (Told (events.Control control) Plain)
+pub idle-control : (control : PeerControl) → IsIdle (Told (events.Control control) Plain)
 idle-control control =
     record { admits = refl; reports = refl; closes = λ other. refl; feeds = λ other. refl }
 

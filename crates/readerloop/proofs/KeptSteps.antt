@@ -82,14 +82,19 @@ use Rattle.callhead.specs.declared.head.CallHead.{CallHead}
 use Rattle.callparts.specs.declared.call_account.CallAccount.{CallAccount}
 use Rattle.callparts.specs.declared.register.Naming.{Ghosts}
 use Rattle.callparts.specs.Accounts.{unserved}
-use Rattle.handlers.specs.declared.step.Step.{Step as Answer}
+use Rattle.handlers.specs.declared.step.MethodStep.{MethodStep as Answer}
 use Rattle.session.specs.declared.event.InEvent.TheVariants as events
 use Rattle.readerloop.specs.declared.call.Call.{Call}
 use Rattle.readerloop.specs.Calls.{IsCall, Rises, is_admitted}
 use Rattle.readerloop.specs.Concerns.{Concerns, IsIdle}
 use Rattle.readerloop.specs.declared.calls.Calls.{Calls}
-use Rattle.readerloop.specs.declared.half.Half.{Half}
-use Rattle.readerloop.specs.declared.half.Half.TheVariants.{Open, Shut as Closed, Missed, Moving}
+use Rattle.readerloop.specs.declared.feeder_half.FeederHalf.{FeederHalf}
+use Rattle.readerloop.specs.declared.feeder_half.FeederHalf.TheVariants.{
+  Open,
+  Shut as Closed,
+  Missed,
+  Moving,
+}
 use Rattle.readerloop.specs.Kept.{
   AreKept,
   IsFresh,
@@ -739,7 +744,7 @@ module _ {J : Type 0} {book : Ghosts J} {known : ℕ → List (List ℕ) → Boo
       (subst (λ (n : ℕ). AreKept known names carries told (unsettled old) (accounts_of old) n)
       (sym last) k))
 
-open-unclosed : (half : Half) → is_open half ≡ true → is_none (shown half).closing ≡ true
+open-unclosed : (half : FeederHalf) → is_open half ≡ true → is_none (shown half).closing ≡ true
 open-unclosed (Open feeder) is = refl
 open-unclosed (Closed end) is = absurd cc
 open-unclosed (Missed feeder) is = absurd cc

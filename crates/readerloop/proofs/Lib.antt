@@ -21,4 +21,4 @@ pub mod Settling
 pub mod ReadingSteps
 pub mod Collecting
 pub mod Starting
-pub mod SeatSteps
+pub mod WorkerSteps

@@ -26,20 +26,20 @@ use Rattle.std.proofs.Common.{
 use Rattle.std.specs.Prelude.{◌&&◌, ◌||◌, if◌then◌else◌, is_none, min}
 use Rattle.std.proofs.lemmas.List.{append_assoc}
 use Rattle.account.specs.declared.call.OutItem.{OutItem}
-use Rattle.callparts.specs.declared.order.Opening.{Opening}
+use Rattle.callparts.specs.declared.order.OpeningCall.{OpeningCall}
 use Rattle.callparts.specs.declared.register.Naming.{Ghosts}
 use Rattle.callparts.specs.declared.report.Ending.{Ending}
 use Rattle.connbook.specs.declared.answers.Receipt.{Receipt}
 use Rattle.connbook.specs.declared.answers.Receipt.TheVariants.{Feed, Discard, CallWindow, Overrun}
 use Rattle.h2frame.specs.declared.error_code.ErrorCode.TheVariants.{Cancel}
-use Rattle.handlers.specs.declared.step.Step.{Step as Answer}
-use Rattle.outwriter.specs.declared.control.Control.{Control}
-use Rattle.outwriter.specs.declared.control.Control.TheVariants.{Goaway, Reset}
+use Rattle.handlers.specs.declared.step.MethodStep.{MethodStep as Answer}
+use Rattle.outwriter.specs.declared.control.WriterOrder.{WriterOrder}
+use Rattle.outwriter.specs.declared.control.WriterOrder.TheVariants.{Goaway, Reset}
 use Rattle.outwriter.specs.Steps.{Order, order_of}
 use Rattle.session.specs.declared.event.InEvent.{InEvent}
 use Rattle.session.specs.declared.event.InEvent.TheVariants as events
-use Rattle.readerloop.specs.declared.decided.Cut.{Cut}
-use Rattle.readerloop.specs.declared.decided.Decided.{Decided}
+use Rattle.readerloop.specs.declared.decision.HalfToShut.{HalfToShut}
+use Rattle.readerloop.specs.declared.decision.Decision.{Decision}
 use Rattle.readerloop.specs.declared.reading.Reading.{Reading}
 use Rattle.readerloop.specs.Calls.{carried_in, is_admitted}
 use Rattle.readerloop.specs.Concerns.{Concerns, IsIdle}
@@ -271,7 +271,7 @@ module _ {J M : Type 0} {book : Ghosts J} {known : ℕ → List (List ℕ) → B
   }
 
   -- a half that is to be shut
-  pub awaits-cut : (told : List Step) (step : Step) (cut : Cut) (reading : Reading J M book)
+  pub awaits-cut : (told : List Step) (step : Step) (cut : HalfToShut) (reading : Reading J M book)
       → IsQuiet step → Concerns cut.id step → closing_at cut.id step ≡ Some (ShutAs cut.kind)
       → Reads known names carries told reading → Awaits known names carries told step cut reading
   awaits-cut told step cut reading quiet concerns closes reads = record {
@@ -283,7 +283,8 @@ module _ {J M : Type 0} {book : Ghosts J} {known : ℕ → List (List ℕ) → B
     closes = closes;
   }
 
-  pub shuts-awaited : (told : List Step) (step : Step) (cut : Cut) (old new : Reading J M book)
+  pub shuts-awaited : (told : List Step) (step : Step) (cut : HalfToShut)
+      (old new : Reading J M book)
       → new.is_draining ≡ old.is_draining → new.last ≡ old.last → new.begun ≡ old.begun
       → new.peer_goaway ≡ old.peer_goaway
       → (Concerns cut.id step → closing_at cut.id step ≡ Some (ShutAs cut.kind)
@@ -324,46 +325,49 @@ module _ {J M : Type 0} {book : Ghosts J} {known : ℕ → List (List ℕ) → B
 
   -- ---- what is decided
 
-  stands-none : (told : List Step) (step : Step) (cut : Option Cut) (reading : Reading J M book)
+  stands-none : (told : List Step) (step : Step) (cut : Option HalfToShut)
+      (reading : Reading J M book)
       → cut ≡ None → Reads known names carries (step ∷ told) reading
       → Stands known names carries told step cut reading
   stands-none told step cut reading none reads =
-      subst (λ (found : Option Cut).
+      subst (λ (found : Option HalfToShut).
       Stands known names carries told step found reading) (sym none) reads
 
-  stands-some : (told : List Step) (step : Step) (found : Option Cut) (cut : Cut)
+  stands-some : (told : List Step) (step : Step) (found : Option HalfToShut) (cut : HalfToShut)
       (reading : Reading J M book)
       → found ≡ Some cut → Awaits known names carries told step cut reading
       → Stands known names carries told step found reading
   stands-some told step found cut reading some awaits =
-      subst (λ (c : Option Cut). Stands known names carries told step c reading) (sym some) awaits
+      subst (λ (c : Option HalfToShut).
+      Stands known names carries told step c reading) (sym some) awaits
 
   -- no half is to be shut
-  pub decides-now : (told : List Step) (step : Step) (decided : Decided J book)
+  pub decides-now : (told : List Step) (step : Step) (decided : Decision J book)
       (reading : Reading J M book)
-      → orders_in decided ≡ orders_at told step → decided.ends ≡ ends_at step → decided.cut ≡ None
+      → orders_in decided ≡ orders_at told step → decided.ends ≡ ends_at step
+      → decided.to_shut ≡ None
       → Reads known names carries (step ∷ told) reading
       → Decides known names carries told step decided reading
   decides-now told step decided reading orders ends none reads = record {
     orders = orders;
     ends = ends;
-    stands = stands-none told step decided.cut reading none reads;
+    stands = stands-none told step decided.to_shut reading none reads;
   }
 
   -- one is
-  pub decides-cut : (told : List Step) (step : Step) (decided : Decided J book) (cut : Cut)
+  pub decides-cut : (told : List Step) (step : Step) (decided : Decision J book) (cut : HalfToShut)
       (reading : Reading J M book)
       → orders_in decided ≡ orders_at told step → decided.ends ≡ ends_at step
-      → decided.cut ≡ Some cut → Awaits known names carries told step cut reading
+      → decided.to_shut ≡ Some cut → Awaits known names carries told step cut reading
       → Decides known names carries told step decided reading
   decides-cut told step decided cut reading orders ends some awaits = record {
     orders = orders;
     ends = ends;
-    stands = stands-some told step decided.cut cut reading some awaits;
+    stands = stands-some told step decided.to_shut cut reading some awaits;
   }
 
   -- the same step
-  pub decides-as : (told : List Step) (step other : Step) (decided : Decided J book)
+  pub decides-as : (told : List Step) (step other : Step) (decided : Decision J book)
       (reading : Reading J M book)
       → other ≡ step → Decides known names carries told step decided reading
       → Decides known names carries told other decided reading
@@ -395,12 +399,12 @@ module _ {J M : Type 0} {book : Ghosts J} {known : ℕ → List (List ℕ) → B
     goaway = λ is. told-more events.PeerGoaway step told (begins.goaway (sym same.goaway ∙ is));
   }
 
-  pub decides-begun : (told : List Step) (step : Step) (id : ℕ) (decided : Decided J book)
+  pub decides-begun : (told : List Step) (step : Step) (id : ℕ) (decided : Decision J book)
       (more : List Order) (old new : Reading J M book)
       → IsCounted old new
       → CountsOn id decided.goaway old new → order_in decided.order ≡ more
       → orders_at told step ≡ last_stream id (is_draining told) (begun told) ++ more
-      → decided.ends ≡ ends_at step → decided.cut ≡ None
+      → decided.ends ≡ ends_at step → decided.to_shut ≡ None
       → Begins known names carries told step id old
       → Decides known names carries told step decided new
   decides-begun told step id decided more old new same counts order orders ends none begins =
@@ -430,7 +434,7 @@ module _ {J M : Type 0} {book : Ghosts J} {known : ℕ → List (List ℕ) → B
 module _ {J M : Type 0} {book : Ghosts J} {known : ℕ → List (List ℕ) → Bool → Answer → Type 0}
     {names : List ℕ → ℕ → Type 0} where
   -- there was no memory, or there was
-  pub lacks-as : (event : InEvent) (fate : Fate) (decided : Decided J book) (ending : Ending)
+  pub lacks-as : (event : InEvent) (fate : Fate) (decided : Decision J book) (ending : Ending)
       (old new : Reading J M book)
       → decided.ends ≡ Some ending
       → DecidesOn known names (Told event Lacking) decided old new
@@ -440,7 +444,7 @@ module _ {J M : Type 0} {book : Ghosts J} {known : ℕ → List (List ℕ) → B
       Decides known names (carried_in sent) told (Told event (unless_ended end fate)) decided new)
       (sym is) (decides sent told reads)
 
-  pub plain-as : (event : InEvent) (fate : Fate) (decided : Decided J book)
+  pub plain-as : (event : InEvent) (fate : Fate) (decided : Decision J book)
       (old new : Reading J M book)
       → decided.ends ≡ None
       → DecidesOn known names (Told event fate) decided old new
@@ -451,7 +455,7 @@ module _ {J M : Type 0} {book : Ghosts J} {known : ℕ → List (List ℕ) → B
       (sym is) (decides sent told reads)
 
   -- as the step says it goes on, there was memory
-  pub calm-as : (event : InEvent) (fate : Fate) (decided : Decided J book)
+  pub calm-as : (event : InEvent) (fate : Fate) (decided : Decision J book)
       (old new : Reading J M book)
       → ends_at (Told event fate) ≡ None
       → DecidesOn known names (Told event fate) decided old new
@@ -464,24 +468,24 @@ module _ {J M : Type 0} {book : Ghosts J} {known : ℕ → List (List ℕ) → B
 
 -- one order, or none
 module _ {J : Type 0} {book : Ghosts J} where
-  pub one-order : (decided : Decided J book) (order : Control (Opening J book))
+  pub one-order : (decided : Decision J book) (order : WriterOrder (OpeningCall J book))
       → decided.goaway ≡ None → decided.order ≡ Some order → orders_in decided ≡ order_of order ∷ []
   one-order decided order none some =
       ap (λ (found : Option ℕ). goaway_in found ++ order_in decided.order) none
-      ∙ ap (λ (found : Option (Control (Opening J book))). order_in found) some
+      ∙ ap (λ (found : Option (WriterOrder (OpeningCall J book))). order_in found) some
 
-  pub no-order : (decided : Decided J book) → decided.goaway ≡ None → decided.order ≡ None
+  pub no-order : (decided : Decision J book) → decided.goaway ≡ None → decided.order ≡ None
       → orders_in decided ≡ []
   no-order decided none nothing =
       ap (λ (found : Option ℕ). goaway_in found ++ order_in decided.order) none
-      ∙ ap (λ (found : Option (Control (Opening J book))). order_in found) nothing
+      ∙ ap (λ (found : Option (WriterOrder (OpeningCall J book))). order_in found) nothing
 
   -- the order that ends the connection names this stream
-  pub goaway-order : (order : Control (Opening J book)) (last id : ℕ) (cause : Reason)
+  pub goaway-order : (order : WriterOrder (OpeningCall J book)) (last id : ℕ) (cause : Reason)
       → order ≡ Goaway last cause → last ≡ id → order_in (Some order) ≡ Goaway id cause ∷ []
   goaway-order order last id cause is same =
-      ap (λ (one : Control (Opening J book)). order_in (Some one)) is
-      ∙ ap (λ (n : ℕ). order_in {S = Opening J book} (Some (Goaway n cause))) same
+      ap (λ (one : WriterOrder (OpeningCall J book)). order_in (Some one)) is
+      ∙ ap (λ (n : ℕ). order_in {S = OpeningCall J book} (Some (Goaway n cause))) same
 
 pub cut-fed : (id : ℕ) (before : List Step) → is_fed id before ≡ true
     → orders_at before (CutOff id) ≡ Reset id Cancel true ∷ []
@@ -508,7 +512,7 @@ fed-both id told known unclosed =
 
 -- ---- what became of a piece
 
-pub fate-fed : {S : Type 0} (id counted : ℕ) (piece : List ℕ) (order : Option (Control S))
+pub fate-fed : {S : Type 0} (id counted : ℕ) (piece : List ℕ) (order : Option (WriterOrder S))
     (ends : Option Ending)
     → order ≡ None
     → Told (events.Data id piece counted) (fate_of Feed order ends)
@@ -516,8 +520,8 @@ pub fate-fed : {S : Type 0} (id counted : ℕ) (piece : List ℕ) (order : Optio
 fate-fed id counted piece None ends none = refl
 fate-fed id counted piece (Some order) ends none = absurd cc
 
-pub fate-missed : {S : Type 0} (id counted : ℕ) (piece : List ℕ) (order : Option (Control S))
-    (ends : Option Ending) (one : Control S)
+pub fate-missed : {S : Type 0} (id counted : ℕ) (piece : List ℕ) (order : Option (WriterOrder S))
+    (ends : Option Ending) (one : WriterOrder S)
     → order ≡ Some one → ends ≡ None
     → Told (events.Data id piece counted) (fate_of Feed order ends)
     ≡ Told (events.Data id piece counted) Missed
@@ -525,8 +529,8 @@ fate-missed id counted piece None ends one some none = absurd cc
 fate-missed id counted piece (Some order) None one some none = refl
 fate-missed id counted piece (Some order) (Some ending) one some none = absurd cc
 
-pub fate-lacks : {S : Type 0} (id counted : ℕ) (piece : List ℕ) (order : Option (Control S))
-    (ends : Option Ending) (one : Control S) (ending : Ending)
+pub fate-lacks : {S : Type 0} (id counted : ℕ) (piece : List ℕ) (order : Option (WriterOrder S))
+    (ends : Option Ending) (one : WriterOrder S) (ending : Ending)
     → order ≡ Some one → ends ≡ Some ending
     → Told (events.Data id piece counted) (fate_of Feed order ends)
     ≡ Told (events.Data id piece counted) Lacking
@@ -535,7 +539,7 @@ fate-lacks id counted piece (Some order) None one ending some is = absurd cc
 fate-lacks id counted piece (Some order) (Some other) one ending some is = refl
 
 pub may-miss : {S : Type 0} (id : ℕ) (piece : List ℕ) (told : List Step)
-    (order : Option (Control S)) (ends : Option Ending)
+    (order : Option (WriterOrder S)) (ends : Option Ending)
     → (order ≢ None → IsDue id piece told) → MayMiss id piece (fate_of Feed order ends) told
 may-miss id piece told None ends due = tt
 may-miss id piece told (Some order) None due = due (λ e. let wrong : Some order ≡ None = e in cc)

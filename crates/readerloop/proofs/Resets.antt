@@ -27,7 +27,7 @@ use Rattle.std.proofs.Common.{
 }
 use Rattle.std.specs.List.{list_any}
 use Rattle.std.proofs.lemmas.List.Folds.{list_any-append}
-use Rattle.outwriter.specs.declared.control.Control.TheVariants.{Reset}
+use Rattle.outwriter.specs.declared.control.WriterOrder.TheVariants.{Reset}
 use Rattle.std.specs.Prelude.{◌||◌, IfSome, if◌then◌else◌}
 use Rattle.std.proofs.lemmas.Bool.{and_parts}
 use Rattle.std.specs.Option.{is_some}

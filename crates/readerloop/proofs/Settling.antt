@@ -20,17 +20,17 @@ use Rattle.std.specs.Option.{is_some}
 use Rattle.account.specs.declared.call.Account.{Account}
 use Rattle.account.specs.declared.call.OutItem.{OutItem}
 use Rattle.account.specs.declared.call.Shut.{Shut}
-use Rattle.account.specs.declared.call.Told.{Told}
+use Rattle.account.specs.declared.call.RequestEnd.{RequestEnd}
 use Rattle.callbox.specs.declared.in_side.InAccount.{InAccount}
 use Rattle.callbox.specs.declared.piece.InPiece.{InPiece}
 use Rattle.callbox.specs.declared.out_side.OutAccount.{OutAccount}
 use Rattle.callbox.specs.InAccounts.{CountsIn}
-use Rattle.callbox.specs.InSides.{Took, bytes_of, pieces_of}
+use Rattle.callbox.specs.InSides.{TakesMessages, bytes_of, pieces_of}
 use Rattle.callbox.specs.OutAccounts.{CountsOut}
 use Rattle.callparts.specs.declared.call_account.CallAccount.{CallAccount}
-use Rattle.callparts.specs.declared.job.Finished.{Finished}
-use Rattle.callparts.specs.declared.order.Returning.{Returning}
-use Rattle.callparts.specs.declared.order.Sending.{Sending}
+use Rattle.callparts.specs.declared.job.FinishedJob.{FinishedJob}
+use Rattle.callparts.specs.declared.order.ReturningCall.{ReturningCall}
+use Rattle.callparts.specs.declared.order.SendingEnd.{SendingEnd}
 use Rattle.callparts.specs.declared.register.CallNumber.{CallNumber}
 use Rattle.callparts.specs.declared.register.Naming.{Ghosts}
 use Rattle.callparts.specs.declared.work.Request.{Request}
@@ -38,11 +38,16 @@ use Rattle.callparts.specs.declared.work.Work.{Work}
 use Rattle.callparts.specs.Lanes.{OutSender}
 use Rattle.callparts.specs.Numbers.{request_at}
 use Rattle.callparts.specs.Workers.{Answers, IsAnswered}
-use Rattle.handlers.specs.declared.step.Step.{Step as Answer}
+use Rattle.handlers.specs.declared.step.MethodStep.{MethodStep as Answer}
 use Rattle.lane.specs.RingLane.{got, put_shut}
 use Rattle.readerloop.specs.declared.call.Call.{Call}
-use Rattle.readerloop.specs.declared.half.Half.{Half}
-use Rattle.readerloop.specs.declared.half.Half.TheVariants.{Open, Shut as Closed, Missed, Moving}
+use Rattle.readerloop.specs.declared.feeder_half.FeederHalf.{FeederHalf}
+use Rattle.readerloop.specs.declared.feeder_half.FeederHalf.TheVariants.{
+  Open,
+  Shut as Closed,
+  Missed,
+  Moving,
+}
 use Rattle.readerloop.specs.Calls.{HasAnswered, IsCall, IsCallOf, is_over}
 use Rattle.readerloop.specs.Halves.{is_closed, shown}
 use Rattle.readerloop.specs.Reports.{IsSettled}
@@ -57,7 +62,7 @@ if-some : {A : Type 0} (P : A → Type 0) (found : Option A) (x : A) → found �
     → IfSome found P → P x
 if-some P found x is there = subst (λ o. IfSome o P) is there
 
-closed-some : (half : Half) → is_closed half ≡ true → is_some (shown half).closing ≡ true
+closed-some : (half : FeederHalf) → is_closed half ≡ true → is_some (shown half).closing ≡ true
 closed-some (Open feeder) is = absurd cc
 closed-some (Closed end) is = refl
 closed-some (Missed feeder) is = refl
@@ -71,7 +76,7 @@ over-closed true false closed is = absurd cc
 over-closed false returning closed is = absurd cc
 
 counts-as : (items other : List InPiece) (shut also : Option Shut) (messages : List (List ℕ))
-    (told : Option Told) (input : InAccount)
+    (told : Option RequestEnd) (input : InAccount)
     → items ≡ other → shut ≡ also
     → CountsIn (pieces_of other) also messages told input
     → CountsIn (pieces_of items) shut messages told input
@@ -88,31 +93,32 @@ same-request log other n m request same asked =
     ∙ asked
 
 module _ {J : Type 0} {book : Ghosts J} where
-  one-worked : (number : CallNumber J book) (found : Option (Finished J book))
-      (finished : Finished J book)
-      → unwrap_or (option_map (λ (f : Finished J book). f.number.value) found) number.value
+  one-worked : (number : CallNumber J book) (found : Option (FinishedJob J book))
+      (finished : FinishedJob J book)
+      → unwrap_or (option_map (λ (f : FinishedJob J book). f.number.value) found) number.value
       ≡ number.value
       → found ≡ Some finished
       → number.value ≡ finished.number.value
   one-worked number found finished one is =
-      sym (subst (λ (o : Option (Finished J book)).
-      unwrap_or (option_map (λ (f : Finished J book). f.number.value) o) number.value
+      sym (subst (λ (o : Option (FinishedJob J book)).
+      unwrap_or (option_map (λ (f : FinishedJob J book). f.number.value) o) number.value
       ≡ number.value) is one)
 
-  one-sent : (number : CallNumber J book) (found : Option (Returning J book))
-      (returning : Returning J book)
-      → unwrap_or (option_map (λ (r : Returning J book). r.sending.value.number.value) found)
+  one-sent : (number : CallNumber J book) (found : Option (ReturningCall J book))
+      (returning : ReturningCall J book)
+      → unwrap_or (option_map (λ (r : ReturningCall J book). r.sending.value.number.value) found)
       number.value
       ≡ number.value
       → found ≡ Some returning → number.value ≡ returning.sending.value.number.value
   one-sent number found returning one is =
-      sym (subst (λ (o : Option (Returning J book)).
-      unwrap_or (option_map (λ (r : Returning J book). r.sending.value.number.value) o) number.value
+      sym (subst (λ (o : Option (ReturningCall J book)).
+      unwrap_or (option_map (λ (r : ReturningCall J book).
+      r.sending.value.number.value) o) number.value
       ≡ number.value) is one)
 
 module _ {J : Type 0} {book : Ghosts J} {known : ℕ → List (List ℕ) → Bool → Answer → Type 0} where
   -- what its worker says of it, by what its client asked for
-  answered-by : (request : Request) (number : CallNumber J book) (finished : Finished J book)
+  answered-by : (request : Request) (number : CallNumber J book) (finished : FinishedJob J book)
       → request_at number.seen.log number.value ≡ Some request
       → slice_get number.seen.log number.value
       ≡ slice_get finished.number.seen.log finished.number.value
@@ -129,8 +135,8 @@ module _ {J : Type 0} {book : Ghosts J} {known : ℕ → List (List ℕ) → Boo
 
 module _ {J : Type 0} {book : Ghosts J} {known : ℕ → List (List ℕ) → Bool → Answer → Type 0}
     {names : List ℕ → ℕ → Type 0} {carries : ℕ → List OutItem → Type 0} where
-  pub settles : (told : List Step) (id method : ℕ) (number : CallNumber J book) (half : Half)
-      (finished : Finished J book) (returning : Returning J book) (input : InAccount)
+  pub settles : (told : List Step) (id method : ℕ) (number : CallNumber J book) (half : FeederHalf)
+      (finished : FinishedJob J book) (returning : ReturningCall J book) (input : InAccount)
       (output : OutAccount) (status : Option ℕ) (sent : List OutItem)
       → is_closed half ≡ true → status ≡ told_status (put_shut finished.given.shut) finished.status
       → slice_get number.seen.log number.value
@@ -138,7 +144,8 @@ module _ {J : Type 0} {book : Ghosts J} {known : ℕ → List (List ℕ) → Boo
       → slice_get number.seen.log number.value
       ≡ slice_get returning.sending.value.number.seen.log returning.sending.value.number.value
       → option_map (λ s. got s.rx) returning.sending.value.sender ≡ Some sent
-      → ((messages : List (List ℕ)) → Took (got finished.taker.rx) finished.taker.progress messages
+      → ((messages : List (List ℕ))
+      → TakesMessages (got finished.taker.rx) finished.taker.progress messages
       → CountsIn (pieces_of (shown half).items) (shut_in (shown half).closing) messages
       finished.taker.progress.told input)
       → CountsOut (put_shut finished.given.shut) sent output
@@ -227,23 +234,23 @@ module _ {J : Type 0} {book : Ghosts J} {known : ℕ → List (List ℕ) → Boo
           some-same : {x y : List OutItem} → Some x ≡ Some y → x ≡ y
           some-same same = cc
 
-  is-with : (told : List Step) (call : Call J book) (finished : Finished J book)
-      (returning : Returning J book)
+  is-with : (told : List Step) (call : Call J book) (finished : FinishedJob J book)
+      (returning : ReturningCall J book)
       → call.finished ≡ Some finished → call.returning ≡ Some returning
       → IsCall known names carries told call
       → IsCallOf known names carries told call.id call.method call.number (shown call.half)
       (Some finished) (Some returning)
   is-with told call finished returning is_finished is_returning is =
-      subst (λ (r : Option (Returning J book)).
+      subst (λ (r : Option (ReturningCall J book)).
       IsCallOf known names carries told call.id call.method call.number (shown call.half)
       (Some finished) r) is_returning
-      (subst (λ (f : Option (Finished J book)).
+      (subst (λ (f : Option (FinishedJob J book)).
       IsCallOf known names carries told call.id call.method call.number (shown call.half) f
       call.returning) is_finished is)
 
   -- so it is of a call that is over: `inner` is what lay in the box
-  pub settled-by : (told : List Step) (call : Call J book) (finished : Finished J book)
-      (returning : Returning J book) (inner : Sending J book) (sender : OutSender)
+  pub settled-by : (told : List Step) (call : Call J book) (finished : FinishedJob J book)
+      (returning : ReturningCall J book) (inner : SendingEnd J book) (sender : OutSender)
       (input : InAccount) (output : OutAccount) (status : Option ℕ) (items : List InPiece)
       (shut : Option Shut)
       → is_over call ≡ true → status ≡ told_status (put_shut finished.given.shut) finished.status
@@ -256,7 +263,8 @@ module _ {J : Type 0} {book : Ghosts J} {known : ℕ → List (List ℕ) → Boo
       → slice_get call.number.seen.log call.number.value
       ≡ slice_get inner.number.seen.log inner.number.value)
       → (shown call.half).items ≡ items → shut_in (shown call.half).closing ≡ shut
-      → ((messages : List (List ℕ)) → Took (got finished.taker.rx) finished.taker.progress messages
+      → ((messages : List (List ℕ))
+      → TakesMessages (got finished.taker.rx) finished.taker.progress messages
       → CountsIn (pieces_of items) shut messages finished.taker.progress.told input)
       → CountsOut (put_shut finished.given.shut) (got sender.rx) output
       → IsCall known names carries told call
@@ -277,11 +285,12 @@ module _ {J : Type 0} {book : Ghosts J} {known : ℕ → List (List ℕ) → Boo
       (over-closed (is_some call.finished) (is_some call.returning)
       (is_closed call.half) over) same_status
       (worked (one-worked call.number call.finished finished call.one_finished is_finished))
-      (subst (λ (s : Sending J book).
+      (subst (λ (s : SendingEnd J book).
       slice_get call.number.seen.log call.number.value
       ≡ slice_get s.number.seen.log s.number.value) is_inner
-      (sent (one ∙ ap (λ (s : Sending J book). s.number.value) (sym is_inner))))
-      (ap (λ (s : Sending J book). option_map (λ (o : OutSender). got o.rx) s.sender) (sym is_inner)
+      (sent (one ∙ ap (λ (s : SendingEnd J book). s.number.value) (sym is_inner))))
+      (ap (λ (s : SendingEnd J book).
+      option_map (λ (o : OutSender). got o.rx) s.sender) (sym is_inner)
       ∙ ap (λ (o : Option OutSender). option_map (λ (x : OutSender). got x.rx) o) is_sender)
       (λ messages took.
       counts-as (shown call.half).items items (shut_in (shown call.half).closing) shut messages

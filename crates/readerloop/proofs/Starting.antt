@@ -3,7 +3,7 @@ use Rattle.std.proofs.Common.{◌≡◌, ◌∙◌, ℕ, true, List, [], Option,
 use Rattle.std.specs.Prelude.{option_map, slice_get}
 use Rattle.account.specs.declared.call.OutItem.{OutItem}
 use Rattle.callbox.specs.declared.piece.InPiece.{InPiece}
-use Rattle.callbox.specs.InSides.{Took}
+use Rattle.callbox.specs.InSides.{TakesMessages}
 use Rattle.callparts.specs.Lanes.{OutSender}
 use Rattle.callparts.specs.Workers.{IsFreshWork}
 use Rattle.callparts.specs.Numbers.{in_lane_at, out_lane_at, request_at}
@@ -16,7 +16,7 @@ use Rattle.readerloop.specs.declared.calls.Calls.{Calls}
 use Rattle.readerloop.specs.declared.reading.Reading.{Reading}
 use Rattle.readerloop.specs.Readings.{HasSameRest, KeepsNext}
 use Rattle.readerloop.proofs.Collecting.{keeps-next}
-use Rattle.readerloop.specs.Halves.{Shown, unfed}
+use Rattle.readerloop.specs.Halves.{HalfView, unfed}
 
 -- what stands at a number
 pub request-stands : (log : List Work) (number : ℕ) (work : Work) (request : Request)
@@ -46,7 +46,7 @@ pub shown-unfed : (items : List InPiece) → items ≡ []
     → record { there = true; items = items; closing = None } ≡ unfed
 shown-unfed items none = ap (λ (i : List InPiece). Shown-of i) none
   where
-    Shown-of : List InPiece → Shown
+    Shown-of : List InPiece → HalfView
     Shown-of i = record { there = true; items = i; closing = None }
 
 -- the lane of what it is answered with
@@ -84,12 +84,12 @@ module _ {J M : Type 0} {book : Ghosts J} where
 
 -- of its ends nothing was made use of
 pub fresh-work : (work made : Work) → work ≡ made → got made.taker.rx ≡ []
-    → Took (got made.taker.rx) made.taker.progress [] → made.taker.progress.told ≡ None
+    → TakesMessages (got made.taker.rx) made.taker.progress [] → made.taker.progress.told ≡ None
     → put_in made.giver.tx ≡ [] → IsFreshWork work
 fresh-work work made is ungot took untold ungiven =
     subst (λ (w : Work). IsFreshWork w) (sym is) (
       ungot,
-      subst (λ (items : List InPiece). Took items made.taker.progress []) ungot took,
+      subst (λ (items : List InPiece). TakesMessages items made.taker.progress []) ungot took,
       untold,
       ungiven,
     )

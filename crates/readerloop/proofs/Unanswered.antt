@@ -23,7 +23,7 @@ use Rattle.std.proofs.Common.{
 use Rattle.std.specs.Prelude.{if◌then◌else◌}
 use Rattle.account.specs.declared.call.OutItem.{OutItem}
 use Rattle.account.specs.declared.call.OutItem.TheVariants.{Head, Left, Message, Trailers}
-use Rattle.account.specs.declared.call.Told.{Told}
+use Rattle.account.specs.declared.call.RequestEnd.{RequestEnd}
 use Rattle.callbox.specs.OutSides.{has_trailers}
 use Rattle.callhead.specs.declared.head.CallHead.{CallHead}
 use Rattle.callparts.specs.Workers.{IsAnswered, IsGivenAs}
@@ -38,7 +38,7 @@ use Rattle.callrun.specs.Responses.{
 }
 use Rattle.handlers.specs.declared.reply.Reply.{Reply}
 use Rattle.handlers.specs.declared.status.Status.{Status}
-use Rattle.handlers.specs.declared.step.Step.{Step as Answer}
+use Rattle.handlers.specs.declared.step.MethodStep.{MethodStep as Answer}
 
 trailers-there : (items more : List OutItem) → has_trailers items ≡ true
     → has_trailers (items ++ more) ≡ true
@@ -78,7 +78,7 @@ given-trailers items given (inr is) has =
 not-both : {A : Type 0} (b : Bool) → b ≡ true → b ≡ false → A
 not-both b is not = absurd (true≢false (sym is ∙ not))
 
-bare-outcome : (head : CallHead) (overdue : Bool) (said : Option Told) (answer : Answer)
+bare-outcome : (head : CallHead) (overdue : Bool) (said : Option RequestEnd) (answer : Answer)
     (items given : List OutItem) (status : Option ℕ)
     → IsGivenAs items given → has_trailers given ≡ false
     → IsOutcome head overdue said answer items status
@@ -104,7 +104,7 @@ abbrev pub told_status : List OutItem → Option ℕ → Option ℕ
 told_status given status = if has_trailers given then status else None
 
 pub answered-told : (answers : List (List ℕ) → Bool → Answer → Type 0) (head : CallHead)
-    (messages : List (List ℕ)) (said : Option Told) (given : List OutItem) (status : Option ℕ)
+    (messages : List (List ℕ)) (said : Option RequestEnd) (given : List OutItem) (status : Option ℕ)
     → IsAnswered answers head messages said given status
     → IsAnswered answers head messages said given (told_status given status)
 answered-told answers head messages said given status is = by (has_trailers given) refl

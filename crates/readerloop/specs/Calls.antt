@@ -24,18 +24,18 @@ use Rattle.std.specs.Prelude.{
 use Rattle.std.specs.List.{list_any, AllWithin, HoldsAt}
 use Rattle.std.specs.Option.{is_some}
 use Rattle.account.specs.declared.call.OutItem.{OutItem}
-use Rattle.callparts.specs.declared.job.Finished.{Finished}
-use Rattle.callparts.specs.declared.order.Sending.{Sending}
-use Rattle.callparts.specs.declared.order.Returning.{Returning}
+use Rattle.callparts.specs.declared.job.FinishedJob.{FinishedJob}
+use Rattle.callparts.specs.declared.order.SendingEnd.{SendingEnd}
+use Rattle.callparts.specs.declared.order.ReturningCall.{ReturningCall}
 use Rattle.callparts.specs.declared.register.CallNumber.{CallNumber}
 use Rattle.callparts.specs.declared.register.Naming.{Ghosts}
 use Rattle.callparts.specs.declared.work.Request.{Request}
 use Rattle.callparts.specs.Numbers.{request_at}
 use Rattle.callparts.specs.Workers.{AnswersAt}
-use Rattle.handlers.specs.declared.step.Step.{Step as Answer}
+use Rattle.handlers.specs.declared.step.MethodStep.{MethodStep as Answer}
 use Rattle.lane.specs.RingLane.{got, put_shut}
 use Rattle.readerloop.specs.declared.call.Call.{Call}
-use Rattle.readerloop.specs.Halves.{IsHalf, Shown, is_closed, shown}
+use Rattle.readerloop.specs.Halves.{HalfView, IsHalf, is_closed, shown}
 use Rattle.readerloop.specs.Steps.{
   Step,
   admitted,
@@ -76,23 +76,24 @@ AreNames narrow wide = (path : List ℕ) (index : ℕ) → narrow path index →
 -- ---- what came back of a call
 
 -- the sender of this stream's call got these items
-pub record Sent : Type 0 where
+pub record SentItems : Type 0 where
   pub id : ℕ
   pub items : List OutItem
 
 -- what is carried of a stream's call is what its sender got, by this list
-abbrev pub carried_in : List Sent → ℕ → List OutItem → Type 0
+abbrev pub carried_in : List SentItems → ℕ → List OutItem → Type 0
 carried_in sent id items = Contains sent (record { id = id; items = items })
 
 module _ {J : Type 0} {book : Ghosts J} where
   -- its worker answered what its client asked for
-  abbrev pub HasAnswered : (ℕ → List (List ℕ) → Bool → Answer → Type 0) → Finished J book → Type 0
+  abbrev pub HasAnswered : (ℕ → List (List ℕ) → Bool → Answer → Type 0)
+      → FinishedJob J book → Type 0
   HasAnswered known finished =
       AnswersAt known finished.number.seen.log finished.number.value (got finished.taker.rx)
       finished.taker.progress (put_shut finished.given.shut) finished.status
 
   -- its sender is there, and got what is carried of its stream
-  abbrev pub HasReturned : (ℕ → List OutItem → Type 0) → Sending J book → Type 0
+  abbrev pub HasReturned : (ℕ → List OutItem → Type 0) → SendingEnd J book → Type 0
   HasReturned carries sending = IsSomeAnd (request_at sending.number.seen.log sending.number.value)
       (λ request. IsSomeAnd sending.sender (λ sender. carries request.id (got sender.rx)))
 
@@ -108,8 +109,8 @@ module _ {J : Type 0} {book : Ghosts J} where
     -- whose path names its method. Its half is what the steps since make of it. What came back of
     -- it is as its worker and the writing side may hand it back.
     pub record IsCallOf (told : List Step) (id method : ℕ) (number : CallNumber J book)
-        (half : Shown) (finished : Option (Finished J book))
-        (returning : Option (Returning J book)) : Type 0 where
+        (half : HalfView) (finished : Option (FinishedJob J book))
+        (returning : Option (ReturningCall J book)) : Type 0 where
       pub request : Request
       pub asked : request_at number.seen.log number.value ≡ Some request
       pub same_id : request.id ≡ id

@@ -20,19 +20,24 @@ use Rattle.callbox.specs.declared.piece.InPiece.{InPiece}
 use Rattle.callbox.specs.declared.piece.InPiece.TheVariants as in_piece
 use Rattle.callbox.specs.InSides.{bytes_of, pieces_of}
 use Rattle.lane.specs.RingLane.{LaneName, in_name, put_in, put_shut, shut_name}
-use Rattle.readerloop.specs.declared.half.Half.{Half}
-use Rattle.readerloop.specs.declared.half.Half.TheVariants.{Open, Shut as Closed, Missed, Moving}
+use Rattle.readerloop.specs.declared.feeder_half.FeederHalf.{FeederHalf}
+use Rattle.readerloop.specs.declared.feeder_half.FeederHalf.TheVariants.{
+  Open,
+  Shut as Closed,
+  Missed,
+  Moving,
+}
 use Rattle.readerloop.specs.Steps.{Closing, Misses, ShutAs, Step, closing_by, fed_by}
 
 -- ---- what a half shows
 
 -- whether it is there, what went through its lane, and how it was closed
-pub record Shown : Type 0 where
+pub record HalfView : Type 0 where
   pub there : Bool
   pub items : List InPiece
   pub closing : Option Closing
 
-abbrev pub shown : Half → Shown
+abbrev pub shown : FeederHalf → HalfView
 shown (Open feeder) = record { there = true; items = put_in feeder.tx; closing = None }
 shown (Closed end) =
     record { there = true; items = put_shut end.shut; closing = Some (ShutAs end.kind) }
@@ -40,28 +45,28 @@ shown (Missed feeder) = record { there = true; items = put_in feeder.tx; closing
 shown Moving = record { there = false; items = []; closing = None }
 
 -- which lane it feeds
-abbrev pub lane_of : Half → Option LaneName
+abbrev pub lane_of : FeederHalf → Option LaneName
 lane_of (Open feeder) = Some (in_name feeder.tx)
 lane_of (Closed end) = Some (shut_name end.shut)
 lane_of (Missed feeder) = Some (in_name feeder.tx)
 lane_of Moving = None
 
 -- whether more may be fed
-abbrev pub is_open : Half → Bool
+abbrev pub is_open : FeederHalf → Bool
 is_open (Open feeder) = true
 is_open (Closed end) = false
 is_open (Missed feeder) = false
 is_open Moving = false
 
 -- whether it was closed
-abbrev pub is_closed : Half → Bool
+abbrev pub is_closed : FeederHalf → Bool
 is_closed (Open feeder) = false
 is_closed (Closed end) = true
 is_closed (Missed feeder) = true
 is_closed Moving = false
 
 -- a call of which nothing came yet
-abbrev pub unfed : Shown
+abbrev pub unfed : HalfView
 unfed = record { there = true; items = []; closing = None }
 
 -- the items with a piece after them, unless it is empty or the half was closed
@@ -74,7 +79,7 @@ grown (byte ∷ bytes) (Some closing) items = items
 
 -- The half of this call is what these steps make of it: the bytes that were fed, joined; how it was
 -- closed; and no piece is empty.
-pub record IsHalf (id : ℕ) (steps : List Step) (shown : Shown) : Type 0 where
+pub record IsHalf (id : ℕ) (steps : List Step) (shown : HalfView) : Type 0 where
   pub there : shown.there ≡ true
   pub fed : bytes_of shown.items ≡ fed_by id steps
   pub closing : shown.closing ≡ closing_by id steps

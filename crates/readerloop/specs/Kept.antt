@@ -26,7 +26,7 @@ use Rattle.callhead.specs.declared.head.CallHead.{CallHead}
 use Rattle.callparts.specs.declared.work.Request.{Request}
 use Rattle.callparts.specs.Numbers.{request_at}
 use Rattle.callparts.specs.Blocks.{items_of}
-use Rattle.handlers.specs.declared.step.Step.{Step as Answer}
+use Rattle.handlers.specs.declared.step.MethodStep.{MethodStep as Answer}
 use Rattle.readerloop.specs.declared.call.Call.{Call}
 use Rattle.readerloop.specs.declared.calls.Calls.{Calls}
 use Rattle.readerloop.specs.Calls.{IsCall}

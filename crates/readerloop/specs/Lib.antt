@@ -7,7 +7,7 @@ pub mod Awaited
 pub mod Orders
 pub mod Reports
 pub mod Kept
-pub mod Seats
+pub mod WorkerHandles
 pub mod Readings
 pub mod Streams
 pub mod AccountFrames

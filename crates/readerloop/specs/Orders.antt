@@ -45,7 +45,7 @@ use Rattle.h2frame.specs.declared.error_code.ErrorCode.TheVariants.{
   EnhanceYourCalm,
 }
 use Rattle.lists.specs.declared.field.Field.{Field}
-use Rattle.outwriter.specs.declared.control.Control.TheVariants.{
+use Rattle.outwriter.specs.declared.control.WriterOrder.TheVariants.{
   Settings,
   Ping,
   Window,
@@ -57,8 +57,8 @@ use Rattle.outwriter.specs.declared.control.Control.TheVariants.{
 use Rattle.outwriter.specs.Steps.{Order}
 use Rattle.reasons.specs.declared.Reason.TheVariants as reason
 use Rattle.reasons.specs.Codes.{code_of}
-use Rattle.session.specs.declared.event.Control.{Control}
-use Rattle.session.specs.declared.event.Control.TheVariants as controls
+use Rattle.session.specs.declared.event.PeerControl.{PeerControl}
+use Rattle.session.specs.declared.event.PeerControl.TheVariants as controls
 use Rattle.session.specs.declared.event.InEvent.TheVariants as events
 use Rattle.readerloop.specs.Calls.{is_admitted}
 use Rattle.readerloop.specs.Steps.{
@@ -135,17 +135,17 @@ abbrev pub IsDue : ℕ → List ℕ → List Step → Type 0
 IsDue id piece told = (piece ≢ []) × (is_fed id told ≡ true)
 
 -- what the peer says to the writing side goes on as it is
-abbrev pub news_of : Control → Order
+abbrev pub news_of : PeerControl → Order
 news_of (controls.Settings settings) = Settings settings
 news_of (controls.Ping bytes) = Ping bytes
 news_of (controls.Window id increment) = Window id increment
 
--- a call that isn't admitted is reset as not begun; for want of memory the connection ends, and
--- also where an id doesn't rise, which doesn't occur
+-- A call that isn't admitted is reset as not begun. For want of memory the connection ends, and
+-- also where an id isn't greater than those before it (RFC 9113, section 5.1.1).
 abbrev pub turned_away : ℕ → ℕ → AdmitFault → Order
 turned_away last id refused.TooMany = Reset id RefusedStream true
 turned_away last id refused.Draining = Reset id RefusedStream true
-turned_away last id refused.NotNew = Goaway last reason.Memory
+turned_away last id refused.NotNew = Goaway last (reason.Code ProtocolError)
 turned_away last id refused.OutOfMemory = Goaway last reason.Memory
 
 -- how a stream that begins is answered: `last` is the last stream of a GOAWAY
@@ -211,7 +211,7 @@ orders_by (step ∷ before) = orders_by before ++ orders_at before step
 abbrev pub ends_if_refused : AdmitFault → Option Ending
 ends_if_refused refused.TooMany = None
 ends_if_refused refused.Draining = None
-ends_if_refused refused.NotNew = Some RanOut
+ends_if_refused refused.NotNew = Some (Failed ProtocolError)
 ends_if_refused refused.OutOfMemory = Some RanOut
 
 abbrev pub ends_by : Fate → Option Ending

@@ -20,8 +20,8 @@ use Rattle.std.specs.Prelude.{
   Some,
 }
 use Rattle.account.specs.declared.call.OutItem.{OutItem}
-use Rattle.callparts.specs.declared.order.Opening.{Opening}
-use Rattle.callparts.specs.declared.order.Returning.{Returning}
+use Rattle.callparts.specs.declared.order.OpeningCall.{OpeningCall}
+use Rattle.callparts.specs.declared.order.ReturningCall.{ReturningCall}
 use Rattle.callparts.specs.declared.work.Request.{Request}
 use Rattle.callparts.specs.Blocks.{has_room}
 use Rattle.callparts.specs.Numbers.{request_at}
@@ -31,15 +31,15 @@ use Rattle.connbook.specs.declared.answers.AdmitFault.TheVariants.{Draining}
 use Rattle.connbook.specs.declared.answers.Receipt.{Receipt}
 use Rattle.connbook.specs.declared.answers.Receipt.TheVariants.{Feed, Discard, CallWindow, Overrun}
 use Rattle.h2frame.specs.declared.error_code.ErrorCode.TheVariants.{NoError}
-use Rattle.handlers.specs.declared.step.Step.{Step as Answer}
-use Rattle.outwriter.specs.declared.control.Control.{Control}
-use Rattle.outwriter.specs.declared.control.Control.TheVariants.{Open, Goaway}
+use Rattle.handlers.specs.declared.step.MethodStep.{MethodStep as Answer}
+use Rattle.outwriter.specs.declared.control.WriterOrder.{WriterOrder}
+use Rattle.outwriter.specs.declared.control.WriterOrder.TheVariants.{Open, Goaway}
 use Rattle.outwriter.specs.Steps.{Order, order_of}
-use Rattle.readerloop.specs.declared.decided.Cut.{Cut}
-use Rattle.readerloop.specs.declared.decided.Decided.{Decided}
+use Rattle.readerloop.specs.declared.decision.HalfToShut.{HalfToShut}
+use Rattle.readerloop.specs.declared.decision.Decision.{Decision}
 use Rattle.readerloop.specs.declared.reading.Reading.{Reading}
 use Rattle.lane.specs.Ring.{out_name, taken}
-use Rattle.readerloop.specs.Calls.{HasReturned, Sent, carried_in}
+use Rattle.readerloop.specs.Calls.{HasReturned, SentItems, carried_in}
 use Rattle.readerloop.specs.Concerns.{Concerns}
 use Rattle.readerloop.specs.Kept.{Keeps, Kept}
 use Rattle.readerloop.specs.Orders.{
@@ -72,18 +72,18 @@ abbrev pub goaway_in : Option ℕ → List Order
 goaway_in None = []
 goaway_in (Some last) = Goaway last (reason.Code NoError) ∷ []
 
-abbrev pub order_in : {S : Type 0} → Option (Control S) → List Order
+abbrev pub order_in : {S : Type 0} → Option (WriterOrder S) → List Order
 order_in None = []
 order_in (Some order) = order_of order ∷ []
 
 -- what became of a piece that was to be fed: it was, or its lane refused it, or there was no memory
 -- for it
-abbrev pub fate_of_feed : {S : Type 0} → Option (Control S) → Option Ending → Fate
+abbrev pub fate_of_feed : {S : Type 0} → Option (WriterOrder S) → Option Ending → Fate
 fate_of_feed None ends = Received Feed
 fate_of_feed (Some order) None = Missed
 fate_of_feed (Some order) (Some ending) = Lacking
 
-abbrev pub fate_of : {S : Type 0} → Receipt → Option (Control S) → Option Ending → Fate
+abbrev pub fate_of : {S : Type 0} → Receipt → Option (WriterOrder S) → Option Ending → Fate
 fate_of Feed order ends = fate_of_feed order ends
 fate_of Discard order ends = Received Discard
 fate_of CallWindow order ends = Received CallWindow
@@ -109,12 +109,12 @@ unless_ended (Some ending) fate = Lacking
 -- ---- by what was heard
 
 module _ {J : Type 0} {book : Ghosts J} where
-  abbrev pub orders_in : Decided J book → List Order
+  abbrev pub orders_in : Decision J book → List Order
   orders_in decided = goaway_in decided.goaway ++ order_in decided.order
 
   -- The order opens the stream of this request, and its sender has the call's number in the
   -- register.
-  abbrev pub Opens : Request → Control (Opening J book) → Type 0
+  abbrev pub Opens : Request → WriterOrder (OpeningCall J book) → Type 0
   Opens request (Open id opening) =
       (id ≡ request.id)
       × (request_at opening.sending.value.number.seen.log opening.sending.value.number.value
@@ -157,7 +157,7 @@ module _ {J M : Type 0} {book : Ghosts J} where
       pub goaway : reading.peer_goaway ≡ true → WasTold PeerGoaway told
 
     -- These steps led to it, and with this step they do once the half is shut as the decision says.
-    pub record Awaits (told : List Step) (step : Step) (cut : Cut)
+    pub record Awaits (told : List Step) (step : Step) (cut : HalfToShut)
         (reading : Reading J M book) : Type 0 where
       pub calls : Kept known names carries told reading.calls
       pub drains : reading.is_draining ≡ is_draining told
@@ -177,43 +177,43 @@ module _ {J M : Type 0} {book : Ghosts J} where
       pub names_on : named (step ∷ told) ≡ named_with id (is_draining told) (named told)
       pub goes_on : is_draining (step ∷ told) ≡ is_draining told
 
-    abbrev pub Stands : List Step → Step → Option Cut → Reading J M book → Type 0
+    abbrev pub Stands : List Step → Step → Option HalfToShut → Reading J M book → Type 0
     Stands told step None reading = Reads (step ∷ told) reading
     Stands told step (Some cut) reading = Awaits told step cut reading
 
     -- The decision is what a step leads to after these: its orders, and how the connection ends, if
     -- it does.
-    pub record Decides (told : List Step) (step : Step) (decided : Decided J book)
+    pub record Decides (told : List Step) (step : Step) (decided : Decision J book)
         (reading : Reading J M book) : Type 0 where
       pub orders : orders_in decided ≡ orders_at told step
       pub ends : decided.ends ≡ ends_at step
-      pub stands : Stands told step decided.cut reading
+      pub stands : Stands told step decided.to_shut reading
 
   module _ (known : ℕ → List (List ℕ) → Bool → Answer → Type 0) (names : List ℕ → ℕ → Type 0) where
     -- whatever steps led to it before, and whatever is carried
-    abbrev pub DecidesOn : Step → Decided J book → Reading J M book → Reading J M book → Type 0
+    abbrev pub DecidesOn : Step → Decision J book → Reading J M book → Reading J M book → Type 0
     DecidesOn step decided old new =
-        (sent : List Sent) (told : List Step) → Reads known names (carried_in sent) told old
+        (sent : List SentItems) (told : List Step) → Reads known names (carried_in sent) told old
         → Decides known names (carried_in sent) told step decided new
 
     -- the steps that led to it before lead to it after: with this step, or alone
     abbrev pub ReadsOn : Step → Reading J M book → Reading J M book → Type 0
     ReadsOn step old new =
-        (sent : List Sent) (told : List Step) → Reads known names (carried_in sent) told old
+        (sent : List SentItems) (told : List Step) → Reads known names (carried_in sent) told old
         → Reads known names (carried_in sent) (step ∷ told) new
 
     abbrev pub Stays : Reading J M book → Reading J M book → Type 0
     Stays old new =
-        (sent : List Sent) (told : List Step) → Reads known names (carried_in sent) told old
+        (sent : List SentItems) (told : List Step) → Reads known names (carried_in sent) told old
         → Reads known names (carried_in sent) told new
 
     -- More calls came back from workers, and more senders, which got what is carried. All but the
     -- calls, the workers and the ring of senders is unchanged, and what may be admitted is too.
     pub record HasCollected (old new : Reading J M book) : Type 0 where
-      pub more : List (Returning J book)
+      pub more : List (ReturningCall J book)
       pub took : taken new.home ≡ taken old.home ++ more
       pub name : out_name new.home ≡ out_name old.home
-      pub keeps : (sent : List Sent)
+      pub keeps : (sent : List SentItems)
           → All (λ returning. HasReturned (carried_in sent) returning.sending.value) more
           → Keeps known names (carried_in sent) old.calls new.calls
       pub accounts : new.calls.accounts ≡ old.calls.accounts
@@ -227,8 +227,8 @@ module _ {J M : Type 0} {book : Ghosts J} where
     -- carried
     abbrev pub CollectsTo : Reading J M book → Reading J M book → Type 0
     CollectsTo old new =
-        (more : List (Returning J book)) × (taken new.home ≡ taken old.home ++ more)
-        × ((sent : List Sent) (told : List Step)
+        (more : List (ReturningCall J book)) × (taken new.home ≡ taken old.home ++ more)
+        × ((sent : List SentItems) (told : List Step)
         → All (λ returning. HasReturned (carried_in sent) returning.sending.value) more
         → Reads known names (carried_in sent) told old
         → Reads known names (carried_in sent) told new)

@@ -8,7 +8,7 @@ use Rattle.account.specs.declared.call.OutItem.{OutItem}
 use Rattle.account.specs.declared.call.Shut.TheVariants as shut
 use Rattle.callbox.specs.OutSides.{has_trailers}
 use Rattle.callhead.specs.declared.head.CallHead.{CallHead}
-use Rattle.handlers.specs.declared.step.Step.{Step as Answer}
+use Rattle.handlers.specs.declared.step.MethodStep.{MethodStep as Answer}
 use Rattle.outwriter.specs.Steps.{Order}
 use Rattle.session.specs.declared.event.InEvent.{InEvent}
 use Rattle.session.specs.Events.{Events}

@@ -13,7 +13,7 @@ use Rattle.h2frame.specs.declared.error_code.ErrorCode.TheVariants.{
   EnhanceYourCalm,
 }
 use Rattle.callhead.specs.StatusFields.{unknown_method}
-use Rattle.outwriter.specs.declared.control.Control.TheVariants.{Open, Refuse, Reset, Goaway}
+use Rattle.outwriter.specs.declared.control.WriterOrder.TheVariants.{Open, Refuse, Reset, Goaway}
 use Rattle.reasons.specs.declared.Reason.TheVariants as reason
 use Rattle.session.specs.declared.event.InEvent.TheVariants as events
 use Rattle.readerloop.specs.Orders.{ends_at, orders_at, orders_by}

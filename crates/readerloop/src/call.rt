@@ -28,12 +28,12 @@ ghost use Rattle.callparts.specs.Numbers.{OptionalName_set, in_lane_at};
 ghost use Rattle.readerloop.specs.Halves.{is_open, lane_of};
 ghost use Rattle.readerloop.specs.Steps.{Misses, Received, ShutAs, Step, Told, closing_at};
 
-use crate::half::Half;
+use crate::feeder_half::FeederHalf;
 use account::Shut;
 use bytes::Bytes;
 use callbox::{FeedFault, GivenShut, settle_in, settle_out};
 use callparts::{
-    Answering, CallAccount, CallNumber, Finished, Naming, OutLane, Returning, Sending,
+    Answering, CallAccount, CallNumber, FinishedJob, Naming, OutLane, ReturningCall, SendingEnd,
 };
 use h2frame::StreamId;
 use lane::End;
@@ -50,11 +50,11 @@ pub struct Call<J: Naming> {
     pub(crate) place: usize,
     /// The worker that answers it, until the worker has handed it back.
     pub(crate) seat: usize,
-    pub(crate) half: Half,
+    pub(crate) half: FeederHalf,
     /// What its worker has handed back.
-    pub(crate) finished: Option<Finished<J>>,
+    pub(crate) finished: Option<FinishedJob<J>>,
     /// Its sender, once the writing side has handed it back.
-    pub(crate) returning: Option<Returning<J>>,
+    pub(crate) returning: Option<ReturningCall<J>>,
     /// Its half feeds the lane that it has in the register.
     ghost one_lane: { in_lane_at number.seen.log number.value
         ≡ lane_of half } by { OptionalName_set
@@ -73,7 +73,7 @@ impl<J: Naming> Call<J> {
       HasReturned,
       IsCall,
       Rises,
-      Sent,
+      SentItems,
       carried_in,
       is_over,
     };
@@ -118,11 +118,11 @@ impl<J: Naming> Call<J> {
 
     /// Feeds a piece to it, if more may be fed.
     pub(crate) fn feed<M: Answering>(&mut self, piece: Bytes) -> Result<(), FeedFault>
-        ensures heard { OnOk result ((sent : List Sent) (counted : ℕ)
+        ensures heard { OnOk result ((sent : List SentItems) (counted : ℕ)
             (told : List Step) → IsCall M.known M.names (carried_in sent) told self.old
             → IsCall M.known M.names (carried_in sent)
             (Told (events.Data self.old.id piece counted) (Received Feed) ∷ told) self.new) }
-        ensures stays { OnErr result ((sent : List Sent) (told : List Step)
+        ensures stays { OnErr result ((sent : List SentItems) (told : List Step)
             → IsCall M.known M.names (carried_in sent) told self.old
             → IsCall M.known M.names (carried_in sent) told self.new) }
         ensures due { OnErr result ((piece ≢ []) × (is_open self.old.half ≡ true)) }
@@ -135,7 +135,7 @@ impl<J: Naming> Call<J> {
 
     /// Shuts its half in this way. A half that was closed before stays as it is.
     pub(crate) fn shut<M: Answering>(&mut self, kind: Shut)
-        ensures heard { (sent : List Sent) (told : List Step) (step : Step)
+        ensures heard { (sent : List SentItems) (told : List Step) (step : Step)
             → Rises told step → closing_at self.old.id step ≡ Some (ShutAs kind)
             → IsCall M.known M.names (carried_in sent) told self.old
             → IsCall M.known M.names (carried_in sent) (step ∷ told) self.new }
@@ -149,7 +149,7 @@ impl<J: Naming> Call<J> {
 
     /// Misses a piece: lets its half go, if more may be fed to it.
     pub(crate) fn miss<M: Answering>(&mut self)
-        ensures heard { (sent : List Sent) (told : List Step) (step : Step)
+        ensures heard { (sent : List SentItems) (told : List Step) (step : Step)
             → Rises told step → closing_at self.old.id step ≡ Some Misses
             → IsCall M.known M.names (carried_in sent) told self.old
             → IsCall M.known M.names (carried_in sent) (step ∷ told) self.new }
@@ -161,8 +161,8 @@ impl<J: Naming> Call<J> {
     }
 
     /// Takes what its worker has handed back, if that has its number.
-    pub(crate) fn finish<M: Answering>(&mut self, finished: Finished<J>)
-        ensures stays { (sent : List Sent) (told : List Step)
+    pub(crate) fn finish<M: Answering>(&mut self, finished: FinishedJob<J>)
+        ensures stays { (sent : List SentItems) (told : List Step)
             → HasAnswered M.known finished → IsCall M.known M.names (carried_in sent) told self.old
             → IsCall M.known M.names (carried_in sent) told self.new }
         ensures id { self.new.id ≡ self.old.id }
@@ -178,8 +178,8 @@ impl<J: Naming> Call<J> {
     }
 
     /// Takes what the writing side has handed back, if that has its number.
-    pub(crate) fn take_back<M: Answering>(&mut self, returning: Returning<J>)
-        ensures stays { (sent : List Sent) (told : List Step)
+    pub(crate) fn take_back<M: Answering>(&mut self, returning: ReturningCall<J>)
+        ensures stays { (sent : List SentItems) (told : List Step)
             → HasReturned (carried_in sent) returning.sending.value
             → IsCall M.known M.names (carried_in sent) told self.old
             → IsCall M.known M.names (carried_in sent) told self.new }
@@ -200,7 +200,7 @@ impl<J: Naming> Call<J> {
     pub(crate) fn settle<M: Answering>(self) -> CallAccount
         requires over { is_over self ≡ true }
         ensures id { result.id ≡ self.id }
-        ensures settled { (sent : List Sent) (told : List Step)
+        ensures settled { (sent : List SentItems) (told : List Step)
             → IsCall M.known M.names (carried_in sent) told self
             → IsSettled M.known M.names (carried_in sent) told result }
     {
@@ -214,7 +214,7 @@ impl<J: Naming> Call<J> {
             ..
         } = self;
         let Some(
-            Finished {
+            FinishedJob {
                 number: worked,
                 taker,
                 given,
@@ -225,10 +225,10 @@ impl<J: Naming> Call<J> {
         else {
             unreachable!();
         };
-        let Some(Returning { sending }) = returning else {
+        let Some(ReturningCall { sending }) = returning else {
             unreachable!();
         };
-        let Sending {
+        let SendingEnd {
             number: sent,
             sender,
         } = Box::into_inner(sending);

@@ -32,7 +32,7 @@ ghost use Rattle.callparts.specs.Blocks.{has_room};
 ghost use Rattle.connbook.specs.declared.answers.Receipt.TheVariants.{Feed};
 ghost use Rattle.session.specs.declared.event.InEvent.TheVariants as events;
 ghost use Rattle.readerloop.specs.Awaited.{AwaitsAll, IsDone, IsSent, is_undone, is_unsent};
-ghost use Rattle.readerloop.specs.Calls.{HasAnswered, HasReturned, Sent, carried_in, is_over};
+ghost use Rattle.readerloop.specs.Calls.{HasAnswered, HasReturned, SentItems, carried_in, is_over};
 ghost use Rattle.readerloop.specs.Concerns.{Concerns};
 ghost use Rattle.readerloop.specs.Kept.{
   AreCut,
@@ -65,7 +65,7 @@ use crate::call::Call;
 use account::Shut;
 use bytes::Bytes;
 use callbox::FeedFault;
-use callparts::{Accounts, Answering, CallAccount, CallNumber, Finished, Naming, Returning};
+use callparts::{Accounts, Answering, CallAccount, CallNumber, FinishedJob, Naming, ReturningCall};
 use h2frame::StreamId;
 use std::alloc::{AllocError, Global};
 
@@ -82,7 +82,7 @@ pub struct Calls<J: Naming> {
 
 impl<J: Naming> Calls<J> {
     pub(crate) fn new<M: Answering>(alloc: Global) -> Calls<J>
-        ensures kept { (sent : List Sent)
+        ensures kept { (sent : List SentItems)
             → Kept M.known M.names (carried_in sent) [] result }
         ensures none { unsettled result ≡ [] }
     {
@@ -128,7 +128,7 @@ impl<J: Naming> Calls<J> {
         requires account_room { has_room self.old.accounts.count self.old.accounts.last ≡ true }
         requires above { self.old.last < call.id }
         requires place { call.place ≡ length (accounts_of self.old) }
-        ensures heard { (sent : List Sent) (head : Head)
+        ensures heard { (sent : List SentItems) (head : Head)
             (told : List Step) → IsFresh M.names head call → is_draining told ≡ false
             → Kept M.known M.names (carried_in sent) told self.old
             → Kept M.known M.names (carried_in sent)
@@ -147,7 +147,7 @@ impl<J: Naming> Calls<J> {
     pub(crate) fn pass_over<M: Answering>(&mut self, id: StreamId, method: usize)
         requires account_room { has_room self.old.accounts.count self.old.accounts.last ≡ true }
         requires above { self.old.last < id }
-        ensures heard { (sent : List Sent) (head : Head)
+        ensures heard { (sent : List SentItems) (head : Head)
             (why : Lack) (told : List Step) → M.names head.path method → is_draining told ≡ false
             → Kept M.known M.names (carried_in sent) told self.old
             → Kept M.known M.names (carried_in sent)
@@ -182,13 +182,13 @@ impl<J: Naming> Calls<J> {
         id: StreamId,
         piece: Bytes,
     ) -> Result<Option<usize>, FeedFault>
-        ensures heard { OnOk result ((sent : List Sent) (counted : ℕ)
+        ensures heard { OnOk result ((sent : List SentItems) (counted : ℕ)
             → Hears M.known M.names (carried_in sent)
             (Told (events.Data id piece counted) (Received Feed))
             self.old self.new) }
-        ensures stays { OnErr result ((sent : List Sent)
+        ensures stays { OnErr result ((sent : List SentItems)
             → Keeps M.known M.names (carried_in sent) self.old self.new) }
-        ensures due { OnErr result ((sent : List Sent) (told : List Step)
+        ensures due { OnErr result ((sent : List SentItems) (told : List Step)
             → Kept M.known M.names (carried_in sent) told self.old → IsDue id piece told) }
         ensures awaits { AwaitsAll (unsettled self.old) (unsettled self.new) }
     {
@@ -205,7 +205,7 @@ impl<J: Naming> Calls<J> {
     /// Shuts the half of the call of this stream in this way. A half that was closed before stays
     /// as it is. Answers the worker that is to look whether the call is still live.
     pub(crate) fn shut<M: Answering>(&mut self, id: StreamId, kind: Shut) -> Option<usize>
-        ensures heard { (sent : List Sent) (step : Step)
+        ensures heard { (sent : List SentItems) (step : Step)
             → Concerns id step → closing_at id step ≡ Some (ShutAs kind)
             → Hears M.known M.names (carried_in sent) step self.old self.new }
         ensures accounts { self.new.accounts ≡ self.old.accounts }
@@ -223,7 +223,7 @@ impl<J: Naming> Calls<J> {
 
     /// The call of this stream misses a piece, if more may be fed to it.
     pub(crate) fn miss<M: Answering>(&mut self, id: StreamId)
-        ensures heard { (sent : List Sent) (step : Step)
+        ensures heard { (sent : List SentItems) (step : Step)
             → Concerns id step → closing_at id step ≡ Some Misses
             → Hears M.known M.names (carried_in sent) step self.old self.new }
         ensures awaits { AwaitsAll (unsettled self.old) (unsettled self.new) }
@@ -272,8 +272,8 @@ impl<J: Naming> Calls<J> {
     }
 
     /// A worker has handed a call back.
-    pub(crate) fn finish<M: Answering>(&mut self, finished: Finished<J>)
-        ensures stays { (sent : List Sent)
+    pub(crate) fn finish<M: Answering>(&mut self, finished: FinishedJob<J>)
+        ensures stays { (sent : List SentItems)
             → HasAnswered M.known finished
             → Keeps M.known M.names (carried_in sent) self.old self.new }
         ensures accounts { self.new.accounts ≡ self.old.accounts }
@@ -291,8 +291,8 @@ impl<J: Naming> Calls<J> {
     }
 
     /// The writing side has handed a sender back.
-    pub(crate) fn take_back<M: Answering>(&mut self, returning: Returning<J>)
-        ensures stays { (sent : List Sent)
+    pub(crate) fn take_back<M: Answering>(&mut self, returning: ReturningCall<J>)
+        ensures stays { (sent : List SentItems)
             → HasReturned (carried_in sent) returning.sending.value
             → Keeps M.known M.names (carried_in sent) self.old self.new }
         ensures accounts { self.new.accounts ≡ self.old.accounts }
@@ -313,10 +313,10 @@ impl<J: Naming> Calls<J> {
     /// Settles a call that is over, if there is one. Its account is final.
     pub(crate) fn settle_next<M: Answering>(&mut self) -> Option<CallAccount>
         ensures settled { IfSome result (λ account.
-            (sent : List Sent) (told : List Step)
+            (sent : List SentItems) (told : List Step)
             → Kept M.known M.names (carried_in sent) told self.old
             → IsSettled M.known M.names (carried_in sent) told account) }
-        ensures stays { (sent : List Sent)
+        ensures stays { (sent : List SentItems)
             → Keeps M.known M.names (carried_in sent) self.old self.new }
         ensures room { has_room self.new.accounts.count self.new.accounts.last
             ≡ has_room self.old.accounts.count self.old.accounts.last }

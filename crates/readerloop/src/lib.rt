@@ -9,21 +9,23 @@
 //! how they close it, `specs/Orders.antt` exactly which orders they lead to, and
 //! `specs/Reports.antt` what the account of a call rests on.
 //!
-//! - `half`: the half of a call that its client sends; `call`: one call; `calls`: all of them.
-//! - `seats`: the workers, each by a ring of tasks and a ring of finished calls.
-//! - `reading`: what is decided of each event; `decided`: the form of a decision; `laws`: what
-//!   follows from the definitions.
+//! - `feeder_half`: the half of a call that its client sends; `call`: one call; `calls`: all of
+//!   them.
+//! - `worker_pool`: the workers, each by a ring of tasks and a ring of finished calls.
+//! - `reading`: what is decided of each event, with `reading::streams` for streams that begin,
+//!   `reading::data` for what comes on them, and `reading::past_calls` for calls that are over.
+//! - `decision`: the form of a decision; `laws`: what follows from the definitions.
 #![tactic(auto)]
 
 pub mod call;
 pub mod calls;
-pub mod decided;
-pub mod half;
+pub mod decision;
+pub mod feeder_half;
 pub mod laws;
 pub mod reading;
-pub mod seats;
+pub mod worker_pool;
 
-pub use decided::{Cut, Decided};
-pub use half::Half;
+pub use decision::{Decision, HalfToShut};
+pub use feeder_half::FeederHalf;
 pub use reading::Reading;
-pub use seats::Seat;
+pub use worker_pool::WorkerHandle;

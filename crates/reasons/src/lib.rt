@@ -1,4 +1,4 @@
-//! Why a server ends a connection, as GOAWAY has it (RFC 9113, sections 5.4.1 and 6.8): the code,
+//! Why a server ends a connection, as GOAWAY says it (RFC 9113, sections 5.4.1 and 6.8): the code,
 //! and the debug data, one line of English for the author of the client. The texts are those of the
 //! log (`connlog`), without the figures of the connection.
 #![tactic(auto)]

@@ -32,7 +32,7 @@ const LOOK: u64 = 60;
 /// pauses holds up no connection.
 #[derive(Drop)]
 pub struct Backlog {
-    waiting: Mutex<Waiting>,
+    waiting: Mutex<WaitingLines>,
     /// Rung when lines were left, when no more will come, and when the thread is over.
     bell: Bell,
     is_closed: AtomicBool,
@@ -43,7 +43,7 @@ pub struct Backlog {
 
 /// What is to be printed.
 #[derive(Drop)]
-struct Waiting {
+struct WaitingLines {
     /// Whole lines.
     text: String,
     /// How many lines were dropped after them.
@@ -60,7 +60,7 @@ impl Backlog {
         let backlog = Arc::new(
             alloc,
             Backlog {
-                waiting: Mutex::new(Waiting {
+                waiting: Mutex::new(WaitingLines {
                     text: String::new(alloc),
                     dropped: 0,
                 }),
@@ -132,7 +132,7 @@ impl Backlog {
 }
 
 /// Prints lines, and then how many were dropped.
-fn print_lines(rt: &impl Eprint, lines: &Waiting) -> io::Result<()> {
+fn print_lines(rt: &impl Eprint, lines: &WaitingLines) -> io::Result<()> {
     let text = lines.text.as_str();
     eprint!(rt; "{text}")?;
     let dropped = lines.dropped;
@@ -144,7 +144,7 @@ fn print_lines(rt: &impl Eprint, lines: &Waiting) -> io::Result<()> {
     Ok(())
 }
 
-impl Waiting {
+impl WaitingLines {
     /// Adds whole lines, or counts them.
     fn put(&mut self, lines: &str)
         // They are after those that wait, or none of them is.
@@ -173,7 +173,7 @@ impl Waiting {
     }
 
     /// Takes all that waits, unless that is nothing.
-    fn take(&mut self, alloc: Global) -> Option<Waiting>
+    fn take(&mut self, alloc: Global) -> Option<WaitingLines>
         ensures taken { IfSome result (λ lines. lines ≡ self.old) }
     {
         if self.text.is_empty() && self.dropped == 0 {
@@ -181,7 +181,7 @@ impl Waiting {
         }
         Some(mem::replace(
             self,
-            Waiting {
+            WaitingLines {
                 text: String::new(alloc),
                 dropped: 0,
             },

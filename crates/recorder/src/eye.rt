@@ -5,7 +5,7 @@ ghost use Rattle.tap.specs.Passing.{device_of, tap_of};
 
 use crate::ends::Ends;
 use crate::notes::Notes;
-use crate::outputs::Unwritten;
+use crate::outputs::UnwrittenFile;
 use crate::places::Recorder;
 use crate::start::Start;
 use crate::transcript::Transcript;
@@ -17,10 +17,10 @@ use std::net::{OpenStream, SocketAddr};
 use std::rt::Files;
 use std::sync::{Arc, Mutex, Wait};
 use std::time::Clock;
-use tap::{Tap, Tapped};
+use tap::{Tap, TappedDevice};
 
 /// A connection at which someone may look.
-pub type Line<S, R> = Tapped<S, Eye<R>>;
+pub type Line<S, R> = TappedDevice<S, Eye<R>>;
 
 /// What is known of a connection that begins.
 #[derive(Clone, Copy)]
@@ -50,12 +50,12 @@ struct Watch {
     /// Which side this program is.
     side: Side,
     start: Start,
-    kept: Mutex<Kept>,
+    kept: Mutex<KeptConn>,
 }
 
 /// What is known of it, and the file for its bytes.
 #[derive(Drop)]
-struct Kept {
+struct KeptConn {
     notes: Notes,
     transcript: Option<Transcript>,
 }
@@ -97,7 +97,7 @@ impl<R: Wait + Clock + Eprint + Drop> Eye<R> {
             recorder: Arc::try_clone(recorder)?,
             side: sight.side,
             start,
-            kept: Mutex::new(Kept { notes, transcript }),
+            kept: Mutex::new(KeptConn { notes, transcript }),
         };
         let watch = Arc::new(recorder.alloc, watch)?;
         Ok(Eye { rt, watch })
@@ -159,15 +159,15 @@ impl Watch {
             ..
         } = self;
         let passed = start.passed(rt);
-        let Kept { notes, transcript } = kept.into_inner();
+        let KeptConn { notes, transcript } = kept.into_inner();
         drop(transcript);
         let entry = notes.end(passed, start.time(passed));
         recorder.write(rt, entry);
     }
 }
 
-impl Kept {
-    fn add(&mut self, passed: u64, side: Side, bytes: &[u8]) -> Result<(), Unwritten> {
+impl KeptConn {
+    fn add(&mut self, passed: u64, side: Side, bytes: &[u8]) -> Result<(), UnwrittenFile> {
         match &mut self.transcript {
             Some(file) => file.add(passed, side, bytes),
             None => Ok(()),
@@ -259,7 +259,7 @@ where
     ensures plain { IsNone recorder.now → IsNone (tap_of result) }
 {
     if recorder.is_none() {
-        return Tapped::new(stream, None);
+        return TappedDevice::new(stream, None);
     }
     let eye = match addresses_of(&stream) {
         Ok((own, peer)) => look(
@@ -276,7 +276,7 @@ where
         ),
         Err(_ended) => None,
     };
-    Tapped::new(stream, eye)
+    TappedDevice::new(stream, eye)
 }
 
 /// Its own address, and that of the other side.

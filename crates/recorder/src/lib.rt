@@ -10,7 +10,7 @@
 //! their own, and too many are left out.
 //!
 //! Read `notes` for what is made of what passes, without threads or files; `outputs`, `backlog`,
-//! `transcript` and `places` for where it is written; `eye` for connections, `overlooked` for a
+//! `transcript` and `places` for where it is written; `eye` for connections, `watched_net` for a
 //! network all of whose connections are looked at; `start` and `ends` for times and addresses.
 #![tactic(auto)]
 
@@ -20,12 +20,12 @@ mod eye;
 mod fault;
 mod notes;
 mod outputs;
-mod overlooked;
 mod places;
 mod start;
 mod transcript;
+mod watched_net;
 
 pub use eye::{Eye, Line, Sight, look_and_record, look_at_server};
 pub use fault::RecorderFault;
-pub use overlooked::{Overlooked, OverlookedListener};
 pub use places::Recorder;
+pub use watched_net::{WatchedListener, WatchedNet};

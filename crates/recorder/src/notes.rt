@@ -8,7 +8,7 @@ use crate::start::Seconds;
 use capture::{Conversation, Side, Time};
 use connlog::Observer;
 use std::alloc::{AllocError, Global};
-use trace::{Form, Line, Shown, Trace};
+use trace::{Form, Line, ShownLine, Trace};
 
 /// How many sequence numbers TCP has (RFC 9293, section 3.4).
 const SEQUENCES: u64 = 4_294_967_296;
@@ -235,7 +235,7 @@ fn push_lines(
     lines: &[Line],
 ) -> Result<(), AllocError> {
     for line in lines {
-        let shown = Shown { line, form };
+        let shown = ShownLine { line, form };
         writeln!(text, "conn {number} {shown}")?;
     }
     Ok(())

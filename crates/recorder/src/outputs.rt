@@ -26,21 +26,21 @@ pub struct Outputs {
 
 /// What can't be written, and why.
 #[derive(Drop)]
-pub struct Unwritten {
+pub struct UnwrittenFile {
     pub what: &'static str,
     pub why: io::Error,
 }
 
-impl Unwritten {
-    pub fn new(what: &'static str, why: io::Error) -> Unwritten {
-        Unwritten { what, why }
+impl UnwrittenFile {
+    pub fn new(what: &'static str, why: io::Error) -> UnwrittenFile {
+        UnwrittenFile { what, why }
     }
 }
 
 impl Outputs {
     /// Writes the whole of it, each kind at once. Lines for standard error are left to the thread
     /// that prints them.
-    pub fn write(&mut self, rt: &impl Wait, entry: &Entry) -> Result<(), Unwritten> {
+    pub fn write(&mut self, rt: &impl Wait, entry: &Entry) -> Result<(), UnwrittenFile> {
         let lines = entry.lines.as_str();
         if !lines.is_empty() {
             match &mut self.lines {
@@ -48,7 +48,7 @@ impl Outputs {
                 Lines::Standard(backlog) => backlog.leave(rt, lines),
                 Lines::File(file) => {
                     if let Err(why) = file.write_all(lines.as_bytes()) {
-                        return Err(Unwritten::new("the trace", why));
+                        return Err(UnwrittenFile::new("the trace", why));
                     }
                 }
             }
@@ -56,11 +56,11 @@ impl Outputs {
         self.capture(entry.records.as_slice())
     }
 
-    fn capture(&mut self, records: &[u8]) -> Result<(), Unwritten> {
+    fn capture(&mut self, records: &[u8]) -> Result<(), UnwrittenFile> {
         match &mut self.capture {
             Some(file) if !records.is_empty() => match file.write_all(records) {
                 Ok(()) => Ok(()),
-                Err(why) => Err(Unwritten::new("the capture", why)),
+                Err(why) => Err(UnwrittenFile::new("the capture", why)),
             },
             _ => Ok(()),
         }

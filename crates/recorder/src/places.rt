@@ -6,7 +6,7 @@ ghost use Rattle.recorder.specs.Noted.{IsQuiet};
 use crate::backlog::Backlog;
 use crate::fault::RecorderFault;
 use crate::notes::{Entry, Wish};
-use crate::outputs::{Lines, Outputs, Unwritten};
+use crate::outputs::{Lines, Outputs, UnwrittenFile};
 use crate::transcript::{Transcript, name_of};
 use capture::file_head;
 use std::alloc::{AllocError, Global};
@@ -149,7 +149,7 @@ impl Recorder {
                 let mut outputs = self.outputs.lock(rt);
                 outputs.write(rt, &entry)
             }
-            Err(AllocError) => Err(Unwritten::new(
+            Err(AllocError) => Err(UnwrittenFile::new(
                 "what passes",
                 io::Error::from(ErrorKind::OutOfMemory),
             )),
@@ -160,11 +160,11 @@ impl Recorder {
     }
 
     /// Something couldn't be written. The first time that is said.
-    pub(crate) fn fail(&self, rt: &impl Eprint, unwritten: Unwritten) {
+    pub(crate) fn fail(&self, rt: &impl Eprint, unwritten: UnwrittenFile) {
         if self.has_failed.swap(true, Ordering::SeqCst) {
             return;
         }
-        let Unwritten { what, why } = unwritten;
+        let UnwrittenFile { what, why } = unwritten;
         // The exit status reports it even if nothing can be written here.
         let _said = eprintln!(rt; "interop: {what} can't be written: {why}");
     }

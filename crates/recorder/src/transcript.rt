@@ -1,7 +1,7 @@
 //! The bytes of a connection, as text that `trace::sent_of` reads: a line for what a side sent at a
 //! time, as `1204 client 505249`.
 
-use crate::outputs::Unwritten;
+use crate::outputs::UnwrittenFile;
 use capture::Side;
 use std::alloc::{AllocError, Global};
 use std::fs::File;
@@ -31,22 +31,22 @@ impl Transcript {
         alloc: Global,
         folder: &str,
         number: u64,
-    ) -> Result<Transcript, Unwritten> {
+    ) -> Result<Transcript, UnwrittenFile> {
         match open(rt, alloc, folder, number) {
             Ok(file) => Ok(Transcript { alloc, file }),
-            Err(why) => Err(Unwritten::new(WHAT, why)),
+            Err(why) => Err(UnwrittenFile::new(WHAT, why)),
         }
     }
 
     /// A side has sent these bytes, `passed` microseconds after the connection began.
-    pub fn add(&mut self, passed: u64, side: Side, bytes: &[u8]) -> Result<(), Unwritten> {
+    pub fn add(&mut self, passed: u64, side: Side, bytes: &[u8]) -> Result<(), UnwrittenFile> {
         let written = match line_of(self.alloc, passed, side, bytes) {
             Ok(line) => self.file.write_all(line.as_bytes()),
             Err(AllocError) => Err(io::Error::from(ErrorKind::OutOfMemory)),
         };
         match written {
             Ok(()) => Ok(()),
-            Err(why) => Err(Unwritten::new(WHAT, why)),
+            Err(why) => Err(UnwrittenFile::new(WHAT, why)),
         }
     }
 }

@@ -71,15 +71,16 @@ use Rattle.results.specs.KnownList.{
   has_name,
   names,
 }
-use Rattle.results.specs.declared.known.Known.{Known}
-use Rattle.results.specs.declared.known.KnownFault.{KnownFault}
-use Rattle.results.specs.declared.known.KnownFault.TheVariants.{BadLine, OutOfMemory}
+use Rattle.results.specs.declared.known_failure.KnownFailure.{KnownFailure}
+use Rattle.results.specs.declared.known_failure.KnownFault.{KnownFault}
+use Rattle.results.specs.declared.known_failure.KnownFault.TheVariants.{BadLine, OutOfMemory}
 
 pub contains_one : (x y : List ℕ) → Contains (x ∷ []) y → x ≡ y
 contains_one x y (zero, lt, e) = e
 contains_one x y (suc k, lt, e) = absurd (omega arith)
 
-named_at : (first : Known) (all : List Known) (name : List ℕ) (known : Known) (b : Bool)
+named_at : (first : KnownFailure) (all : List KnownFailure) (name : List ℕ)
+    (known : KnownFailure) (b : Bool)
     → has_name name first ≡ b
     → cond b (Some first) (find (has_name name) all) ≡ Some known
     → (find (has_name name) all ≡ Some known → Contains (names (map entry all)) name)
@@ -91,13 +92,14 @@ named_at first all name known false same found later =
     Contains-append_right (string_bytes first.name ∷ []) (names (map entry all)) name (later found)
 
 -- a name that was found is one of the names
-pub named_some : (all : List Known) (name : List ℕ) (known : Known)
+pub named_some : (all : List KnownFailure) (name : List ℕ) (known : KnownFailure)
     → find (has_name name) all ≡ Some known → Contains (names (map entry all)) name
 named_some [] name known found = absurd (none-some known found)
 named_some (first ∷ all) name known found =
     named_at first all name known (has_name name first) refl found (named_some all name known)
 
-unnamed_at : (first : Known) (all : List Known) (name : List ℕ) (b : Bool) → has_name name first ≡ b
+unnamed_at : (first : KnownFailure) (all : List KnownFailure) (name : List ℕ) (b : Bool)
+    → has_name name first ≡ b
     → cond b (Some first) (find (has_name name) all) ≡ None
     → (find (has_name name) all ≡ None → Contains (names (map entry all)) name → ⊥)
     → Contains (names (map entry (first ∷ all))) name → ⊥
@@ -113,7 +115,7 @@ unnamed_at first all name false same found later inside =
     ]
 
 -- and one that wasn't is none of them
-pub named_none : (all : List Known) (name : List ℕ) → find (has_name name) all ≡ None
+pub named_none : (all : List KnownFailure) (name : List ℕ) → find (has_name name) all ≡ None
     → Contains (names (map entry all)) name → ⊥
 named_none [] name found (k, lt, e) = omega arith
 named_none (first ∷ all) name found inside =
@@ -159,7 +161,8 @@ pub nothing_more : (before : List Entry) (line : List ℕ) → None ≡ entry_of
 nothing_more before line none =
     sym (ap (λ (more : Option Entry). before ++ cons_option more []) (sym none) ∙ append-nil before)
 
-pub one_more : (before after : List Known) (line : List ℕ) (known : Known) (found : Entry)
+pub one_more : (before after : List KnownFailure) (line : List ℕ)
+    (known : KnownFailure) (found : Entry)
     → Some found ≡ entry_of line → entry known ≡ found
     → after ≡ before ++ known ∷ [] → map entry after ≡ map entry before ++ entries (line ∷ [])
 one_more before after line known found some same pushed =
@@ -168,7 +171,8 @@ one_more before after line known found some same pushed =
     (ap (λ (one : Entry). one ∷ []) same ∙ ap (λ (more : Option Entry). cons_option more []) some))
 
 -- and is right
-pub good_more : (before after : List Known) (known : Known) (found : Entry) → entry known ≡ found
+pub good_more : (before after : List KnownFailure) (known : KnownFailure) (found : Entry)
+    → entry known ≡ found
     → IsRightAfter (map entry before) found
     → after ≡ before ++ known ∷ [] → AreGood (map entry before) → AreGood (map entry after)
 good_more before after known found same right pushed good =
@@ -202,14 +206,14 @@ wrong_line lines i d before (BadLine place name reason) below same good wrong =
 wrong_line lines i d before OutOfMemory below same good wrong = tt
 
 -- what a search for a name gave, as a reference
-pub found_name : (all : List Known) (name : List ℕ) (found : Option (Bor Known))
-    → option_map (λ (known : Bor Known). known.now) found ≡ find (has_name name) all
+pub found_name : (all : List KnownFailure) (name : List ℕ) (found : Option (Bor KnownFailure))
+    → option_map (λ (known : Bor KnownFailure). known.now) found ≡ find (has_name name) all
     → is_some found ≡ true → Contains (names (map entry all)) name
 found_name all name (Some known) same some = named_some all name known.now (sym same)
 found_name all name None same some = cc
 
-pub lost_name : (all : List Known) (name : List ℕ) (found : Option (Bor Known))
-    → option_map (λ (known : Bor Known). known.now) found ≡ find (has_name name) all
+pub lost_name : (all : List KnownFailure) (name : List ℕ) (found : Option (Bor KnownFailure))
+    → option_map (λ (known : Bor KnownFailure). known.now) found ≡ find (has_name name) all
     → is_some found ≡ false → Contains (names (map entry all)) name → ⊥
 lost_name all name None same none = named_none all name (sym same)
 lost_name all name (Some known) same none = cc

@@ -48,7 +48,7 @@ use Rattle.results.specs.Renewals.{
   with_entries,
   with_entry,
 }
-use Rattle.results.specs.declared.known.Known.{Known}
+use Rattle.results.specs.declared.known_failure.KnownFailure.{KnownFailure}
 use Rattle.results.specs.declared.outcome.Outcome.{Outcome}
 
 with_more : (list xs ys : List Entry)
@@ -71,13 +71,14 @@ renewed_more {A} f start xs i x before after below here was is =
     ∙ with_more start (filter_map f (take i xs)) (filter_map f (get_or xs i x ∷ []))))))
 
 -- a name among known failures and among their entries
-pub named_same : (name : List ℕ) (all : List Known)
+pub named_same : (name : List ℕ) (all : List KnownFailure)
     → list_any (has_name name) all ≡ list_any (is_named name) (map entry all)
 named_same name [] = refl
 named_same name (first ∷ all) = ap (λ (b : Bool). has_name name first || b) (named_same name all)
 
-pub lines_same : (all : List Known)
-    → flat_map (λ (known : Known). line_of (entry known)) all ≡ flat_map line_of (map entry all)
+pub lines_same : (all : List KnownFailure)
+    → flat_map (λ (known : KnownFailure). line_of (entry known)) all
+    ≡ flat_map line_of (map entry all)
 lines_same [] = refl
 lines_same (first ∷ all) = ap (λ (text : List ℕ). line_of (entry first) ++ text) (lines_same all)
 
@@ -134,7 +135,7 @@ own_all list (next ∷ all) own =
     own_all (with_entry list next) all
     (own_with list next (list_any (is_named next.name) list) refl own)
 
-pub renewal_own : (known : List Known) (outcomes : List Outcome)
+pub renewal_own : (known : List KnownFailure) (outcomes : List Outcome)
     → HaveOwnNames (renewal known outcomes)
 unfolding renewal
 renewal_own known outcomes =

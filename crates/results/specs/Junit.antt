@@ -28,7 +28,7 @@ use Rattle.results.specs.Standings.{fails_the_run, standing_of}
 use Rattle.results.specs.Summaries.{same_verdict}
 use Rattle.results.specs.Words.{level_word, suite_word, verdict_word}
 use Rattle.results.specs.Xml.{declaration, element, empty_element, xml_text}
-use Rattle.results.specs.declared.known.Known.{Known}
+use Rattle.results.specs.declared.known_failure.KnownFailure.{KnownFailure}
 use Rattle.results.specs.declared.outcome.Outcome.{Outcome}
 use Rattle.results.specs.declared.standing.Standing.{Standing}
 use Rattle.results.specs.declared.words.Level.{Level}
@@ -72,7 +72,7 @@ plain_message outcome =
     verdict_word outcome.verdict ++ level_note outcome.level ++ codes ": " ++ cause_of outcome
 
 -- what is said of one on the list of known failures
-abbrev pub known_message : Option Known → Outcome → List ℕ
+abbrev pub known_message : Option KnownFailure → Outcome → List ℕ
 known_message None outcome = plain_message outcome
 known_message (Some known) outcome = codes "known: " ++ string_bytes known.reason
 

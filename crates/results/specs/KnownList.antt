@@ -28,11 +28,11 @@ use Rattle.std.specs.Borrow.{Bor}
 use Rattle.std.specs.List.{after_first, before_first, filter_map, list_any}
 use Rattle.std.specs.Str.{trim}
 use Rattle.std.specs.Str.{bytes_eq}
-use Rattle.results.specs.declared.known.Known.{Known}
-use Rattle.results.specs.declared.known.KnownFault.{KnownFault}
-use Rattle.results.specs.declared.known.KnownFault.TheVariants as fault
-use Rattle.results.specs.declared.known.KnownReason.{KnownReason}
-use Rattle.results.specs.declared.known.Said.{Said}
+use Rattle.results.specs.declared.known_failure.KnownFailure.{KnownFailure}
+use Rattle.results.specs.declared.known_failure.KnownFault.{KnownFault}
+use Rattle.results.specs.declared.known_failure.KnownFault.TheVariants as fault
+use Rattle.results.specs.declared.known_failure.KnownReason.{KnownReason}
+use Rattle.results.specs.declared.known_failure.KnownLine.{KnownLine}
 
 -- a case that may fail: its name, why, and whether it may pass too
 pub record Entry : Type 0 where
@@ -40,14 +40,14 @@ pub record Entry : Type 0 where
   pub reason : List ℕ
   pub is_unsteady : Bool
 
-abbrev pub entry : Known → Entry
+abbrev pub entry : KnownFailure → Entry
 entry known = record {
   name = string_bytes known.name;
   reason = string_bytes known.reason;
   is_unsteady = known.is_unsteady;
 }
 
-abbrev pub said : Said → Entry
+abbrev pub said : KnownLine → Entry
 said words =
     record { name = words.name.now; reason = words.reason.now; is_unsteady = words.is_unsteady }
 
@@ -122,9 +122,9 @@ Explains all (fault.BadLine number name reason) = IsFirstWrong all number name.n
 Explains all fault.OutOfMemory = ⊤
 
 -- the known failure with this name
-abbrev pub has_name : List ℕ → Known → Bool
+abbrev pub has_name : List ℕ → KnownFailure → Bool
 has_name name known = bytes_eq (string_bytes known.name) name
 
 -- a known failure whose name isn't among these
-abbrev pub is_stray : List (Bor (List ℕ)) → Known → Bool
+abbrev pub is_stray : List (Bor (List ℕ)) → KnownFailure → Bool
 is_stray all known = not (list_any (λ name. bytes_eq name.now (string_bytes known.name)) all)

@@ -25,7 +25,7 @@ use Rattle.std.specs.Str.{bytes_eq}
 use Rattle.results.specs.Causes.{cause_of}
 use Rattle.results.specs.KnownList.{Entry, entry, names}
 use Rattle.results.specs.Summaries.{same_verdict}
-use Rattle.results.specs.declared.known.Known.{Known}
+use Rattle.results.specs.declared.known_failure.KnownFailure.{KnownFailure}
 use Rattle.results.specs.declared.outcome.Outcome.{Outcome}
 use Rattle.results.specs.declared.words.Suite.{Suite}
 use Rattle.results.specs.declared.words.Verdict.{Verdict}
@@ -37,13 +37,13 @@ new_listing suite Verdict.Unsteady = Some true
 new_listing Suite.Misbehave Verdict.NotTested = Some false
 new_listing suite verdict = None
 
-abbrev pub listing : Option Known → Suite → Verdict → Option Bool
+abbrev pub listing : Option KnownFailure → Suite → Verdict → Option Bool
 listing None suite verdict = new_listing suite verdict
 listing (Some known) suite verdict =
     if known.is_unsteady then Some true else new_listing suite verdict
 
 -- the reason of one that is known stays
-abbrev pub reason_of : Outcome → Option Known → List ℕ
+abbrev pub reason_of : Outcome → Option KnownFailure → List ℕ
 reason_of outcome None = cause_of outcome
 reason_of outcome (Some known) = string_bytes known.reason
 
@@ -68,7 +68,7 @@ failed_entry outcomes outcome =
     option_map (entry_after outcomes outcome) (listing outcome.known outcome.suite outcome.verdict)
 
 -- a known failure whose case wasn't run stays
-abbrev pub unrun_entry : List Outcome → Known → Option Entry
+abbrev pub unrun_entry : List Outcome → KnownFailure → Option Entry
 unrun_entry outcomes known =
     if list_any (is_of (string_bytes known.name)) outcomes then None else Some (entry known)
 
@@ -88,7 +88,7 @@ with_entries list (next ∷ more) = with_entries (with_entry list next) more
 abbrev pub failed_entries : List Outcome → List Entry
 failed_entries outcomes = with_entries [] (filter_map (failed_entry outcomes) outcomes)
 
-unfoldable pub renewal : List Known → List Outcome → List Entry
+unfoldable pub renewal : List KnownFailure → List Outcome → List Entry
 renewal known outcomes =
     with_entries (failed_entries outcomes) (filter_map (unrun_entry outcomes) known)
 

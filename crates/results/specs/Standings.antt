@@ -1,6 +1,6 @@
 -- What is said of an outcome beside a list of known failures, and which outcomes fail a run.
 use Rattle.std.specs.Prelude.{Bool, true, false, Option, Some, None}
-use Rattle.results.specs.declared.known.Known.{Known}
+use Rattle.results.specs.declared.known_failure.KnownFailure.{KnownFailure}
 use Rattle.results.specs.declared.outcome.Outcome.{Outcome}
 use Rattle.results.specs.declared.standing.Standing.{Standing}
 use Rattle.results.specs.declared.words.Suite.{Suite}
@@ -17,7 +17,7 @@ listed_standing true Verdict.Ok = Standing.AsFound
 listed_standing false Verdict.Ok = Standing.Mended
 listed_standing is_unsteady Verdict.NotApplicable = Standing.AsFound
 
-abbrev pub standing_by : Option Known → Verdict → Standing
+abbrev pub standing_by : Option KnownFailure → Verdict → Standing
 standing_by None verdict = Standing.AsFound
 standing_by (Some known) verdict = listed_standing known.is_unsteady verdict
 

@@ -25,7 +25,7 @@ use Rattle.results.specs.Causes.{cause_of}
 use Rattle.results.specs.Outcomes.{titled}
 use Rattle.results.specs.Standings.{fails_the_run, standing_of}
 use Rattle.results.specs.Words.{level_word, suite_word, verdict_word}
-use Rattle.results.specs.declared.known.Known.{Known}
+use Rattle.results.specs.declared.known_failure.KnownFailure.{KnownFailure}
 use Rattle.results.specs.declared.outcome.Outcome.{Outcome}
 use Rattle.results.specs.declared.outcome.Rule.{Rule}
 use Rattle.results.specs.declared.standing.Standing.{Standing}
@@ -65,7 +65,7 @@ status Point.Todo = codes "not ok"
 abbrev pub plain_why : Outcome → List ℕ
 plain_why outcome = verdict_word outcome.verdict ++ codes ": " ++ cause_of outcome
 
-abbrev pub known_why : Option Known → Outcome → List ℕ
+abbrev pub known_why : Option KnownFailure → Outcome → List ℕ
 known_why None outcome = plain_why outcome
 known_why (Some known) outcome = string_bytes known.reason
 

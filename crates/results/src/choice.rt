@@ -68,10 +68,7 @@ impl<'a, T: Drop> From<AllocFailed<T>> for ChoiceFault<'a> {
 impl<'a> fmt::Display for ChoiceFault<'a> {
     fn fmt<W: fmt::Write>(&self, f: &mut fmt::Formatter<W>) -> fmt::Result {
         match *self {
-            ChoiceFault::NoCase(word) => write!(
-                f,
-                "{word} is the name of no case: --list prints all"
-            ),
+            ChoiceFault::NoCase(word) => write!(f, "there is no case {word}: --list prints all"),
             ChoiceFault::NothingLeft => f.write_str("--skip and --level leave no case"),
             ChoiceFault::OutOfMemory => f.write_str("no memory was to be had"),
         }

@@ -20,7 +20,7 @@ ghost use Rattle.results.specs.Json.{
   traffic_members,
 };
 
-use crate::known::Known;
+use crate::known_failure::KnownFailure;
 use crate::outcome::{Outcome, Rule, shown};
 use crate::standing::Standing;
 use crate::summary::Summary;
@@ -109,7 +109,7 @@ fn standing_word(standing: Standing) -> Option<&'static str>
 }
 
 /// The reason of a known failure, if it is one.
-fn known_reason(known: &Option<Known>) -> Option<&str>
+fn known_reason(known: &Option<KnownFailure>) -> Option<&str>
     ensures { option_map (λ shown. shown.now) result
         ≡ option_map (λ known. string_bytes known.reason) known.now }
 {

@@ -3,7 +3,7 @@
 ghost use Rattle.std.specs.Prelude.{◌≡◌, ◌++◌, IfOk, OnOk, option_map, string_bytes};
 ghost use Rattle.results.specs.Outcomes.{IsBare, title_note, titled};
 
-use crate::known::Known;
+use crate::known_failure::KnownFailure;
 use crate::words::{Level, Suite, Verdict};
 use std::alloc::{AllocError, Global};
 
@@ -49,7 +49,7 @@ pub struct Outcome {
     /// The frames that were read, in words.
     pub frames: Vec<String>,
     /// Its line in the list of known failures, where it has one.
-    pub known: Option<Known>,
+    pub known: Option<KnownFailure>,
 }
 
 impl Outcome {

@@ -25,7 +25,7 @@ ghost use Rattle.results.specs.Renewals.{
 };
 
 use crate::cause::cause_text;
-use crate::known::Known;
+use crate::known_failure::KnownFailure;
 use crate::outcome::Outcome;
 use crate::words::{Suite, Verdict};
 use std::alloc::{AllocError, Global};
@@ -92,11 +92,11 @@ fn known_after(
     outcomes: &[Outcome],
     outcome: &Outcome,
     is_unsteady: bool,
-) -> Result<Known, AllocError>
+) -> Result<KnownFailure, AllocError>
     ensures { IfOk result (λ known. entry known
         ≡ entry_after outcomes.now outcome.now is_unsteady) }
 {
-    Ok(Known {
+    Ok(KnownFailure {
         name: String::from_str(alloc, outcome.name.as_str())?,
         reason: reason_of(alloc, outcome)?,
         is_unsteady: is_unsteady || was_ok(outcomes, outcome.name.as_str()),
@@ -104,14 +104,14 @@ fn known_after(
 }
 
 /// Whether the list has a line of this name.
-fn is_listed(all: &[Known], name: &str) -> bool
+fn is_listed(all: &[KnownFailure], name: &str) -> bool
     ensures { result ≡ list_any (has_name name.now) all.now }
 {
     all.iter().any(|known| known.name.as_str() == name)
 }
 
 /// Adds a known failure, unless there is one of its name.
-fn push_new(all: &mut Vec<Known>, next: Known) -> Result<(), AllocError>
+fn push_new(all: &mut Vec<KnownFailure>, next: KnownFailure) -> Result<(), AllocError>
     ensures { OnOk result (map entry all.new.items
         ≡ with_entry (map entry all.old.items) (entry next)) }
 {
@@ -125,7 +125,7 @@ fn push_new(all: &mut Vec<Known>, next: Known) -> Result<(), AllocError>
 /// Adds the case of an outcome, where it belongs on the list.
 fn push_failed(
     alloc: Global,
-    all: &mut Vec<Known>,
+    all: &mut Vec<KnownFailure>,
     outcomes: &[Outcome],
     outcome: &Outcome,
 ) -> Result<(), AllocError>
@@ -143,9 +143,9 @@ fn push_failed(
 /// Adds a known failure, where its case was not run.
 fn push_unrun(
     alloc: Global,
-    all: &mut Vec<Known>,
+    all: &mut Vec<KnownFailure>,
     outcomes: &[Outcome],
-    known: &Known,
+    known: &KnownFailure,
 ) -> Result<(), AllocError>
     ensures { OnOk result (map entry all.new.items
         ≡ with_entries (map entry all.old.items)
@@ -159,7 +159,7 @@ fn push_unrun(
 }
 
 /// The cases that were run and belong on the list.
-fn failed(alloc: Global, outcomes: &[Outcome]) -> Result<Vec<Known>, AllocError>
+fn failed(alloc: Global, outcomes: &[Outcome]) -> Result<Vec<KnownFailure>, AllocError>
     ensures { IfOk result (λ all. map entry all.items ≡ failed_entries outcomes.now) }
 {
     let mut all = Vec::new(alloc);
@@ -172,8 +172,8 @@ fn failed(alloc: Global, outcomes: &[Outcome]) -> Result<Vec<Known>, AllocError>
 /// Adds the known failures whose cases were not run.
 fn push_others(
     alloc: Global,
-    all: &mut Vec<Known>,
-    known: &[Known],
+    all: &mut Vec<KnownFailure>,
+    known: &[KnownFailure],
     outcomes: &[Outcome],
 ) -> Result<(), AllocError>
     ensures { OnOk result (map entry all.new.items
@@ -188,7 +188,7 @@ fn push_others(
 
 /// Adds the line of a known failure.
 #[tactic(auto, unfolding(crate::specs::Renewals::line_of))]
-fn push_line(text: &mut String, known: &Known) -> Result<(), AllocError>
+fn push_line(text: &mut String, known: &KnownFailure) -> Result<(), AllocError>
     ensures { OnOk result (string_bytes text.new
         ≡ string_bytes text.old ++ line_of (entry known.now)) }
 {
@@ -201,7 +201,7 @@ fn push_line(text: &mut String, known: &Known) -> Result<(), AllocError>
 }
 
 /// The lines of known failures.
-fn lines_of(alloc: Global, all: &[Known]) -> Result<String, AllocError>
+fn lines_of(alloc: Global, all: &[KnownFailure]) -> Result<String, AllocError>
     ensures { IfOk result (λ text. string_bytes text
         ≡ flat_map (λ known. line_of (entry known)) all.now) }
 {
@@ -214,7 +214,11 @@ fn lines_of(alloc: Global, all: &[Known]) -> Result<String, AllocError>
 
 /// The list after a run: the cases that failed or are unsteady, in their order, and then those that
 /// were known and were not run.
-pub fn renewed(alloc: Global, known: &[Known], outcomes: &[Outcome]) -> Result<String, AllocError>
+pub fn renewed(
+    alloc: Global,
+    known: &[KnownFailure],
+    outcomes: &[Outcome],
+) -> Result<String, AllocError>
     ensures lines { IfOk result (λ text. string_bytes text
         ≡ list_text (renewal known.now outcomes.now)) }
     ensures once { IfOk result (λ _. HaveOwnNames (renewal known.now outcomes.now)) }

@@ -10,7 +10,7 @@ const ARROW: &str = "->";
 
 /// What a row gives, its text and the words of it, and the answer that it wants.
 #[derive(Clone, Copy)]
-pub struct Given<'a> {
+pub struct GivenRow<'a> {
     pub text: &'a str,
     pub words: &'a [&'a str],
     pub wanted: &'a str,
@@ -22,7 +22,7 @@ pub trait Subject {
     fn restart(&mut self, alloc: Global);
 
     /// Writes the answer to what a row gives, in the words of its file, after nothing.
-    fn answer(&mut self, alloc: Global, given: Given<'_>, answer: &mut String) -> Result<()>;
+    fn answer(&mut self, alloc: Global, given: GivenRow<'_>, answer: &mut String) -> Result<()>;
 }
 
 /// The line without its comment: all of one that begins with `#`, or what follows ` # `.
@@ -42,7 +42,7 @@ fn holds<S: Subject>(rt: &(impl Print + AllocGlobal), subject: &mut S, row: &str
     let (text, wanted) = (text.trim(), wanted.trim());
     let words: Vec<&str> = text.split_whitespace().collect(rt.alloc())?;
     let words = words.as_slice();
-    let given = Given {
+    let given = GivenRow {
         text,
         words,
         wanted,

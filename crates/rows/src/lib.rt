@@ -13,4 +13,4 @@ mod digits;
 mod file;
 
 pub use digits::{bytes_of, number};
-pub use file::{Given, Subject, try_file};
+pub use file::{GivenRow, Subject, try_file};

@@ -4,10 +4,10 @@ use crate::serial::{Order, Serial};
 use crate::worker::{InTurns, open_ways};
 use anyhow::{Result, bail};
 use callhead::CallHead;
-use callparts::{Line, Opening, Request, Returning};
+use callparts::{Line, OpeningCall, Request, ReturningCall};
 use h2frame::{ErrorCode, StreamId};
-use outwriter::Control;
-use readerloop::{Decided, Seat};
+use outwriter::WriterOrder;
+use readerloop::{Decision, WorkerHandle};
 use reasons::Reason;
 use session::InEvent;
 use std::alloc::AllocError;
@@ -138,7 +138,7 @@ impl<'a, R: Wait + Clock> Serial<'a, R> {
         let (tasks, done, ways) = open_ways(self.alloc)?;
         self.workers
             .push_reserved(InTurns::new(Arc::try_clone(&line)?, ways));
-        Ok(self.reading.add(Seat::new(line, tasks, done)))
+        Ok(self.reading.add(WorkerHandle::new(line, tasks, done)))
     }
 
     /// Takes what came back of calls, and settles those that are over. A look that was asked for is
@@ -157,15 +157,15 @@ impl<'a, R: Wait + Clock> Serial<'a, R> {
     }
 
     /// Does what was decided: what is ordered first, then the half that is to be shut.
-    fn act(&mut self, decided: Decided<Brand>) -> Result<()> {
+    fn act(&mut self, decided: Decision<Brand>) -> Result<()> {
         if let Some(last) = decided.goaway {
             let reason = Reason::Code(ErrorCode::NoError);
-            self.put(Control::Goaway { last, reason })?;
+            self.put(WriterOrder::Goaway { last, reason })?;
         }
         if let Some(order) = decided.order {
             self.put(order)?;
         }
-        if let Some(cut) = decided.cut {
+        if let Some(cut) = decided.to_shut {
             self.reading.shut(cut);
             self.shared.book.lock(self.rt).cut(cut.id);
         }
@@ -197,8 +197,8 @@ impl<'a, R: Wait + Clock> Serial<'a, R> {
                 self.collect(false)?;
             } else if self.shared.has_stopped() {
                 self.has_dropped = true;
-                if let Control::Open(_, Opening { sending, .. }) = order {
-                    self.reading.take_back(Returning { sending });
+                if let WriterOrder::Open(_, OpeningCall { sending, .. }) = order {
+                    self.reading.take_back(ReturningCall { sending });
                 }
                 return Ok(());
             }
@@ -215,7 +215,7 @@ impl<'a, R: Wait + Clock> Serial<'a, R> {
                 self.act(decided)?;
             }
         }
-        self.put(Control::InputEnded)?;
+        self.put(WriterOrder::InputEnded)?;
         self.reading.end();
         self.has_ended = true;
         Ok(())
@@ -223,22 +223,22 @@ impl<'a, R: Wait + Clock> Serial<'a, R> {
 
     /// No call is answered any more.
     pub fn close(&mut self) -> Result<()> {
-        self.put(Control::Close)
+        self.put(WriterOrder::Close)
     }
 }
 
 /// The word for an order.
 fn kind_of(order: &Order) -> &'static str {
     match order {
-        Control::Settings(_) => "settings",
-        Control::Ping(_) => "ping",
-        Control::Probe(_) => "probe",
-        Control::Window(_, _) => "window",
-        Control::Open(_, _) => "open",
-        Control::Refuse(_, _) => "refuse",
-        Control::Reset { .. } => "reset",
-        Control::Goaway { .. } => "goaway",
-        Control::InputEnded => "end",
-        Control::Close => "close",
+        WriterOrder::Settings(_) => "settings",
+        WriterOrder::Ping(_) => "ping",
+        WriterOrder::Probe(_) => "probe",
+        WriterOrder::Window(_, _) => "window",
+        WriterOrder::Open(_, _) => "open",
+        WriterOrder::Refuse(_, _) => "refuse",
+        WriterOrder::Reset { .. } => "reset",
+        WriterOrder::Goaway { .. } => "goaway",
+        WriterOrder::InputEnded => "end",
+        WriterOrder::Close => "close",
     }
 }

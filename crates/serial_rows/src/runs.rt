@@ -1,7 +1,7 @@
 //! Runs of a connection from its first byte to its last, and in what order their steps come.
 
 use crate::digits::times_of;
-use crate::serial::{Ran, Serial};
+use crate::serial::{RunOutcome, Serial};
 use anyhow::{Result, bail};
 use h2frame::StreamId;
 use handlers::Methods;
@@ -57,7 +57,7 @@ pub fn run_connection<R: Wait + Clock>(
     methods: &Methods,
     frames: &[Vec<u8>],
     course: Course<'_>,
-) -> Result<Ran> {
+) -> Result<RunOutcome> {
     let mut serial = Serial::new(rt, alloc, methods, frames, course)?;
     for word in course.steps.split_ascii_whitespace() {
         let (step, times) = times_of(word)?;

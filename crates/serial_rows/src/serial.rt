@@ -7,7 +7,7 @@ use crate::worker::InTurns;
 use anyhow::Result;
 use callparts::{Accounts, Ending, NewRegister, Request};
 use connbook::ConnBook;
-use device::Marked;
+use device::StdDevice;
 use h2frame::StreamId;
 use handlers::Methods;
 use lane::{Ring, RingIn};
@@ -20,9 +20,9 @@ use std::snapshot::Snapshot;
 use std::sync::ledger::{Blank, Share};
 use std::sync::{Arc, Wait};
 use std::time::Clock;
-use writerloop::{Filled, WriterEnding, Writing};
+use writerloop::{FillEnd, WriterEnding, Writing};
 
-pub type Shared = callworker::Shared<Brand, Brand, Brand>;
+pub type SharedConn = callworker::SharedConn<Brand, Brand, Brand>;
 
 pub type Order = callparts::Order<Brand>;
 
@@ -33,7 +33,7 @@ pub struct Serial<'a, R> {
     pub alloc: Global,
     pub methods: &'a Methods,
     pub course: Course<'a>,
-    pub shared: Arc<Shared>,
+    pub shared: Arc<SharedConn>,
     // ---- of the reader
     /// What is read, how many of these frames were, and whether no more come.
     pub frames: &'a [Vec<u8>],
@@ -69,9 +69,9 @@ pub struct Serial<'a, R> {
     pub ran_out: bool,
     // ---- of the writer
     pub told: Share<Brand>,
-    pub writing: Writing<Brand, Marked<Pipe>>,
+    pub writing: Writing<Brand, StdDevice<Pipe>>,
     /// What the buffer was filled with that wasn't written yet, and whether that was nothing.
-    pub filled: Option<(Filled, bool)>,
+    pub filled: Option<(FillEnd, bool)>,
     /// Whether nothing was to be written when it was looked at last.
     pub is_idle: bool,
     pub is_over: bool,
@@ -79,7 +79,7 @@ pub struct Serial<'a, R> {
 
 /// What came of a run.
 #[derive(Drop)]
-pub struct Ran {
+pub struct RunOutcome {
     pub written: Vec<u8>,
     pub ending: Ending,
     pub accounts: Accounts,
@@ -111,7 +111,7 @@ impl<'a, R: Wait + Clock> Serial<'a, R> {
         let (orders, taking) = Ring::open(alloc, course.orders)?;
         let (going, home) = Ring::open(alloc, course.home)?;
         let (register, front) = NewRegister::new().named::<Brand>();
-        let device = Marked::new(Pipe::new(alloc, course.most, course.fails_at)?);
+        let device = StdDevice::new(Pipe::new(alloc, course.most, course.fails_at)?);
         let was = Snapshot::of(&device);
         Ok(Serial {
             rt,
@@ -121,7 +121,7 @@ impl<'a, R: Wait + Clock> Serial<'a, R> {
             frames,
             at: 0,
             has_ended: false,
-            shared: callworker::Shared::new(alloc, book)?,
+            shared: callworker::SharedConn::new(alloc, book)?,
             came,
             admits,
             core: InCore::new(alloc),
@@ -164,7 +164,7 @@ impl<'a, R: Wait + Clock> Serial<'a, R> {
     }
 
     /// What came of it. What workers and writer had of calls comes back, and all are settled.
-    pub fn into_ran(self) -> Result<Ran> {
+    pub fn into_ran(self) -> Result<RunOutcome> {
         let Serial {
             mut reading,
             mut writing,
@@ -186,7 +186,7 @@ impl<'a, R: Wait + Clock> Serial<'a, R> {
             let ways = worker.into_ways();
             reading.meet(workers.len(), ways.tasks, ways.done);
         }
-        while let Some(returning) = written.rest.next() {
+        while let Some(returning) = written.senders.next() {
             reading.take_back(returning);
         }
         for _ in 0..=reading.unsettled() {
@@ -202,7 +202,7 @@ impl<'a, R: Wait + Clock> Serial<'a, R> {
         let has_all = accounts.len() == admitted && served + unserved == admitted;
         let has_taken = Ring::meet(&mut orders, &mut written.orders) == 0;
         let Pipe { bytes, calls, .. } = written.device.into_inner();
-        Ok(Ran {
+        Ok(RunOutcome {
             written: bytes,
             ending,
             is_accounted: has_settled && has_all && has_taken && are_rising(&accounts),

@@ -2,14 +2,14 @@
 
 use crate::digits::{bytes_of, frames_of};
 use crate::runs::{Course, run_connection};
-use crate::serial::Ran;
+use crate::serial::RunOutcome;
 use crate::told::Streams;
 use crate::words::Words;
 use account::Shut;
 use anyhow::{Context, Result, bail};
 use callparts::CallAccount;
 use handlers::Methods;
-use rows::{Given, Subject};
+use rows::{GivenRow, Subject};
 use std::alloc::Global;
 use std::fs;
 use std::rt::Files;
@@ -18,7 +18,7 @@ use std::time::Clock;
 
 /// How a run compares with what is wanted; the last of two is the worse.
 #[derive(Clone, Copy, Debug, PartialEq, Eq, PartialOrd, Ord)]
-enum Verdict {
+enum RowVerdict {
     /// All is as it is wanted.
     Same,
     /// Some of it is missing, of the stream alone that was reset, or after a failed write.
@@ -36,13 +36,13 @@ pub struct Connections<'a, R> {
 impl<R: Files + AllocGlobal + Wait + Clock> Subject for Connections<'_, R> {
     fn restart(&mut self, _alloc: Global) {}
 
-    fn answer(&mut self, alloc: Global, given: Given<'_>, answer: &mut String) -> Result<()> {
+    fn answer(&mut self, alloc: Global, given: GivenRow<'_>, answer: &mut String) -> Result<()> {
         let words = Words::read(given.text)?;
         let name = format!(in alloc; "{}.hex", words.name)?;
         let text = fs::read_to_string(self.rt, name.as_str()).context("no bytes")?;
         let frames = frames_of(alloc, bytes_of(alloc, text.as_str())?.as_slice())?;
         let (rt, methods) = (self.rt, self.methods);
-        let run = |course: Course<'_>| -> Result<Ran> {
+        let run = |course: Course<'_>| -> Result<RunOutcome> {
             run_connection(rt, alloc, methods, frames.as_slice(), course)
         };
         let course = words.course()?;
@@ -54,14 +54,14 @@ impl<R: Files + AllocGlobal + Wait + Clock> Subject for Connections<'_, R> {
             let name = format!(in alloc; "{}.out", words.name)?;
             fs::read_to_string(rt, name.as_str()).context("no text")?
         };
-        let wanted = Wanted {
+        let wanted = WantedRun {
             alloc,
             words,
             plain: &plain,
             streams: &streams,
             text: text.as_str(),
         };
-        let mut worst = Verdict::Same;
+        let mut worst = RowVerdict::Same;
         if !words.has("alone") {
             worst = wanted.verdict(&plain, answer)?;
         }
@@ -77,15 +77,15 @@ impl<R: Files + AllocGlobal + Wait + Clock> Subject for Connections<'_, R> {
 /// What the runs of a row are compared with: the plain run, what a peer reads of it, and the text
 /// that is wanted.
 #[derive(Clone, Copy)]
-struct Wanted<'a> {
+struct WantedRun<'a> {
     alloc: Global,
     words: Words<'a>,
-    plain: &'a Ran,
+    plain: &'a RunOutcome,
     streams: &'a Streams,
     text: &'a str,
 }
 
-impl<'a> Wanted<'a> {
+impl<'a> WantedRun<'a> {
     /// The runs beside the plain one, which goes as this: that of the steps, those that follow from
     /// numbers, that of the worker's own loops, those of which each write fails in turn, and those
     /// that are disturbed after each turn.
@@ -126,27 +126,27 @@ impl<'a> Wanted<'a> {
     }
 
     /// How a run compares with what is wanted. If it differs, the answer says what came of it.
-    fn verdict(&self, ran: &Ran, answer: &mut String) -> Result<Verdict> {
+    fn verdict(&self, ran: &RunOutcome, answer: &mut String) -> Result<RowVerdict> {
         let streams = Streams::read(self.alloc, ran.written.as_slice())?;
         let text = text_of(self.alloc, self.words, &streams, ran)?;
         if streams.is_unlawful || !ran.is_accounted {
             answer.push_str("unlawful; ")?;
         } else if text.as_str() == self.text {
-            return Ok(Verdict::Same);
+            return Ok(RowVerdict::Same);
         } else if ran.ran_out {
             bail!("out of memory");
         } else if self.begins(ran, &streams)? {
-            return Ok(Verdict::Begins);
+            return Ok(RowVerdict::Begins);
         }
         for line in text.as_str().lines() {
             write!(answer, "{line}; ")?;
         }
-        Ok(Verdict::Differs)
+        Ok(RowVerdict::Differs)
     }
 
     /// Whether what was written begins what is wanted, where a write may fail or a stream be
     /// disturbed.
-    fn begins(&self, ran: &Ran, streams: &Streams) -> Result<bool> {
+    fn begins(&self, ran: &RunOutcome, streams: &Streams) -> Result<bool> {
         if self.words.has("fails") {
             let whole = self.plain.written.as_slice();
             return Ok(whole.starts_with(ran.written.as_slice()));
@@ -157,7 +157,7 @@ impl<'a> Wanted<'a> {
 }
 
 /// The text of what a peer reads, of what else the row asks for, and of how the connection ended.
-fn text_of(alloc: Global, words: Words<'_>, streams: &Streams, ran: &Ran) -> Result<String> {
+fn text_of(alloc: Global, words: Words<'_>, streams: &Streams, ran: &RunOutcome) -> Result<String> {
     let mut text = String::new(alloc);
     streams.push_text(&mut text, words.stream("from")?)?;
     for (word, title) in [("rows", "calls\n"), ("halves", "halves\n")] {

@@ -4,7 +4,7 @@
 use crate::serial::Serial;
 use anyhow::{Result, bail};
 use callparts::{
-    CallNumber, DoneOut, EachAnswered, EachFresh, Finished, InLane, Job, Line, OutLane, PLACES,
+    CallNumber, DoneOut, EachAnswered, EachFresh, FinishedJob, InLane, Job, Line, OutLane, PLACES,
     TasksIn, Traffic,
 };
 use callrun::{CallRun, Turn};
@@ -23,7 +23,7 @@ use std::time::{Clock, Instant};
 pub struct InTurns {
     line: Arc<Line>,
     ways: Ways<Brand, Brand>,
-    call: Option<Running>,
+    call: Option<RunningCall>,
 }
 
 /// The rings by which a worker is handed its calls and hands them back: the reader's ends, and the
@@ -53,7 +53,7 @@ impl InTurns {
         }
     }
 
-    fn hand_back(&mut self, finished: Finished<Brand>) -> Result<()> {
+    fn hand_back(&mut self, finished: FinishedJob<Brand>) -> Result<()> {
         if self.ways.done.push(finished).is_err() {
             bail!("no room for a call that is over");
         }
@@ -67,7 +67,7 @@ impl InTurns {
 
 /// A call that is being answered.
 #[derive(Drop)]
-struct Running {
+struct RunningCall {
     id: StreamId,
     number: CallNumber<Brand>,
     run: CallRun<InLane, OutLane>,
@@ -75,12 +75,12 @@ struct Running {
     bytes: u64,
 }
 
-impl Running {
-    fn new(alloc: Global, methods: &Methods, job: Job<Brand>) -> Running {
+impl RunningCall {
+    fn new(alloc: Global, methods: &Methods, job: Job<Brand>) -> RunningCall {
         let (work, number) = (job.work, job.number);
         let (request, taker, giver) = (work.request, work.taker, work.giver);
         let (id, index, head) = (request.id, request.index, request.head);
-        Running {
+        RunningCall {
             id,
             number,
             run: CallRun::new(alloc, methods, index, head, taker, giver, request.opened),
@@ -103,7 +103,7 @@ impl Running {
     }
 
     /// What its worker hands back.
-    fn into_finished(self) -> Finished<Brand> {
+    fn into_finished(self) -> FinishedJob<Brand> {
         let (number, run, bytes) = (self.number, self.run, self.bytes);
         let (replies, reply_bytes) = run.given();
         let (taker, end, status) = run.into_ends();
@@ -111,7 +111,7 @@ impl Running {
             End::Open(giver) => giver.leave(),
             End::Shut(shut) => shut,
         };
-        Finished {
+        FinishedJob {
             number,
             taker,
             given,
@@ -133,7 +133,7 @@ impl<'a, R: Wait + Clock> Serial<'a, R> {
         };
         if worker.call.is_none() {
             if let Some(job) = worker.next() {
-                worker.call = Some(Running::new(self.alloc, self.methods, job));
+                worker.call = Some(RunningCall::new(self.alloc, self.methods, job));
             }
         }
         let Some(mut call) = worker.call.take() else {
@@ -151,7 +151,7 @@ impl<'a, R: Wait + Clock> Serial<'a, R> {
         let mut book = self.shared.book.lock(self.rt);
         if credit > 0 {
             // Where the call is no longer live, its bytes were returned already.
-            let _ = book.give_back(call.id, credit);
+            let _ = book.return_credit(call.id, credit);
         }
         if turn != Turn::Over {
             if book.is_live(call.id) {

@@ -5,7 +5,7 @@ use flow::MAX_LIVE;
 use h2frame::StreamId;
 use std::sync::Wait;
 use std::time::Clock;
-use writerloop::{Filled, Rest, Took, Waiting};
+use writerloop::{AfterWrite, FillEnd, OrderStep, WaitingOrder};
 
 impl<'a, R: Wait + Clock> Serial<'a, R> {
     /// All steps in turn.
@@ -23,16 +23,16 @@ impl<'a, R: Wait + Clock> Serial<'a, R> {
             return false;
         }
         let last = match self.writing.look() {
-            Waiting::Nothing => return false,
-            Waiting::Window => self.last(),
-            Waiting::Goaway | Waiting::Other => 0,
+            WaitingOrder::Nothing => return false,
+            WaitingOrder::Window => self.last(),
+            WaitingOrder::Goaway | WaitingOrder::Other => 0,
         };
         match self.writing.take_next(last) {
-            Took::Nothing | Took::Early => return false,
-            Took::One => {}
-            Took::Ends(id) => self.shared.book.lock(self.rt).cut(id),
-            Took::Stops => self.stop(),
-            Took::Lost => {
+            OrderStep::Nothing | OrderStep::Early => return false,
+            OrderStep::One => {}
+            OrderStep::Ends(id) => self.shared.book.lock(self.rt).cut(id),
+            OrderStep::Stops => self.stop(),
+            OrderStep::Lost => {
                 let last = self.last();
                 self.writing.give_up(last);
                 self.stop();
@@ -69,7 +69,7 @@ impl<'a, R: Wait + Clock> Serial<'a, R> {
             return;
         }
         let mut book = self.shared.book.lock(self.rt);
-        let increment = book.announce(id, &mut self.told);
+        let increment = book.take_due_credit(id, &mut self.told);
         if increment > 0 {
             self.writing.grant(id, increment);
         }
@@ -81,7 +81,7 @@ impl<'a, R: Wait + Clock> Serial<'a, R> {
             return;
         }
         let filled = self.writing.fill();
-        if filled == Filled::Stopped {
+        if filled == FillEnd::Stopped {
             let last = self.last();
             self.writing.say_last(last);
         }
@@ -115,12 +115,12 @@ impl<'a, R: Wait + Clock> Serial<'a, R> {
 
     /// What follows that. If nothing can be written, the calls that wait for a window which won't
     /// open are cut.
-    fn end_turn(&mut self, filled: Filled, is_silent: bool) {
-        let rest = self.writing.rest(filled, is_silent);
-        self.is_idle = rest != Rest::None;
+    fn end_turn(&mut self, filled: FillEnd, is_silent: bool) {
+        let rest = self.writing.after_write(filled, is_silent);
+        self.is_idle = rest != AfterWrite::None;
         match rest {
-            Rest::None => {}
-            Rest::Idle => {
+            AfterWrite::None => {}
+            AfterWrite::Idle => {
                 for place in 0..self.writing.calls() {
                     if let Some(id) = self.writing.stuck(place) {
                         self.shared.book.lock(self.rt).cut(id);
@@ -128,12 +128,12 @@ impl<'a, R: Wait + Clock> Serial<'a, R> {
                 }
                 self.is_idle = !self.writing.reset_left();
             }
-            Rest::Stopped => self.stop(),
-            Rest::StoppedOver => {
+            AfterWrite::Stopped => self.stop(),
+            AfterWrite::StoppedOver => {
                 self.stop();
                 self.is_over = true;
             }
-            Rest::Over => self.is_over = true,
+            AfterWrite::Over => self.is_over = true,
         }
     }
 

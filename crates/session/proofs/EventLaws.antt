@@ -26,8 +26,8 @@ use Rattle.hpack_codec.specs.Table.{Table}
 use Rattle.flow.specs.Halves.{Streams}
 use Rattle.session.specs.declared.event.InEvent.{InEvent}
 use Rattle.session.specs.declared.context.Position.{Position}
-use Rattle.session.specs.declared.in_core.Stage.{Stage}
-use Rattle.session.specs.declared.in_core.Stage.TheVariants.{Greeting, Reading, Dead}
+use Rattle.session.specs.declared.in_core.InStage.{InStage}
+use Rattle.session.specs.declared.in_core.InStage.TheVariants.{Greeting, Reading, Dead}
 use Rattle.session.specs.Prefaces.{preface}
 use Rattle.session.specs.Events.{
   is_fatal,
@@ -76,7 +76,7 @@ over_events bytes text given e (entries, rest, joined, inl (unsettled, fatally))
 over_events bytes text given e (entries, rest, joined, inr (close, final, follows)) =
     Read text entries rest close e joined follows
 
-stage_events : (stage : Stage) (bytes : List ℕ) (given : List InEvent) (waiting : List ℕ)
+stage_events : (stage : InStage) (bytes : List ℕ) (given : List InEvent) (waiting : List ℕ)
     (streams : Streams) (kept : Option Table)
     → AtStage bytes given stage waiting streams kept → Events bytes given
 stage_events (Greeting due) bytes given waiting streams kept

@@ -72,8 +72,8 @@ use Rattle.hpack_codec.specs.Table.{Table}
 use Rattle.hpack_codec.proofs.Existence.{each_has_answer as each_block}
 use Rattle.callhead.specs.MalformedHeads.{are_malformed_trailers}
 use Rattle.callhead.proofs.Existence.{each_has_answer as each_head}
-use Rattle.flow.specs.declared.halves.HalfVerdict.{HalfVerdict}
-use Rattle.flow.specs.declared.halves.HalfVerdict.TheVariants.{
+use Rattle.flow.specs.declared.halves.FrameAction.{FrameAction}
+use Rattle.flow.specs.declared.halves.FrameAction.TheVariants.{
   Open,
   Accept,
   Discard,
@@ -85,7 +85,7 @@ use Rattle.reasons.specs.declared.Reason.{Reason}
 use Rattle.reasons.specs.declared.Reason.TheVariants as reason
 use Rattle.session.specs.declared.event.InEvent.{InEvent}
 use Rattle.session.specs.declared.event.InEvent.TheVariants as events
-use Rattle.session.specs.declared.event.Control.TheVariants as controls
+use Rattle.session.specs.declared.event.PeerControl.TheVariants as controls
 use Rattle.session.specs.declared.header_block.FragmentFault.{FragmentFault}
 use Rattle.session.specs.declared.header_block.FragmentFault.TheVariants.{Interrupted, TooLong}
 use Rattle.session.specs.Prefaces.{preface, Departs}
@@ -103,7 +103,7 @@ use Rattle.session.specs.Streams.{
 use Rattle.session.specs.Frames.{fatal, SettingsGive, ping_events, WindowGives, KindGives}
 use Rattle.session.specs.HeaderBlocks.{
   max_block,
-  Pending,
+  PendingBlock,
   IsContinuation,
   Collects,
   fragment_reason,
@@ -241,7 +241,7 @@ kind_gives Headers history frame is other lawful all = absurd (other refl)
 
 -- ---- whole header blocks
 
-fields_give : (judged : HalfVerdict) (head : FrameHead) (fields : List Field) (history : List Event)
+fields_give : (judged : FrameAction) (head : FrameHead) (fields : List Field) (history : List Event)
     → HasOutcome (FieldsGive judged head fields history)
 fields_give Open head fields history =
     elim (each_head fields) [
@@ -264,7 +264,7 @@ fields_give (StreamError error) head fields history =
 fields_give (ConnectionError error) head fields history =
     (refusal (ConnectionError error) head, history, (refl, refl))
 
-block_gives : (kept : Option Table) (head : FrameHead) (judged : HalfVerdict) (block : List ℕ)
+block_gives : (kept : Option Table) (head : FrameHead) (judged : FrameAction) (block : List ℕ)
     (history : List Event)
     → AreBytes block
     → (given : List InEvent) × (next : List Event) × (kept_next : Option Table)
@@ -360,7 +360,7 @@ waits (Some fault) rest ends now behind partial =
     stops now behind [] rest (Faulty fault) (fatal (reason.Frame fault))
     (λ left same. (partial, subst (IsFaulty fault) (sym (same refl)) ends, refl))
 
-breaks_off : (now : Situation) (frames : List Frame) (block : Pending) (entry : Entry)
+breaks_off : (now : Situation) (frames : List Frame) (block : PendingBlock) (entry : Entry)
     (fault : FragmentFault) (entries : List Entry) (rest : List ℕ)
     → IsBegun now.history frames block → block.whole ≡ false → Breaks entry block fault
     → Outcome now (map Whole frames ++ entry ∷ entries) rest
@@ -377,11 +377,12 @@ Between entries rest = (now : Situation) → Outcome now entries rest
 
 abbrev Inside : List Entry → List ℕ → Type 0
 Inside entries rest =
-    (now : Situation) (frames : List Frame) (block : Pending) → IsBegun now.history frames block
+    (now : Situation) (frames : List Frame) (block : PendingBlock)
+    → IsBegun now.history frames block
     → block.whole ≡ false → AreBytes block.block → Outcome now (map Whole frames ++ entries) rest
 
 -- the frames of a header block, whole or not
-block_first : (now : Situation) (frames : List Frame) (block : Pending)
+block_first : (now : Situation) (frames : List Frame) (block : PendingBlock)
     (entries : List Entry) (rest : List ℕ)
     → IsBegun now.history frames block → AreBytes block.block → Between entries rest
     → Inside entries rest
@@ -414,7 +415,7 @@ goes_on_or id frame =
       ]
     ]
 
-inside_frame : (now : Situation) (frames : List Frame) (block : Pending) (frame : Frame)
+inside_frame : (now : Situation) (frames : List Frame) (block : PendingBlock) (frame : Frame)
     (entries : List Entry) (rest : List ℕ)
     → IsBegun now.history frames block → block.whole ≡ false → AreBytes block.block
     → AreBytes frame.content
@@ -428,7 +429,7 @@ inside_frame now frames block frame entries rest begun still all more between in
         | inl long ↦
             breaks_off now frames block (Whole frame) TooLong entries rest begun still (is, long)
         | inr short ↦
-            (let longer : Pending = record {
+            (let longer : PendingBlock = record {
               head = block.head;
               block = block.block ++ frame.content;
               whole = has end_headers frame.head.flags;
@@ -449,7 +450,7 @@ headers_kind : (kind : FrameKind) → (kind ≡ Headers) ⊎ (kind ≡ Headers �
 headers_kind Headers = inl refl
 headers_kind _ = inr (λ e. cc)
 
-refused_or : (judged : HalfVerdict)
+refused_or : (judged : FrameAction)
     → ((error : ErrorCode) × (judged ≡ ConnectionError error))
     ⊎ (is_connection_error judged ≡ false)
 refused_or (ConnectionError error) = inl (error, refl)

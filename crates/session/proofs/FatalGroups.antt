@@ -39,8 +39,8 @@ use Rattle.hpack_codec.specs.Table.{Table}
 use Rattle.callhead.specs.declared.fault.HeadFault.{HeadFault}
 use Rattle.callhead.specs.declared.fault.HeadFault.TheVariants.{Malformed}
 use Rattle.callhead.specs.MalformedHeads.{are_malformed_trailers}
-use Rattle.flow.specs.declared.halves.HalfVerdict.{HalfVerdict}
-use Rattle.flow.specs.declared.halves.HalfVerdict.TheVariants.{
+use Rattle.flow.specs.declared.halves.FrameAction.{FrameAction}
+use Rattle.flow.specs.declared.halves.FrameAction.TheVariants.{
   Open,
   Accept,
   Discard,
@@ -86,14 +86,14 @@ counted_calm n event calm =
     elim (n == 0) as (λ (b : Bool). IsCalm (if b then [] else event ∷ []))
     [ true ↦ refl | false ↦ calm ]
 
-refusal_or_end : (judged : HalfVerdict) (head : FrameHead) → IsCalmOrEnd (refusal judged head)
+refusal_or_end : (judged : FrameAction) (head : FrameHead) → IsCalmOrEnd (refusal judged head)
 refusal_or_end Open head = inl refl
 refusal_or_end Accept head = inl refl
 refusal_or_end Discard head = inl refl
 refusal_or_end (StreamError error) head = inl refl
 refusal_or_end (ConnectionError error) head = inr (_, refl)
 
-data_or_end : (judged : HalfVerdict) (frame : Frame) → IsCalmOrEnd (data_events judged frame)
+data_or_end : (judged : FrameAction) (frame : Frame) → IsCalmOrEnd (data_events judged frame)
 data_or_end Accept frame =
     inl (calm_join
     (counted frame.head.length (events.Data frame.head.stream frame.content frame.head.length))
@@ -109,14 +109,14 @@ data_or_end (StreamError error) frame =
     inl (calm_join (counted frame.head.length (events.Loose frame.head.length))
     (events.StreamError frame.head.stream error ∷ []) (counted_calm frame.head.length _ refl) refl)
 
-reset_or_end : (judged : HalfVerdict) (frame : Frame) → IsCalmOrEnd (reset_events judged frame)
+reset_or_end : (judged : FrameAction) (frame : Frame) → IsCalmOrEnd (reset_events judged frame)
 reset_or_end Accept frame = inl refl
 reset_or_end Open frame = inl refl
 reset_or_end Discard frame = inl refl
 reset_or_end (StreamError error) frame = inl refl
 reset_or_end (ConnectionError error) frame = inr (_, refl)
 
-credit_or_end : (judged : HalfVerdict) (frame : Frame) → IsCalmOrEnd (window_events judged frame)
+credit_or_end : (judged : FrameAction) (frame : Frame) → IsCalmOrEnd (window_events judged frame)
 credit_or_end Accept frame = inl refl
 credit_or_end Open frame = inl refl
 credit_or_end Discard frame = inl refl
@@ -181,7 +181,7 @@ trailers_or_end : (malformed : Bool) (head : FrameHead)
 trailers_or_end true head = refusal_or_end (StreamError ProtocolError) head
 trailers_or_end false head = inl (end_calm head)
 
-fields_or_end : (judged : HalfVerdict) (head : FrameHead) (fields : List Field)
+fields_or_end : (judged : FrameAction) (head : FrameHead) (fields : List Field)
     (history next : List Event) (given : List InEvent)
     → FieldsGive judged head fields history given next → IsCalmOrEnd given
 fields_or_end Open head fields history next given gives =
@@ -195,7 +195,7 @@ fields_or_end (StreamError error) head fields history next given (e, same) =
 fields_or_end (ConnectionError error) head fields history next given (e, same) =
     same_events given _ e (refusal_or_end (ConnectionError error) head)
 
-block_or_end : (kept kept_next : Option Table) (head : FrameHead) (judged : HalfVerdict)
+block_or_end : (kept kept_next : Option Table) (head : FrameHead) (judged : FrameAction)
     (block : List ℕ) (history next : List Event) (given : List InEvent)
     → BlockGives kept head judged block history given next kept_next → IsCalmOrEnd given
 block_or_end kept kept_next head judged block history next given (inl (fields, reads, gives)) =

@@ -55,8 +55,8 @@ use Rattle.callhead.specs.declared.fault.HeadFault.TheVariants.{
   NotPost,
   OutOfMemory,
 }
-use Rattle.flow.specs.declared.halves.HalfVerdict.{HalfVerdict}
-use Rattle.flow.specs.declared.halves.HalfVerdict.TheVariants.{
+use Rattle.flow.specs.declared.halves.FrameAction.{FrameAction}
+use Rattle.flow.specs.declared.halves.FrameAction.TheVariants.{
   Open,
   Accept,
   Discard,
@@ -117,21 +117,21 @@ before_end : (event : InEvent) (head : FrameHead) → counted_by event ≡ 0
 before_end event head none =
     omega (arith, sum_by-cons counted_by event (end_of head), none, end_none head)
 
-refusal_none : (judged : HalfVerdict) (head : FrameHead) → CountsNone (refusal judged head)
+refusal_none : (judged : FrameAction) (head : FrameHead) → CountsNone (refusal judged head)
 refusal_none (StreamError error) head = refl
 refusal_none (ConnectionError error) head = refl
 refusal_none Open head = refl
 refusal_none Accept head = refl
 refusal_none Discard head = refl
 
-reset_none : (judged : HalfVerdict) (frame : Frame) → CountsNone (reset_events judged frame)
+reset_none : (judged : FrameAction) (frame : Frame) → CountsNone (reset_events judged frame)
 reset_none Accept frame = refl
 reset_none Open frame = refl
 reset_none Discard frame = refl
 reset_none (StreamError error) frame = refl
 reset_none (ConnectionError error) frame = refl
 
-credit_none : (judged : HalfVerdict) (frame : Frame) → CountsNone (window_events judged frame)
+credit_none : (judged : FrameAction) (frame : Frame) → CountsNone (window_events judged frame)
 credit_none Accept frame = refl
 credit_none Open frame = refl
 credit_none Discard frame = refl
@@ -168,7 +168,7 @@ counts_before : (n : ℕ) (event : InEvent) (behind : List InEvent) → counted_
 counts_before n event behind is none =
     omega (arith, sum_by-append counted_by (counted n event) behind, counts_once n event is, none)
 
-data_counts : (judged : HalfVerdict) (frame : Frame)
+data_counts : (judged : FrameAction) (frame : Frame)
     → counted_told (data_events judged frame) ≤ frame.head.length
 data_counts Accept frame =
     counts_before frame.head.length (events.Data frame.head.stream frame.content frame.head.length)
@@ -235,7 +235,7 @@ head_none head fields history next given (inl (call, is, e, same)) =
 head_none head fields history next given (inr (fault, first, e, same)) =
     none_same given _ e (bad_head_none fault head)
 
-fields_none : (judged : HalfVerdict) (head : FrameHead) (fields : List Field)
+fields_none : (judged : FrameAction) (head : FrameHead) (fields : List Field)
     (history next : List Event) (given : List InEvent)
     → FieldsGive judged head fields history given next → CountsNone given
 fields_none Open head fields history next given gives =
@@ -247,7 +247,7 @@ fields_none (StreamError error) head fields history next given (e, same) = none_
 fields_none (ConnectionError error) head fields history next given (e, same) =
     none_same given _ e refl
 
-block_none : (kept kept_next : Option Table) (head : FrameHead) (judged : HalfVerdict)
+block_none : (kept kept_next : Option Table) (head : FrameHead) (judged : FrameAction)
     (block : List ℕ) (history next : List Event) (given : List InEvent)
     → BlockGives kept head judged block history given next kept_next → CountsNone given
 block_none kept kept_next head judged block history next given (inl (fields, reads, gives)) =

@@ -34,10 +34,10 @@ use Rattle.h2frame.specs.declared.kind.FrameKind.TheVariants.{
 }
 use Rattle.h2frame.specs.Flags.{has, end_stream}
 use Rattle.flow.specs.declared.TheConstants.{MAX_STREAMS}
-use Rattle.flow.specs.declared.halves.Half.{Half}
-use Rattle.flow.specs.declared.halves.Half.TheVariants.{Opened, Ended, Reset}
-use Rattle.flow.specs.declared.halves.HalfVerdict.{HalfVerdict}
-use Rattle.flow.specs.declared.halves.HalfVerdict.TheVariants.{
+use Rattle.flow.specs.declared.halves.HalfState.{HalfState}
+use Rattle.flow.specs.declared.halves.HalfState.TheVariants.{Opened, Ended, Reset}
+use Rattle.flow.specs.declared.halves.FrameAction.{FrameAction}
+use Rattle.flow.specs.declared.halves.FrameAction.TheVariants.{
   Open,
   Accept,
   Discard,
@@ -81,10 +81,10 @@ use Rattle.flow.proofs.HalfLemmas.{kept-other, kept-begun, kept-new, kept-None}
 use Rattle.session.specs.Streams.{after_frame}
 
 -- what the half of a stream has come to, if the stream was begun
-abbrev pub half_at : List Event → ℕ → Option Half
+abbrev pub half_at : List Event → ℕ → Option HalfState
 half_at history id = kept (state id history)
 
-abbrev pub IsClosed : Option Half → Type 0
+abbrev pub IsClosed : Option HalfState → Type 0
 IsClosed o = (o ≡ Some Ended) ⊎ (o ≡ Some Reset)
 
 -- ---- one event
@@ -93,7 +93,7 @@ pub step_other : (id : ℕ) (event : Event) (history : List Event)
     → nat_eq id (stream_of event) ≡ false → half_at (event ∷ history) id ≡ half_at history id
 step_other id event history other = kept-other id event history other
 
-step_here : (event : Event) (history : List Event) (now : Half)
+step_here : (event : Event) (history : List Event) (now : HalfState)
     → half_at history (stream_of event) ≡ Some now
     → half_at (event ∷ history) (stream_of event) ≡ Some (half_after now event)
 step_here event history now is = by (course (stream_of event) history) refl
@@ -111,7 +111,7 @@ step_here event history now is = by (course (stream_of event) history) refl
         let half_is : half (stream_of event) c ≡ now = cc in
         kept-begun event history c p ∙ ap (λ h. Some (half_after h event)) half_is
 
-pub step_begun : (id : ℕ) (event : Event) (history : List Event) (now : Half)
+pub step_begun : (id : ℕ) (event : Event) (history : List Event) (now : HalfState)
     → nat_eq id (stream_of event) ≡ true → half_at history id ≡ Some now
     → half_at (event ∷ history) id ≡ Some (half_after now event)
 step_begun id event history now on is =
@@ -141,7 +141,7 @@ step_new id event history on none b =
     (step_new_here event history (subst (λ (n : ℕ). half_at history n ≡ None) same none) b)
 
 -- a closed half stays closed
-after_closed : (now : Half) (event : Event) → IsClosed (Some now)
+after_closed : (now : HalfState) (event : Event) → IsClosed (Some now)
     → IsClosed (Some (half_after now event))
 after_closed Reset event closed = inr refl
 after_closed Opened event (inl e) = absurd cc
@@ -155,7 +155,7 @@ after_closed Ended (Received head) closed = by head.kind
     by _ = inl refl
 after_closed Ended (Cut id) closed = inr refl
 
-pub closed_some : (o : Option Half) → IsClosed o → (now : Half) × (o ≡ Some now)
+pub closed_some : (o : Option HalfState) → IsClosed o → (now : HalfState) × (o ≡ Some now)
 closed_some None (inl e) = absurd cc
 closed_some None (inr e) = absurd cc
 closed_some (Some now) closed = (now, refl)
@@ -171,7 +171,7 @@ closed_stays id event history closed =
       | inr other ↦ subst IsClosed (sym (step_other id event history other)) closed
     ]
 
-pub closed_after : (id : ℕ) (judged : HalfVerdict) (head : FrameHead) (history : List Event)
+pub closed_after : (id : ℕ) (judged : FrameAction) (head : FrameHead) (history : List Event)
     → IsClosed (half_at history id) → IsClosed (half_at (after_frame judged head history) id)
 closed_after id (StreamError error) head history closed =
     closed_stays id (Cut head.stream) (Received head ∷ history)
@@ -183,7 +183,7 @@ closed_after id (ConnectionError error) head history closed =
     closed_stays id (Received head) history closed
 
 -- a frame of another stream changes nothing
-pub other_after : (id : ℕ) (judged : HalfVerdict) (head : FrameHead) (history : List Event)
+pub other_after : (id : ℕ) (judged : FrameAction) (head : FrameHead) (history : List Event)
     → nat_eq id head.stream ≡ false
     → half_at (after_frame judged head history) id ≡ half_at history id
 other_after id (StreamError error) head history other =
@@ -197,12 +197,12 @@ other_after id (ConnectionError error) head history other =
 
 -- ---- verdicts
 
-begun_state : (s : State) (now : Half) → kept s ≡ Some now → s ≡ Begun now
+begun_state : (s : State) (now : HalfState) → kept s ≡ Some now → s ≡ Begun now
 begun_state Idle now e = absurd cc
 begun_state Skipped now e = absurd cc
 begun_state (Begun other) now e = let same : other ≡ now = cc in ap Begun same
 
-pub verdict_begun : (id : ℕ) (history : List Event) (head : FrameHead) (now : Half)
+pub verdict_begun : (id : ℕ) (history : List Event) (head : FrameHead) (now : HalfState)
     → nat_eq id head.stream ≡ true → half_at history id ≡ Some now
     → verdict history head ≡ on_begun now head
 verdict_begun id history head now on is =
@@ -244,7 +244,7 @@ pub record Opens (history : List Event) (head : FrameHead) : Type 0 where
 
 -- the verdict of HEADERS on a stream that wasn't begun, by whether its number is odd, and above
 -- those that were
-abbrev pub first_verdict : Bool → Bool → Bool → Bool → HalfVerdict
+abbrev pub first_verdict : Bool → Bool → Bool → Bool → FrameAction
 first_verdict headers odd above few =
     if odd && not above then ConnectionError ProtocolError else on_idle odd headers few
 
@@ -292,7 +292,7 @@ headers_open id history head on none few kind live =
     let opening =
     first_opening (is_headers head.kind) (is_odd head.stream) (is_above (begun history) head.stream)
     (nat_lt (length (begun history)) MAX_STREAMS) kind few
-    (subst (λ (v : HalfVerdict). is_connection_error v ≡ false) first live) in
+    (subst (λ (v : FrameAction). is_connection_error v ≡ false) first live) in
     record { begins = opening.0; verdict = first ∙ opening.1 }
 
 -- ---- once so many streams were begun as may be
@@ -322,7 +322,7 @@ full_stays event history full =
     (full_begins event history full)
     ∙ full
 
-pub full_after : (judged : HalfVerdict) (head : FrameHead) (history : List Event) → IsFull history
+pub full_after : (judged : FrameAction) (head : FrameHead) (history : List Event) → IsFull history
     → IsFull (after_frame judged head history)
 full_after (StreamError error) head history full =
     full_stays (Cut head.stream) (Received head ∷ history) (full_stays (Received head) history full)
@@ -346,7 +346,7 @@ ended_not_open Data e = cc
 ended_not_open Headers e = cc
 ended_not_open _ e = cc
 
-pub begun_not_open : (now : Half) (head : FrameHead) → on_begun now head ≢ Open
+pub begun_not_open : (now : HalfState) (head : FrameHead) → on_begun now head ≢ Open
 begun_not_open Opened head e = opened_not_open head.kind (has end_stream head.flags) e
 begun_not_open Ended head e = ended_not_open head.kind e
 begun_not_open Reset head e = cc

@@ -23,7 +23,7 @@ use Rattle.h2frame.specs.declared.frame.Frame.{Frame}
 use Rattle.h2frame.specs.declared.frame.FrameHead.{FrameHead}
 use Rattle.h2frame.specs.declared.kind.FrameKind.TheVariants.{Headers}
 use Rattle.h2frame.specs.Flags.{has, end_headers}
-use Rattle.session.specs.HeaderBlocks.{Pending, IsContinuation, AreMarked, Collects}
+use Rattle.session.specs.HeaderBlocks.{PendingBlock, IsContinuation, AreMarked, Collects}
 use Rattle.session.proofs.SettingSteps.{all_push}
 
 pub collects_first : (frame : Frame) → frame.head.kind ≡ Headers → length frame.content ≤ 16384
@@ -49,7 +49,8 @@ marks_push (first ∷ []) frame marks = (marks, refl)
 marks_push (first ∷ second ∷ frames) frame marks =
     (marks.0, marks_push (second ∷ frames) frame marks.1)
 
-pub collects_more : (frames : List Frame) (old new : Pending) (frame : Frame) → Collects frames old
+pub collects_more : (frames : List Frame) (old new : PendingBlock) (frame : Frame)
+    → Collects frames old
     → old.whole ≡ false → IsContinuation old.head.stream frame
     → new.head ≡ old.head → new.block ≡ old.block ++ frame.content
     → new.whole ≡ has end_headers frame.head.flags → length new.block ≤ 65536

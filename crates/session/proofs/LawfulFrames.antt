@@ -34,8 +34,8 @@ use Rattle.h2frame.specs.declared.kind.FrameKind.TheVariants.{
 use Rattle.h2frame.specs.Flags.{has, ack, is_padded_kind, has_priority_kind}
 use Rattle.h2frame.specs.Faults.{max_payload, may_be_on, may_have_length, head_fault}
 use Rattle.h2frame.specs.FrameList.{IsLawful}
-use Rattle.flow.specs.declared.halves.HalfVerdict.{HalfVerdict}
-use Rattle.flow.specs.declared.halves.HalfVerdict.TheVariants.{
+use Rattle.flow.specs.declared.halves.FrameAction.{FrameAction}
+use Rattle.flow.specs.declared.halves.FrameAction.TheVariants.{
   Open,
   Accept,
   Discard,
@@ -133,7 +133,7 @@ settings_length frame is kind none =
 
 -- what is made of a verdict by the lack of an increment is an error of the stream only where the
 -- connection goes on
-pub not_fatal : (judged : HalfVerdict) (error : ErrorCode)
+pub not_fatal : (judged : FrameAction) (error : ErrorCode)
     → without_increment judged ≡ StreamError error → is_connection_error judged ≡ false
 not_fatal Open error e = refl
 not_fatal Accept error e = refl
@@ -142,7 +142,7 @@ not_fatal (StreamError other) error e = refl
 not_fatal (ConnectionError other) error e = absurd cc
 
 -- where a frame is accepted, its stream was begun
-pub accepted_begun : (judged : HalfVerdict) → is_accepted judged ≡ true
+pub accepted_begun : (judged : FrameAction) → is_accepted judged ≡ true
     → may_be_unbegun judged ≡ false
 accepted_begun Open is = refl
 accepted_begun Accept is = refl

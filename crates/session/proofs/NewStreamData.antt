@@ -44,10 +44,10 @@ use Rattle.h2frame.specs.Flags.{has, end_stream}
 use Rattle.h2frame.specs.FrameList.{Entry, Whole}
 use Rattle.lists.specs.declared.field.Field.{Field}
 use Rattle.callhead.specs.declared.fault.HeadFault.TheVariants.{Malformed}
-use Rattle.flow.specs.declared.halves.Half.{Half}
-use Rattle.flow.specs.declared.halves.Half.TheVariants.{Opened, Ended}
-use Rattle.flow.specs.declared.halves.HalfVerdict.{HalfVerdict}
-use Rattle.flow.specs.declared.halves.HalfVerdict.TheVariants.{Open, ConnectionError}
+use Rattle.flow.specs.declared.halves.HalfState.{HalfState}
+use Rattle.flow.specs.declared.halves.HalfState.TheVariants.{Opened, Ended}
+use Rattle.flow.specs.declared.halves.FrameAction.{FrameAction}
+use Rattle.flow.specs.declared.halves.FrameAction.TheVariants.{Open, ConnectionError}
 use Rattle.flow.specs.Halves.{Event, Received, Cut, is_headers, verdict}
 use Rattle.reasons.specs.declared.Reason.TheVariants as reason
 use Rattle.session.specs.declared.event.InEvent.{InEvent}
@@ -62,7 +62,7 @@ use Rattle.session.specs.Streams.{
   without_increment,
 }
 use Rattle.session.specs.Frames.{KindGives}
-use Rattle.session.specs.HeaderBlocks.{Pending, Collects}
+use Rattle.session.specs.HeaderBlocks.{PendingBlock, Collects}
 use Rattle.session.specs.Blocks.{HeadGives, BlockGives}
 use Rattle.session.specs.Events.{
   Situation,
@@ -143,12 +143,12 @@ single_unbegun Data id old new frame given is gives calm on none few =
     let judged : verdict old.history frame.head ≡ ConnectionError ProtocolError =
     verdict_unbegun id old.history frame.head on none few (ap is_headers is) in
     absurd (not_calm_end (reason.Stream frame.head.kind ProtocolError) given
-    (gives.0 ∙ ap (λ (v : HalfVerdict). data_events v frame) judged) calm)
+    (gives.0 ∙ ap (λ (v : FrameAction). data_events v frame) judged) calm)
 single_unbegun RstStream id old new frame given is gives calm on none few =
     let judged : verdict old.history frame.head ≡ ConnectionError ProtocolError =
     verdict_unbegun id old.history frame.head on none few (ap is_headers is) in
     absurd (not_calm_end (reason.Stream frame.head.kind ProtocolError) given
-    (gives.0 ∙ ap (λ (v : HalfVerdict). reset_events v frame) judged) calm)
+    (gives.0 ∙ ap (λ (v : FrameAction). reset_events v frame) judged) calm)
 single_unbegun WindowUpdate id old new frame given is gives calm on none few =
     stays_unbegun id old new frame given (kind_silent id WindowUpdate old.history new.history frame
     given (λ (e : WindowUpdate ≡ Data). cc) gives)
@@ -184,7 +184,7 @@ credit_unbegun id old new stream given (e, next, same) calm on none few =
     let judged : credit_verdict old.history stream ≡ ConnectionError ProtocolError =
     ap without_increment (verdict_unbegun id old.history (credit_head stream) on none few refl) in
     absurd (not_calm_end (reason.Stream WindowUpdate ProtocolError) given
-    (e ∙ ap (λ (v : HalfVerdict). refusal v (credit_head stream)) judged) calm)
+    (e ∙ ap (λ (v : FrameAction). refusal v (credit_head stream)) judged) calm)
 
 -- a head that isn't malformed leaves the history as it is
 pub head_cases : (head : FrameHead) (fields : List Field) (history next : List Event)
@@ -197,7 +197,7 @@ head_cases head fields history next given (inr (Malformed, first, e, same)) = in
 head_cases head fields history next given (inr (_, first, e, same)) = inl same
 
 -- a stream begins whose head isn't malformed
-opens_well : (id : ℕ) (old new : Situation) (frames : List Frame) (block : Pending)
+opens_well : (id : ℕ) (old new : Situation) (frames : List Frame) (block : PendingBlock)
     (given : List InEvent)
     → Collects frames block → nat_eq id block.head.stream ≡ true
     → new.history ≡ Received block.head ∷ old.history
@@ -231,8 +231,8 @@ opens_well id old new frames block given collects on same half none =
           λ more. due more ∙ ap (λ (b : Bool). if b then [] else data_behind id more) ended,
         ))
 
-pub opens_badly : (id : ℕ) (old new : Situation) (frames : List Frame) (block : Pending)
-    (given : List InEvent) (now : Half)
+pub opens_badly : (id : ℕ) (old new : Situation) (frames : List Frame) (block : PendingBlock)
+    (given : List InEvent) (now : HalfState)
     → nat_eq id block.head.stream ≡ true
     → half_at (Received block.head ∷ old.history) id ≡ Some now
     → new.history ≡ Cut block.head.stream ∷ (Received block.head ∷ old.history)
@@ -247,7 +247,7 @@ opens_badly id old new frames block given now on half same e =
       inl (ap (list_any (is_opening id)) e ∙ malformed_untold id block.head.stream),
     ))
 
-fields_unbegun : (id : ℕ) (old new : Situation) (frames : List Frame) (block : Pending)
+fields_unbegun : (id : ℕ) (old new : Situation) (frames : List Frame) (block : PendingBlock)
     (given : List InEvent) (fields : List Field)
     → Collects frames block → nat_eq id block.head.stream ≡ true
     → HeadGives block.head fields (Received block.head ∷ old.history) given new.history
@@ -265,7 +265,7 @@ fields_unbegun id old new frames block given fields collects on gives half =
           (if has end_stream block.head.flags then Ended else Opened) on half same e
     ]
 
-open_unbegun : (id : ℕ) (old new : Situation) (frames : List Frame) (block : Pending)
+open_unbegun : (id : ℕ) (old new : Situation) (frames : List Frame) (block : PendingBlock)
     (given : List InEvent)
     → Collects frames block → nat_eq id block.head.stream ≡ true → IsCalm given
     → BlockGives old.kept block.head Open block.block (Received block.head ∷ old.history) given
@@ -278,7 +278,7 @@ open_unbegun id old new frames block given collects on calm (inl (fields, reads,
 open_unbegun id old new frames block given collects on calm (inr (fault, first, memory, e, same))
     half = absurd (not_calm_end _ given e calm)
 
-block_unbegun : (id : ℕ) (old new : Situation) (frames : List Frame) (block : Pending)
+block_unbegun : (id : ℕ) (old new : Situation) (frames : List Frame) (block : PendingBlock)
     (given : List InEvent)
     → GroupGives old (Block frames block) given new → IsCalm given
     → nat_eq id block.head.stream ≡ true → half_at old.history id ≡ None → IsFew old.history
@@ -288,7 +288,7 @@ block_unbegun id old new frames block given (is_begun, whole, gives) calm on non
     headers_open id old.history block.head on none few (ap is_headers is_begun.collects.kind)
     is_begun.lawful in
     open_unbegun id old new frames block given is_begun.collects on calm
-    (subst (λ (v : HalfVerdict).
+    (subst (λ (v : FrameAction).
     BlockGives old.kept block.head v block.block (after_frame v block.head old.history) given
     new.history new.kept) opens.verdict gives)
     (step_new id (Received block.head) old.history on none opens.begins

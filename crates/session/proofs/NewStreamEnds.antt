@@ -42,10 +42,10 @@ use Rattle.h2frame.specs.Flags.{has, ack, end_stream}
 use Rattle.h2frame.specs.FrameList.{Entry, Whole}
 use Rattle.callhead.specs.declared.fault.HeadFault.{HeadFault}
 use Rattle.callhead.specs.declared.fault.HeadFault.TheVariants.{Malformed}
-use Rattle.flow.specs.declared.halves.Half.{Half}
-use Rattle.flow.specs.declared.halves.Half.TheVariants.{Opened, Ended}
-use Rattle.flow.specs.declared.halves.HalfVerdict.{HalfVerdict}
-use Rattle.flow.specs.declared.halves.HalfVerdict.TheVariants.{Open, ConnectionError}
+use Rattle.flow.specs.declared.halves.HalfState.{HalfState}
+use Rattle.flow.specs.declared.halves.HalfState.TheVariants.{Opened, Ended}
+use Rattle.flow.specs.declared.halves.FrameAction.{FrameAction}
+use Rattle.flow.specs.declared.halves.FrameAction.TheVariants.{Open, ConnectionError}
 use Rattle.flow.specs.Halves.{Event, Received, Cut, is_headers, verdict}
 use Rattle.reasons.specs.declared.Reason.TheVariants as reason
 use Rattle.session.specs.declared.event.InEvent.{InEvent}
@@ -60,7 +60,7 @@ use Rattle.session.specs.Streams.{
   without_increment,
 }
 use Rattle.session.specs.Frames.{WindowGives, KindGives}
-use Rattle.session.specs.HeaderBlocks.{Pending, Collects}
+use Rattle.session.specs.HeaderBlocks.{PendingBlock, Collects}
 use Rattle.session.specs.Blocks.{bad_head_events, after_bad_head, BlockGives}
 use Rattle.session.specs.Events.{
   Situation,
@@ -138,7 +138,7 @@ window_told : (b : Bool) (id : ℕ) (history next : List Event) (frame : Frame) 
     → WindowGives b history frame given next → ending_told id given ≡ Unended
 window_told true id history next frame given judged (e, same) = ap (ending_told id) e
 window_told false id history next frame given judged (e, same) =
-    ap (ending_told id) (e ∙ ap (λ (v : HalfVerdict). window_events v frame) judged)
+    ap (ending_told id) (e ∙ ap (λ (v : FrameAction). window_events v frame) judged)
 
 single_new : (kind : FrameKind) (id : ℕ) (old new : Situation) (frame : Frame)
     (given : List InEvent)
@@ -148,11 +148,11 @@ single_new : (kind : FrameKind) (id : ℕ) (old new : Situation) (frame : Frame)
 single_new Headers id old new frame given is gives calm on none few = absurd gives
 single_new Data id old new frame given is gives calm on none few =
     absurd (not_calm_end (reason.Stream frame.head.kind ProtocolError) given (gives.0
-    ∙ ap (λ (v : HalfVerdict). data_events v frame)
+    ∙ ap (λ (v : FrameAction). data_events v frame)
     (verdict_unbegun id old.history frame.head on none few (ap is_headers is))) calm)
 single_new RstStream id old new frame given is gives calm on none few =
     absurd (not_calm_end (reason.Stream frame.head.kind ProtocolError) given (gives.0
-    ∙ ap (λ (v : HalfVerdict). reset_events v frame)
+    ∙ ap (λ (v : FrameAction). reset_events v frame)
     (verdict_unbegun id old.history frame.head on none few (ap is_headers is))) calm)
 single_new WindowUpdate id old new frame given is gives calm on none few =
     let judged : verdict old.history frame.head ≡ ConnectionError ProtocolError =
@@ -189,7 +189,7 @@ single_new (Unknown code) id old new frame given is gives calm on none few =
     stays_new id old new frame given (ap (ending_told id) gives.0)
     (ap (list_any (is_opening id)) gives.0) gives.1 none (ap is_headers is)
 
-opens_well : (id : ℕ) (new : Situation) (frames : List Frame) (block : Pending)
+opens_well : (id : ℕ) (new : Situation) (frames : List Frame) (block : PendingBlock)
     (given : List InEvent)
     → Collects frames block → nat_eq id block.head.stream ≡ true
     → half_at new.history id ≡ Some (if has end_stream block.head.flags then Ended else Opened)
@@ -219,8 +219,8 @@ opens_well id new frames block given collects on half told =
         (told ∙ ap (λ (b : Bool). if b then Finished else Unended) ended)
         (λ more. due more ∙ ap (λ (b : Bool). if b then Finished else ending_behind id more) ended)
 
-opens_badly : (id : ℕ) (old new : Situation) (frames : List Frame) (block : Pending)
-    (given : List InEvent) (now : Half)
+opens_badly : (id : ℕ) (old new : Situation) (frames : List Frame) (block : PendingBlock)
+    (given : List InEvent) (now : HalfState)
     → nat_eq id block.head.stream ≡ true
     → half_at (Received block.head ∷ old.history) id ≡ Some now
     → new.history ≡ Cut block.head.stream ∷ (Received block.head ∷ old.history)
@@ -232,7 +232,7 @@ opens_badly id old new frames block given now on half same e =
     ∙ ap Some (cut_half now block.head.stream)))
     (ap (list_any (is_opening id)) e ∙ malformed_untold id block.head.stream)
 
-fault_new : (id : ℕ) (old new : Situation) (frames : List Frame) (block : Pending)
+fault_new : (id : ℕ) (old new : Situation) (frames : List Frame) (block : PendingBlock)
     (given : List InEvent) (fault : HeadFault)
     → Collects frames block → nat_eq id block.head.stream ≡ true
     → half_at (Received block.head ∷ old.history) id
@@ -248,7 +248,7 @@ fault_new id old new frames block given _ collects on half e same =
     (ap (λ (h : List Event). half_at h id) same ∙ half)
     (ap (ending_told id) e ∙ end_here id block.head on)
 
-open_new : (id : ℕ) (old new : Situation) (frames : List Frame) (block : Pending)
+open_new : (id : ℕ) (old new : Situation) (frames : List Frame) (block : PendingBlock)
     (given : List InEvent)
     → Collects frames block → nat_eq id block.head.stream ≡ true → IsCalm given
     → BlockGives old.kept block.head Open block.block (Received block.head ∷ old.history) given
@@ -267,7 +267,7 @@ open_new id old new frames block given collects on calm
 open_new id old new frames block given collects on calm (inr (fault, first, memory, e, same)) half =
     absurd (not_calm_end _ given e calm)
 
-block_new : (id : ℕ) (old new : Situation) (frames : List Frame) (block : Pending)
+block_new : (id : ℕ) (old new : Situation) (frames : List Frame) (block : PendingBlock)
     (given : List InEvent)
     → GroupGives old (Block frames block) given new → IsCalm given
     → nat_eq id block.head.stream ≡ true → half_at old.history id ≡ None → IsFew old.history
@@ -277,7 +277,7 @@ block_new id old new frames block given (is_begun, whole, gives) calm on none fe
     headers_open id old.history block.head on none few (ap is_headers is_begun.collects.kind)
     is_begun.lawful in
     open_new id old new frames block given is_begun.collects on calm
-    (subst (λ (v : HalfVerdict).
+    (subst (λ (v : FrameAction).
     BlockGives old.kept block.head v block.block (after_frame v block.head old.history) given
     new.history new.kept) opens.verdict gives)
     (step_new id (Received block.head) old.history on none opens.begins
@@ -290,7 +290,7 @@ new_here id old new (Single frame) given gives calm on none few =
     single_new frame.head.kind id old new frame given refl gives.0 calm on none few
 new_here id old new (Credit stream) given gives calm on none few =
     absurd (not_calm_end (reason.Stream WindowUpdate ProtocolError) given (gives.0
-    ∙ ap (λ (v : HalfVerdict). refusal (without_increment v) (credit_head stream))
+    ∙ ap (λ (v : FrameAction). refusal (without_increment v) (credit_head stream))
     (verdict_unbegun id old.history (credit_head stream) on none few refl)) calm)
 new_here id old new (Block frames block) given gives calm on none few =
     block_new id old new frames block given gives calm on none few

@@ -25,10 +25,10 @@ use Rattle.h2frame.specs.declared.kind.FrameKind.{FrameKind}
 use Rattle.h2frame.specs.declared.kind.FrameKind.TheVariants.{Headers}
 use Rattle.h2frame.specs.Flags.{has, end_stream}
 use Rattle.callhead.specs.declared.fault.HeadFault.TheVariants.{Malformed}
-use Rattle.flow.specs.declared.halves.Half.{Half}
-use Rattle.flow.specs.declared.halves.Half.TheVariants.{Opened, Ended, Reset}
-use Rattle.flow.specs.declared.halves.HalfVerdict.{HalfVerdict}
-use Rattle.flow.specs.declared.halves.HalfVerdict.TheVariants.{ConnectionError}
+use Rattle.flow.specs.declared.halves.HalfState.{HalfState}
+use Rattle.flow.specs.declared.halves.HalfState.TheVariants.{Opened, Ended, Reset}
+use Rattle.flow.specs.declared.halves.FrameAction.{FrameAction}
+use Rattle.flow.specs.declared.halves.FrameAction.TheVariants.{ConnectionError}
 use Rattle.flow.specs.Halves.{Received, Cut, verdict, half_after, half_of_new, is_last_of_kind}
 use Rattle.reasons.specs.declared.Reason.{Reason}
 use Rattle.reasons.specs.declared.Reason.TheVariants as reason
@@ -51,7 +51,7 @@ pub window_unbegun : (b : Bool) (id : ℕ) (old new : Situation) (frame : Frame)
 window_unbegun true id old new frame given (e, same) calm judged = same
 window_unbegun false id old new frame given (e, same) calm judged =
     absurd (not_calm_end (reason.Stream frame.head.kind ProtocolError) given
-    (e ∙ ap (λ (v : HalfVerdict). window_events v frame) judged) calm)
+    (e ∙ ap (λ (v : FrameAction). window_events v frame) judged) calm)
 
 pub and_none : (b : Bool) → (b && false) ≡ false
 and_none true = refl
@@ -63,7 +63,7 @@ new_half head kind =
     ap (λ (k : FrameKind).
     if is_last_of_kind k (has end_stream head.flags) then Ended else Opened) kind
 
-pub cut_half : (half : Half) (stream : ℕ) → half_after half (Cut stream) ≡ Reset
+pub cut_half : (half : HalfState) (stream : ℕ) → half_after half (Cut stream) ≡ Reset
 cut_half Opened stream = refl
 cut_half Ended stream = refl
 cut_half Reset stream = refl

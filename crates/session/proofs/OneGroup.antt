@@ -41,8 +41,8 @@ use Rattle.callhead.specs.declared.head.CallHead.{CallHead}
 use Rattle.callhead.specs.declared.fault.HeadFault.{HeadFault}
 use Rattle.hpack_codec.proofs.OneBlock.{fault_one}
 use Rattle.callhead.proofs.OneHead.{head_one, head_or_fault, head_fault_one}
-use Rattle.flow.specs.declared.halves.HalfVerdict.{HalfVerdict}
-use Rattle.flow.specs.declared.halves.HalfVerdict.TheVariants.{
+use Rattle.flow.specs.declared.halves.FrameAction.{FrameAction}
+use Rattle.flow.specs.declared.halves.FrameAction.TheVariants.{
   Open,
   Accept,
   Discard,
@@ -53,7 +53,7 @@ use Rattle.flow.specs.Halves.{Event, verdict}
 use Rattle.hpack_codec.specs.declared.fault.HpackFault.{HpackFault}
 use Rattle.reasons.specs.declared.Reason.{Reason}
 use Rattle.reasons.specs.declared.Reason.TheVariants as reason
-use Rattle.session.specs.declared.event.Control.TheVariants as controls
+use Rattle.session.specs.declared.event.PeerControl.TheVariants as controls
 use Rattle.session.specs.declared.event.InEvent.{InEvent}
 use Rattle.session.specs.declared.event.InEvent.TheVariants as events
 use Rattle.h2frame.specs.declared.settings.PeerSetting.{PeerSetting}
@@ -134,7 +134,7 @@ head_gives_one head fields history next last given other (inr (fault, first, e, 
       f ∙ ap (λ (x : HeadFault). after_bad_head x head.stream history) same ∙ sym f',
     )
 
-fields_give_one : (judged : HalfVerdict) (head : FrameHead) (fields : List Field)
+fields_give_one : (judged : FrameAction) (head : FrameHead) (fields : List Field)
     (history next last : List Event) (given other : List InEvent)
     → FieldsGive judged head fields history given next
     → FieldsGive judged head fields history other last → (given ≡ other) × (next ≡ last)
@@ -152,7 +152,7 @@ fields_give_one (ConnectionError error) head fields history next last given othe
 pub not_calm_end : (given : List InEvent) (error : Reason) → given ≡ fatal error → IsCalm given → ⊥
 not_calm_end given error e calm = true≢false (subst IsCalm e calm)
 
-block_one : (kept kept_next kept_last : Option Table) (head : FrameHead) (judged : HalfVerdict)
+block_one : (kept kept_next kept_last : Option Table) (head : FrameHead) (judged : FrameAction)
     (block : List ℕ) (history next last : List Event) (given other : List InEvent)
     → BlockGives kept head judged block history given next kept_next
     → BlockGives kept head judged block history other last kept_last

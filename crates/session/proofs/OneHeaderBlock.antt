@@ -34,7 +34,7 @@ use Rattle.session.specs.declared.header_block.FragmentFault.TheVariants.{
 }
 use Rattle.session.specs.HeaderBlocks.{
   max_block,
-  Pending,
+  PendingBlock,
   IsContinuation,
   AreMarked,
   Collects,
@@ -87,19 +87,21 @@ marks_end (f ∷ g ∷ fs) m mid ended a b = marks_end (g ∷ fs) m mid ended a.
 
 -- ---- what is kept of a block
 
-same_pending : (a b : Pending) → a.head ≡ b.head → a.block ≡ b.block → a.whole ≡ b.whole → a ≡ b
+same_pending : (a b : PendingBlock) → a.head ≡ b.head → a.block ≡ b.block
+    → a.whole ≡ b.whole → a ≡ b
 same_pending a b head block whole =
     ap (λ (h : FrameHead). pending_of h a.block a.whole) head
     ∙ ap (λ (t : List ℕ). pending_of b.head t a.whole) block
     ∙ ap (λ (w : Bool). pending_of b.head b.block w) whole
   where
-    pending_of : FrameHead → List ℕ → Bool → Pending
+    pending_of : FrameHead → List ℕ → Bool → PendingBlock
     pending_of head block whole = record { head = head; block = block; whole = whole }
 
 first_frame : (f g : Frame) (fs gs : List Frame) → f ∷ fs ≡ g ∷ gs → (f ≡ g) × (fs ≡ gs)
 first_frame f g fs gs e = (cc, cc)
 
-pub collects_one : (fs gs : List Frame) (a b : Pending) → Collects fs a → Collects gs b → fs ≡ gs
+pub collects_one : (fs gs : List Frame) (a b : PendingBlock) → Collects fs a
+    → Collects gs b → fs ≡ gs
     → a.whole ≡ b.whole → a ≡ b
 collects_one fs gs a b c d same whole =
     let first = first_frame c.first d.first c.others d.others (sym c.parts ∙ same ∙ d.parts) in
@@ -113,7 +115,7 @@ all_at P (x ∷ xs) ys m all = all_at P xs ys m all.1
 
 -- ---- a frame that goes on with a block doesn't break it off
 
-goes_on : (gs : List Frame) (m : Frame) (mid : List Frame) (a b : Pending)
+goes_on : (gs : List Frame) (m : Frame) (mid : List Frame) (a b : PendingBlock)
     → Collects (gs ++ m ∷ mid) a → Collects gs b → IsContinuation b.head.stream m
 goes_on gs m mid a b c d =
     let first =
@@ -125,7 +127,7 @@ goes_on gs m mid a b c d =
     subst (λ (h : FrameHead). IsContinuation h.stream m) head
     (all_at (IsContinuation a.head.stream) d.others mid m all)
 
-has_room : (gs : List Frame) (m : Frame) (mid : List Frame) (a b : Pending)
+has_room : (gs : List Frame) (m : Frame) (mid : List Frame) (a b : PendingBlock)
     → Collects (gs ++ m ∷ mid) a → Collects gs b → length b.block + length m.content ≤ max_block
 has_room gs m mid a b c d =
     let text : a.block ≡ b.block ++ (m.content ++ fragments mid) =
@@ -139,14 +141,14 @@ has_room gs m mid a b c d =
       length-append m.content (fragments mid),
     )
 
-pub unbroken : (gs : List Frame) (m : Frame) (mid : List Frame) (a b : Pending)
+pub unbroken : (gs : List Frame) (m : Frame) (mid : List Frame) (a b : PendingBlock)
     (fault : FragmentFault)
     → Collects (gs ++ m ∷ mid) a → Collects gs b → Breaks (Whole m) b fault → ⊥
 unbroken gs m mid a b Interrupted c d breaks = breaks (goes_on gs m mid a b c d)
 unbroken gs m mid a b TooLong c d breaks = omega (arith, breaks.1, has_room gs m mid a b c d)
 unbroken gs m mid a b OutOfMemory c d breaks = breaks
 
-pub breaks_one : (entry : Entry) (block : Pending) (fault last : FragmentFault)
+pub breaks_one : (entry : Entry) (block : PendingBlock) (fault last : FragmentFault)
     → Breaks entry block fault → Breaks entry block last → fault ≡ last
 breaks_one (Whole frame) block Interrupted Interrupted s t = refl
 breaks_one (Whole frame) block Interrupted TooLong s t = absurd (s t.0)

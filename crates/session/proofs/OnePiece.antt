@@ -40,7 +40,7 @@ use Rattle.h2frame.specs.declared.kind.FrameKind.TheVariants.{
 use Rattle.h2frame.specs.FrameList.{Entry, Whole, NoIncrement}
 use Rattle.flow.specs.Halves.{Event, verdict, is_connection_error}
 use Rattle.session.specs.declared.header_block.FragmentFault.{FragmentFault}
-use Rattle.session.specs.HeaderBlocks.{Pending, AreMarked, Collects}
+use Rattle.session.specs.HeaderBlocks.{PendingBlock, AreMarked, Collects}
 use Rattle.session.specs.Events.{
   Group,
   Single,
@@ -69,7 +69,7 @@ use Rattle.session.proofs.OneHeaderBlock.{
 pub data Piece : Type 0 where
   Of : Group → Piece
   Refusal : Frame → Piece
-  Cut : List Frame → Pending → Entry → FragmentFault → Piece
+  Cut : List Frame → PendingBlock → Entry → FragmentFault → Piece
 
 abbrev pub taken : Piece → List Entry
 taken (Of group) = entries_of group
@@ -125,7 +125,7 @@ plain WindowUpdate b other = refl
 plain Continuation b other = refl
 plain (Unknown code) b other = refl
 
-begun_class : (history : List Event) (frames : List Frame) (block : Pending) (x : List Entry)
+begun_class : (history : List Event) (frames : List Frame) (block : PendingBlock) (x : List Entry)
     → IsBegun history frames block → class_at history (map Whole frames ++ x) ≡ Begun
 begun_class history frames block x begun =
     let c = begun.collects in
@@ -160,14 +160,15 @@ number_heads : (i j : ℕ) (x y : List Entry) → NoIncrement i ∷ x ≡ NoIncr
 number_heads i j x y e = (cc, cc)
 
 -- END_HEADERS is on the last frame of a whole block alone
-ends_inside : (frames others : List Frame) (m : Frame) (mid : List Frame) (block other : Pending)
+ends_inside : (frames others : List Frame) (m : Frame) (mid : List Frame)
+    (block other : PendingBlock)
     → Collects frames block → Collects others other → block.whole ≡ true
     → others ≡ frames ++ m ∷ mid → ⊥
 ends_inside frames others m mid block other c d whole e =
     marks_end frames m mid other.whole (subst (AreMarked frames) whole c.marks)
     (subst (λ (fs : List Frame). AreMarked fs other.whole) e d.marks)
 
-blocks_one : (history : List Event) (fs gs : List Frame) (a b : Pending) (x y : List Entry)
+blocks_one : (history : List Event) (fs gs : List Frame) (a b : PendingBlock) (x y : List Entry)
     → IsBegun history fs a → IsBegun history gs b → a.whole ≡ true → b.whole ≡ true
     → map Whole fs ++ x ≡ map Whole gs ++ y
     → (Of (Block fs a) ≡ Of (Block gs b)) × (x ≡ y)
@@ -178,7 +179,7 @@ blocks_one history fs gs a b x y is js whole also e = by (meet fs gs x y e)
         let block : a ≡ b =
         collects_one fs gs a b is.collects js.collects same (whole ∙ sym also) in (
           ap (λ (f : List Frame). Of (Block f a)) same
-              ∙ ap (λ (p : Pending). Of (Block gs p)) block,
+              ∙ ap (λ (p : PendingBlock). Of (Block gs p)) block,
           rest,
         )
     by (More m mid longer rest) =
@@ -187,7 +188,7 @@ blocks_one history fs gs a b x y is js whole also e = by (meet fs gs x y e)
         absurd (ends_inside fs gs m mid a b is.collects js.collects whole longer)
 
 -- a whole block doesn't begin with one that breaks off
-block_or_cut : (history : List Event) (fs gs : List Frame) (a b : Pending) (x y : List Entry)
+block_or_cut : (history : List Event) (fs gs : List Frame) (a b : PendingBlock) (x y : List Entry)
     (entry : Entry) (fault : FragmentFault)
     → IsBegun history fs a → IsBegun history gs b → a.whole ≡ true → b.whole ≡ false
     → Breaks entry b fault
@@ -208,7 +209,7 @@ block_or_cut history fs gs a b x y entry fault is js whole part breaks e =
         (sym (heads (Whole m) entry (map Whole mid ++ x) y rest).0) breaks)
     by (Fewer m mid longer rest) = ends_inside fs gs m mid a b is.collects js.collects whole longer
 
-cuts_one : (history : List Event) (fs gs : List Frame) (a b : Pending) (x y : List Entry)
+cuts_one : (history : List Event) (fs gs : List Frame) (a b : PendingBlock) (x y : List Entry)
     (entry other : Entry) (fault last : FragmentFault)
     → IsBegun history fs a → IsBegun history gs b → a.whole ≡ false → b.whole ≡ false
     → Breaks entry a fault → Breaks other b last
@@ -224,9 +225,9 @@ cuts_one history fs gs a b x y entry other fault last is js part also breaks sto
         let at = heads entry other x y rest in
         let here : Breaks other b fault =
         subst (λ (n : Entry). Breaks n b fault) at.0
-        (subst (λ (p : Pending). Breaks entry p fault) block breaks) in (
+        (subst (λ (p : PendingBlock). Breaks entry p fault) block breaks) in (
           ap (λ (f : List Frame). Cut f a entry fault) same
-              ∙ ap (λ (p : Pending). Cut gs p entry fault) block
+              ∙ ap (λ (p : PendingBlock). Cut gs p entry fault) block
               ∙ ap (λ (n : Entry). Cut gs b n fault) at.0
               ∙ ap (λ (w : FragmentFault). Cut gs b other w)
               (breaks_one other b fault last here stops),
@@ -305,7 +306,7 @@ nothing_inside (Cut frames block entry fault) c = cc
 none_left : (m : Frame) (mid : List Frame) (x : List Entry) → map Whole (m ∷ mid) ++ x ≡ [] → ⊥
 none_left m mid x e = cc
 
-in_block : (history : List Event) (p : Piece) (gs : List Frame) (b : Pending) (y : List Entry)
+in_block : (history : List Event) (p : Piece) (gs : List Frame) (b : PendingBlock) (y : List Entry)
     → class p ≡ Begun → StandsIn history p → IsBegun history gs b → b.whole ≡ false
     → map Whole gs ++ [] ≡ taken p ++ y → ⊥
 in_block history (Of (Single frame)) gs b y c s is part e = cc

@@ -46,10 +46,10 @@ use Rattle.h2frame.specs.declared.kind.FrameKind.TheVariants.{
 }
 use Rattle.h2frame.specs.Flags.{has, end_stream}
 use Rattle.h2frame.specs.FrameList.{Entry, Whole, NoIncrement}
-use Rattle.flow.specs.declared.halves.Half.{Half}
-use Rattle.flow.specs.declared.halves.Half.TheVariants.{Opened, Ended, Reset}
-use Rattle.flow.specs.declared.halves.HalfVerdict.{HalfVerdict}
-use Rattle.flow.specs.declared.halves.HalfVerdict.TheVariants.{Open, Accept, Discard, StreamError}
+use Rattle.flow.specs.declared.halves.HalfState.{HalfState}
+use Rattle.flow.specs.declared.halves.HalfState.TheVariants.{Opened, Ended, Reset}
+use Rattle.flow.specs.declared.halves.FrameAction.{FrameAction}
+use Rattle.flow.specs.declared.halves.FrameAction.TheVariants.{Open, Accept, Discard, StreamError}
 use Rattle.flow.specs.Halves.{
   Event,
   Received,
@@ -76,7 +76,7 @@ use Rattle.session.specs.Streams.{
   without_increment,
 }
 use Rattle.session.specs.Frames.{KindGives}
-use Rattle.session.specs.HeaderBlocks.{Pending}
+use Rattle.session.specs.HeaderBlocks.{PendingBlock}
 use Rattle.session.specs.Events.{Situation, Group, Single, Credit, Block, entries_of, GroupGives}
 use Rattle.session.specs.StreamData.{data_with, data_behind, pieces}
 use Rattle.session.proofs.HalfSteps.{
@@ -115,7 +115,7 @@ use Rattle.session.proofs.StreamGroups.{
 
 -- ---- where the stream's half is closed
 
-closed_data : (now : Half) (head : FrameHead) → IsClosed (Some now) → head.kind ≡ Data
+closed_data : (now : HalfState) (head : FrameHead) → IsClosed (Some now) → head.kind ≡ Data
     → on_begun now head ≢ Accept
 closed_data Opened head (inl e) kind = absurd cc
 closed_data Opened head (inr e) kind = absurd cc
@@ -123,7 +123,7 @@ closed_data Ended head closed kind = λ (e : on_begun Ended head ≡ Accept).
     let wrong : StreamError StreamClosed ≡ Accept = sym (ap on_ended kind) ∙ e in cc
 closed_data Reset head closed kind = λ (e : Discard ≡ Accept). cc
 
-closed_headers : (now : Half) (head : FrameHead) → IsClosed (Some now) → head.kind ≡ Headers
+closed_headers : (now : HalfState) (head : FrameHead) → IsClosed (Some now) → head.kind ≡ Headers
     → on_begun now head ≢ Open
 closed_headers Opened head (inl e) kind = absurd cc
 closed_headers Opened head (inr e) kind = absurd cc
@@ -131,7 +131,8 @@ closed_headers Ended head closed kind = λ (e : on_begun Ended head ≡ Open).
     let wrong : StreamError StreamClosed ≡ Open = sym (ap on_ended kind) ∙ e in cc
 closed_headers Reset head closed kind = λ (e : Discard ≡ Open). cc
 
-closed_here : (id : ℕ) (old new : Situation) (group : Group) (given : List InEvent) (now : Half)
+closed_here : (id : ℕ) (old new : Situation) (group : Group)
+    (given : List InEvent) (now : HalfState)
     → GroupGives old group given new → nat_eq id (stream_at group) ≡ true
     → half_at old.history id ≡ Some now → IsClosed (Some now) → IsSilent id given
 closed_here id old new (Single frame) given now (gives, same) on at closed =
@@ -216,10 +217,10 @@ data_open id old new frame given is gives on at counts =
     let judged : verdict old.history frame.head ≡ Accept =
     verdict_begun id old.history frame.head Opened on at ∙ (opened_data frame.head is).0 in
     let told : pieces id given ≡ frame.content =
-    ap (pieces id) (g.0 ∙ ap (λ (v : HalfVerdict). data_events v frame) judged)
+    ap (pieces id) (g.0 ∙ ap (λ (v : FrameAction). data_events v frame) judged)
     ∙ piece_here id frame on counts in
     let next : new.history ≡ Received frame.head ∷ old.history =
-    g.1 ∙ ap (λ (v : HalfVerdict). after_frame v frame.head old.history) judged in
+    g.1 ∙ ap (λ (v : FrameAction). after_frame v frame.head old.history) judged in
     let half : half_at new.history id ≡ Some
     (if has end_stream frame.head.flags then Ended else Opened) =
     ap (λ (h : List Event). half_at h id) next
@@ -283,7 +284,7 @@ window_open id old new frame given is on at (inr same) =
     let judged : verdict old.history frame.head ≡ Accept =
     verdict_begun id old.history frame.head Opened on at ∙ (opened_window frame.head is).0 in
     ap (λ (h : List Event). half_at h id)
-    (same ∙ ap (λ (v : HalfVerdict). after_frame v frame.head old.history) judged)
+    (same ∙ ap (λ (v : FrameAction). after_frame v frame.head old.history) judged)
     ∙ step_begun id (Received frame.head) old.history Opened on at
     ∙ ap Some (opened_window frame.head is).1
 
@@ -296,7 +297,7 @@ reset_closed id old new frame is same on at =
     let judged : verdict old.history frame.head ≡ Accept =
     verdict_begun id old.history frame.head Opened on at ∙ (opened_reset frame.head is).0 in
     inr (ap (λ (h : List Event). half_at h id)
-    (same ∙ ap (λ (v : HalfVerdict). after_frame v frame.head old.history) judged)
+    (same ∙ ap (λ (v : FrameAction). after_frame v frame.head old.history) judged)
     ∙ step_begun id (Received frame.head) old.history Opened on at
     ∙ ap Some (opened_reset frame.head is).1)
 
@@ -369,7 +370,7 @@ credit_closed id old new stream given (e, next, same) on at =
     let judged : credit_verdict old.history stream ≡ StreamError ProtocolError =
     ap without_increment (verdict_begun id old.history (credit_head stream) Opened on at) in
     let after : new.history ≡ Cut stream ∷ (Received (credit_head stream) ∷ old.history) =
-    next ∙ ap (λ (v : HalfVerdict). after_frame v (credit_head stream) old.history) judged in
+    next ∙ ap (λ (v : FrameAction). after_frame v (credit_head stream) old.history) judged in
     let half : half_at new.history id ≡ Some Reset =
     ap (λ (h : List Event). half_at h id) after
     ∙ step_begun id (Cut stream) (Received (credit_head stream) ∷ old.history) Opened on
@@ -418,11 +419,11 @@ trailers_closed id head history kind on at =
         → IsClosed (half_at (after_frame (verdict history head) head history) id)
         × (verdict history head ≢ Open)
     by true judged half = (
-      inl (ap (λ (v : HalfVerdict). half_at (after_frame v head history) id) judged ∙ half),
+      inl (ap (λ (v : FrameAction). half_at (after_frame v head history) id) judged ∙ half),
       λ (e : verdict history head ≡ Open). let wrong : Accept ≡ Open = sym judged ∙ e in cc,
     )
     by false judged half = (
-      inr (ap (λ (v : HalfVerdict). half_at (after_frame v head history) id) judged
+      inr (ap (λ (v : FrameAction). half_at (after_frame v head history) id) judged
           ∙ step_begun id (Cut head.stream) (Received head ∷ history) Opened on half),
       λ (e : verdict history head ≡ Open).
           let wrong : StreamError ProtocolError ≡ Open = sym judged ∙ e in
@@ -436,7 +437,7 @@ closed_next id stream next history (inr e) closed =
     at_next id next (Cut stream ∷ history) IsClosed e (closed_stays id (Cut stream) history closed)
 
 -- a header block closes it, and tells nothing of its data
-pub block_closed : (id : ℕ) (old new : Situation) (frames : List Frame) (block : Pending)
+pub block_closed : (id : ℕ) (old new : Situation) (frames : List Frame) (block : PendingBlock)
     (given : List InEvent)
     → GroupGives old (Block frames block) given new → nat_eq id block.head.stream ≡ true
     → half_at old.history id ≡ Some Opened
@@ -451,7 +452,7 @@ block_closed id old new frames block given (begun, whole, gives) on at =
       told.0,
     )
 
-block_open : (id : ℕ) (old new : Situation) (frames : List Frame) (block : Pending)
+block_open : (id : ℕ) (old new : Situation) (frames : List Frame) (block : PendingBlock)
     (given : List InEvent)
     → GroupGives old (Block frames block) given new → nat_eq id block.head.stream ≡ true
     → half_at old.history id ≡ Some Opened → OpenNext id new (Block frames block) given

@@ -47,9 +47,9 @@ use Rattle.lists.specs.declared.field.Field.{Field}
 use Rattle.hpack_codec.specs.Table.{Table}
 use Rattle.hpack_codec.specs.Codec.{Reads}
 use Rattle.callhead.specs.MalformedHeads.{are_malformed_trailers}
-use Rattle.flow.specs.declared.halves.Half.TheVariants.{Opened, Ended}
-use Rattle.flow.specs.declared.halves.HalfVerdict.{HalfVerdict}
-use Rattle.flow.specs.declared.halves.HalfVerdict.TheVariants.{Accept, StreamError}
+use Rattle.flow.specs.declared.halves.HalfState.TheVariants.{Opened, Ended}
+use Rattle.flow.specs.declared.halves.FrameAction.{FrameAction}
+use Rattle.flow.specs.declared.halves.FrameAction.TheVariants.{Accept, StreamError}
 use Rattle.flow.specs.Halves.{Event, Received, is_headers, verdict}
 use Rattle.session.specs.declared.event.InEvent.{InEvent}
 use Rattle.session.specs.declared.event.InEvent.TheVariants as events
@@ -66,7 +66,7 @@ use Rattle.session.specs.Streams.{
   without_increment,
 }
 use Rattle.session.specs.Frames.{WindowGives, KindGives}
-use Rattle.session.specs.HeaderBlocks.{Pending, Collects, IsContinuation}
+use Rattle.session.specs.HeaderBlocks.{PendingBlock, Collects, IsContinuation}
 use Rattle.session.specs.Blocks.{trailer_events, FieldsGive}
 use Rattle.session.specs.Events.{
   Situation,
@@ -148,7 +148,7 @@ of_continuations id stream (frame ∷ frames) more all =
     (and_false (nat_eq id frame.head.stream) (is_headers frame.head.kind) (ap is_headers all.0.0))
     ∙ of_continuations id stream frames more all.1
 
-block_behind : (id : ℕ) (frames : List Frame) (block : Pending) (more : List Entry)
+block_behind : (id : ℕ) (frames : List Frame) (block : PendingBlock) (more : List Entry)
     → Collects frames block
     → ending_behind id (map Whole frames ++ more)
     ≡ (if nat_eq id block.head.stream
@@ -171,7 +171,7 @@ block_behind id frames block more so =
     then (if has end_stream block.head.flags then Finished else Aborted)
     else e) (behind_continuations id block.head.stream so.others more so.continuations)
 
-pub block_of : (id : ℕ) (frames : List Frame) (block : Pending) (more : List Entry)
+pub block_of : (id : ℕ) (frames : List Frame) (block : PendingBlock) (more : List Entry)
     → Collects frames block
     → ending_of id (map Whole frames ++ more)
     ≡ (if nat_eq id block.head.stream
@@ -300,7 +300,7 @@ data_end id old new frame given is gives on at =
     verdict_begun id old.history frame.head Opened on at ∙ (opened_data frame.head is).0 in
     let told : ending_told id given
     ≡ (if has end_stream frame.head.flags then Finished else Unended) =
-    ap (ending_told id) (gives.0 ∙ ap (λ (v : HalfVerdict). data_events v frame) judged)
+    ap (ending_told id) (gives.0 ∙ ap (λ (v : FrameAction). data_events v frame) judged)
     ∙ told_append id (counted frame.head.length
     (events.Data frame.head.stream frame.content frame.head.length)) (end_of frame.head)
     ∙ ap (λ (e : Ending). first_end e (ending_told id (end_of frame.head))) (counted_told id
@@ -309,7 +309,7 @@ data_end id old new frame given is gives on at =
     let half : half_at new.history id ≡ Some
     (if has end_stream frame.head.flags then Ended else Opened) =
     ap (λ (h : List Event). half_at h id)
-    (gives.1 ∙ ap (λ (v : HalfVerdict). after_frame v frame.head old.history) judged)
+    (gives.1 ∙ ap (λ (v : FrameAction). after_frame v frame.head old.history) judged)
     ∙ step_begun id (Received frame.head) old.history Opened on at
     ∙ ap Some (opened_data frame.head is).1 in
     by (has end_stream frame.head.flags) refl told half (λ more.
@@ -348,7 +348,7 @@ reset_end id old new frame given is gives on at =
     inr (
       Aborted,
       λ behind. refl,
-      ap (ending_told id) (gives.0 ∙ ap (λ (v : HalfVerdict). reset_events v frame) judged)
+      ap (ending_told id) (gives.0 ∙ ap (λ (v : FrameAction). reset_events v frame) judged)
           ∙ ap (λ (b : Bool). first_end (if b then Aborted else Unended) Unended) on,
       reset_closed id old new frame is gives.1 on at,
       λ more.
@@ -370,7 +370,7 @@ window_quiet : (b : Bool) (id : ℕ) (history next : List Event) (frame : Frame)
     → ending_told id given ≡ Unended
 window_quiet true id history next frame given judged (e, same) = ap (ending_told id) e
 window_quiet false id history next frame given judged (e, same) =
-    ap (ending_told id) (e ∙ ap (λ (v : HalfVerdict). window_events v frame) judged)
+    ap (ending_told id) (e ∙ ap (λ (v : FrameAction). window_events v frame) judged)
 
 single_end : (kind : FrameKind) (id : ℕ) (old new : Situation) (frame : Frame)
     (given : List InEvent)
@@ -429,7 +429,7 @@ credit_end id old new stream given (e, next, same) on at =
     inr (
       Aborted,
       λ behind. refl,
-      ap (ending_told id) (e ∙ ap (λ (v : HalfVerdict). refusal v (credit_head stream)) judged)
+      ap (ending_told id) (e ∙ ap (λ (v : FrameAction). refusal v (credit_head stream)) judged)
           ∙ ap (λ (b : Bool). first_end (if b then Aborted else Unended) Unended) on,
       credit_closed id old new stream given (e, next, same) on at,
       λ more. ap (λ (b : Bool). if b then Aborted else ending_behind id more) on,
@@ -437,7 +437,7 @@ credit_end id old new stream given (e, next, same) on at =
 
 -- ---- trailers, or HEADERS that are an error of the stream
 
-due_block : (b : Bool) (id : ℕ) (frames : List Frame) (block : Pending) (more : List Entry)
+due_block : (b : Bool) (id : ℕ) (frames : List Frame) (block : PendingBlock) (more : List Entry)
     → has end_stream block.head.flags ≡ b → Collects frames block
     → nat_eq id block.head.stream ≡ true
     → ending_behind id (map Whole frames ++ more) ≡ (if b then Finished else Aborted)
@@ -448,7 +448,7 @@ due_block b id frames block more ended collects on =
     else ending_behind id more) on
     ∙ ap (λ (b : Bool). if b then Finished else Aborted) ended
 
-last_block : (b : Bool) (id : ℕ) (new : Situation) (frames : List Frame) (block : Pending)
+last_block : (b : Bool) (id : ℕ) (new : Situation) (frames : List Frame) (block : PendingBlock)
     (given : List InEvent)
     → has end_stream block.head.flags ≡ b → Collects frames block
     → nat_eq id block.head.stream ≡ true
@@ -476,7 +476,7 @@ error_here id head on = ap (λ (b : Bool). b || false) on
 
 -- the fields of trailers
 trailers_end : (malformed : Bool) (id : ℕ) (old new : Situation) (frames : List Frame)
-    (block : Pending) (given : List InEvent) (fields : List Field)
+    (block : PendingBlock) (given : List InEvent) (fields : List Field)
     → are_malformed_trailers fields ≡ malformed → has end_stream block.head.flags ≡ true
     → Collects frames block → block.whole ≡ true → nat_eq id block.head.stream ≡ true
     → verdict old.history block.head ≡ Accept → Reads old.kept block.block fields new.kept
@@ -497,7 +497,7 @@ trailers_end true id old new frames block given fields is ended collects whole o
       due = λ more. due_block true id frames block more ended collects on;
     })
 
-fields_end : (b : Bool) (id : ℕ) (old new : Situation) (frames : List Frame) (block : Pending)
+fields_end : (b : Bool) (id : ℕ) (old new : Situation) (frames : List Frame) (block : PendingBlock)
     (given : List InEvent) (fields : List Field) (history : List Event)
     → has end_stream block.head.flags ≡ b
     → verdict old.history block.head ≡ (if b then Accept else StreamError ProtocolError)
@@ -516,7 +516,7 @@ fields_end false id old new frames block given fields history ended judged colle
     inl (last_block false id new frames block given ended collects on closed
     (ap (ending_told id) gives.0 ∙ aborted_here id block.head on))
 
-block_end : (id : ℕ) (old new : Situation) (frames : List Frame) (block : Pending)
+block_end : (id : ℕ) (old new : Situation) (frames : List Frame) (block : PendingBlock)
     (given : List InEvent)
     → GroupGives old (Block frames block) given new → IsCalm given
     → nat_eq id block.head.stream ≡ true → half_at old.history id ≡ Some Opened
@@ -531,7 +531,7 @@ block_end id old new frames block given (begun, whole, inl (fields, reads, gives
     fields_end (has end_stream block.head.flags) id old new frames block given fields
     (after_frame (verdict old.history block.head) block.head old.history) refl judged
     begun.collects whole on reads
-    (subst (λ (v : HalfVerdict).
+    (subst (λ (v : FrameAction).
     FieldsGive v block.head fields
     (after_frame (verdict old.history block.head) block.head old.history) given
     new.history) judged gives)

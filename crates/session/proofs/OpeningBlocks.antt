@@ -6,8 +6,8 @@ use Rattle.lists.specs.declared.field.Field.{Field}
 use Rattle.hpack_codec.specs.Table.{Table}
 use Rattle.hpack_codec.specs.Codec.{Reads}
 use Rattle.callhead.specs.MalformedHeads.{are_malformed_trailers}
-use Rattle.flow.specs.declared.halves.HalfVerdict.{HalfVerdict}
-use Rattle.flow.specs.declared.halves.HalfVerdict.TheVariants.{Open, Accept}
+use Rattle.flow.specs.declared.halves.FrameAction.{FrameAction}
+use Rattle.flow.specs.declared.halves.FrameAction.TheVariants.{Open, Accept}
 use Rattle.flow.specs.Halves.{Event, Streams, Stands}
 use Rattle.session.specs.declared.event.InEvent.{InEvent}
 use Rattle.session.specs.Blocks.{trailer_events, after_trailers, HeadGives, FieldsGive, BlockGives}
@@ -19,7 +19,7 @@ IsOpened head fields old new before behind =
     → (given : List InEvent) × (next : List Event) × HeadGives head fields history given next
     × (new ≡ old ++ given) × Stands next behind
 
-abbrev pub IsTaken : Option Table → FrameHead → HalfVerdict → List ℕ → Option Table → List InEvent
+abbrev pub IsTaken : Option Table → FrameHead → FrameAction → List ℕ → Option Table → List InEvent
     → List InEvent → Streams → Streams → Type 0
 IsTaken kept head judged block kept_next old new before behind =
     (history : List Event) → Stands history before
@@ -28,7 +28,7 @@ IsTaken kept head judged block kept_next old new before behind =
     × Stands next behind
 
 pub block_opens : {T E : Type 0} (r : Result T E) (kept kept_next : Option Table) (head : FrameHead)
-    (judged : HalfVerdict) (block : List ℕ) (fields shown : List Field) (old new : List InEvent)
+    (judged : FrameAction) (block : List ℕ) (fields shown : List Field) (old new : List InEvent)
     (before behind : Streams)
     → judged ≡ Open → Reads kept block fields kept_next → shown ≡ fields
     → OnOk r (IsOpened head shown old new before behind)
@@ -44,7 +44,7 @@ block_opens (Ok x) kept kept_next head judged block fields shown old new before 
       inl (
         fields,
         reads,
-        subst (λ (v : HalfVerdict). FieldsGive v head fields history g.0 g.1) (sym opens) gives,
+        subst (λ (v : FrameAction). FieldsGive v head fields history g.0 g.1) (sym opens) gives,
       ),
       g.3,
       g.4,
@@ -53,7 +53,7 @@ block_opens (Err x) kept kept_next head judged block fields shown old new before
     reads same opened = tt
 
 pub block_trails : {T E : Type 0} (r : Result T E) (kept kept_next : Option Table)
-    (head : FrameHead) (judged : HalfVerdict) (block : List ℕ) (fields shown : List Field)
+    (head : FrameHead) (judged : FrameAction) (block : List ℕ) (fields shown : List Field)
     (old new : List InEvent) (before behind : Streams)
     → judged ≡ Accept → Reads kept block fields kept_next → shown ≡ fields
     → OnOk r (new ≡ old ++ trailer_events (are_malformed_trailers shown) head)
@@ -72,7 +72,7 @@ block_trails (Ok x) kept kept_next head judged block fields shown old new before
       inl (
         fields,
         reads,
-        subst (λ (v : HalfVerdict). FieldsGive v head fields history given next) (sym trails) gives,
+        subst (λ (v : FrameAction). FieldsGive v head fields history given next) (sym trails) gives,
       ),
       told,
       follows history stands,

@@ -54,9 +54,9 @@ use Rattle.callhead.specs.MalformedHeads.{are_malformed_trailers}
 use Rattle.callhead.specs.declared.fault.HeadFault.{HeadFault}
 use Rattle.callhead.specs.declared.fault.HeadFault.TheVariants.{Malformed}
 use Rattle.flow.specs.declared.TheConstants.{MAX_STREAMS}
-use Rattle.flow.specs.declared.halves.Half.{Half}
-use Rattle.flow.specs.declared.halves.HalfVerdict.{HalfVerdict}
-use Rattle.flow.specs.declared.halves.HalfVerdict.TheVariants.{
+use Rattle.flow.specs.declared.halves.HalfState.{HalfState}
+use Rattle.flow.specs.declared.halves.FrameAction.{FrameAction}
+use Rattle.flow.specs.declared.halves.FrameAction.TheVariants.{
   Open,
   Accept,
   Discard,
@@ -141,7 +141,7 @@ end_none head =
     as (λ (b : Bool). OpensNone (if b then events.End head.stream ∷ [] else []))
     [ true ↦ refl | false ↦ refl ]
 
-refusal_none : (judged : HalfVerdict) (head : FrameHead) → OpensNone (refusal judged head)
+refusal_none : (judged : FrameAction) (head : FrameHead) → OpensNone (refusal judged head)
 refusal_none (StreamError error) head = refl
 refusal_none (ConnectionError error) head = refl
 refusal_none Open head = refl
@@ -153,7 +153,7 @@ counted_none n event none =
     elim (n == 0) as (λ (b : Bool). OpensNone (if b then [] else event ∷ []))
     [ true ↦ refl | false ↦ ap (λ (b : List ℕ). b ++ []) none ]
 
-data_none : (judged : HalfVerdict) (frame : Frame) → OpensNone (data_events judged frame)
+data_none : (judged : FrameAction) (frame : Frame) → OpensNone (data_events judged frame)
 data_none Accept frame =
     none_join (counted frame.head.length
     (events.Data frame.head.stream frame.content frame.head.length)) (end_of frame.head)
@@ -171,14 +171,14 @@ data_none (StreamError error) frame =
     (events.StreamError frame.head.stream error ∷ [])
     (counted_none frame.head.length (events.Loose frame.head.length) refl) refl
 
-reset_none : (judged : HalfVerdict) (frame : Frame) → OpensNone (reset_events judged frame)
+reset_none : (judged : FrameAction) (frame : Frame) → OpensNone (reset_events judged frame)
 reset_none Accept frame = refl
 reset_none Open frame = refl
 reset_none Discard frame = refl
 reset_none (StreamError error) frame = refl
 reset_none (ConnectionError error) frame = refl
 
-credit_none : (judged : HalfVerdict) (frame : Frame) → OpensNone (window_events judged frame)
+credit_none : (judged : FrameAction) (frame : Frame) → OpensNone (window_events judged frame)
 credit_none Accept frame = refl
 credit_none Open frame = refl
 credit_none Discard frame = refl
@@ -224,7 +224,7 @@ trailers_none : (malformed : Bool) (head : FrameHead) → OpensNone (trailer_eve
 trailers_none true head = refl
 trailers_none false head = end_none head
 
-fields_none : (judged : HalfVerdict) (head : FrameHead) (fields : List Field)
+fields_none : (judged : FrameAction) (head : FrameHead) (fields : List Field)
     (history next : List Event) (given : List InEvent)
     → judged ≢ Open → FieldsGive judged head fields history given next → OpensNone given
 fields_none Open head fields history next given not gives = absurd (not refl)
@@ -260,7 +260,7 @@ later_same : (history next last : List Event) → last ≡ next → IsLater hist
     → IsLater history last
 later_same history next last e later = subst (IsLater history) (sym e) later
 
-later_frame : (judged : HalfVerdict) (head : FrameHead) (history : List Event)
+later_frame : (judged : FrameAction) (head : FrameHead) (history : List Event)
     → IsLater history (after_frame judged head history)
 later_frame (StreamError error) head history =
     later_join history (Received head ∷ history) (Cut head.stream ∷ (Received head ∷ history))
@@ -293,7 +293,7 @@ open_begins : (history : List Event) (head : FrameHead) → verdict history head
     → begins (Received head) (begun history) ≡ true
 open_begins history head opens = by (half_at history head.stream) refl
   where
-    by : (o : Option Half) → half_at history head.stream ≡ o
+    by : (o : Option HalfState) → half_at history head.stream ≡ o
         → begins (Received head) (begun history) ≡ true
     by (Some now) at =
         absurd (begun_not_open now head
@@ -378,7 +378,7 @@ block_opens_by kept kept_next head block history next given (inr (fault, first, 
 block_opens_by kept kept_next head block history next given (inl (fields, reads, gives)) =
     elim (open_or_not (verdict history head)) [
       | inl opens ↦
-          fields_open head fields history next given opens (subst (λ (v : HalfVerdict).
+          fields_open head fields history next given opens (subst (λ (v : FrameAction).
           FieldsGive v head fields (after_frame v head history) given next) opens gives)
       | inr not ↦
           let after : List Event = after_frame (verdict history head) head history in

@@ -33,8 +33,8 @@ use Rattle.h2frame.specs.declared.kind.FrameKind.TheVariants.{Headers, Settings}
 use Rattle.h2frame.specs.Flags.{has, end_headers}
 use Rattle.h2frame.specs.FrameList.{Entry, Whole, NoIncrement}
 use Rattle.hpack_codec.specs.Table.{Table}
-use Rattle.flow.specs.declared.halves.HalfVerdict.{HalfVerdict}
-use Rattle.flow.specs.declared.halves.HalfVerdict.TheVariants.{
+use Rattle.flow.specs.declared.halves.FrameAction.{FrameAction}
+use Rattle.flow.specs.declared.halves.FrameAction.TheVariants.{
   Open,
   Accept,
   Discard,
@@ -55,7 +55,7 @@ use Rattle.session.specs.declared.header_block.FragmentFault.TheVariants.{
 }
 use Rattle.session.specs.Streams.{after_frame, refusal, credit_head, credit_verdict}
 use Rattle.session.specs.Frames.{fatal}
-use Rattle.session.specs.HeaderBlocks.{Pending, Collects, Stands, fragment_reason}
+use Rattle.session.specs.HeaderBlocks.{PendingBlock, Collects, Stands, fragment_reason}
 use Rattle.session.specs.Blocks.{BlockGives}
 use Rattle.session.specs.Events.{
   Situation,
@@ -202,8 +202,8 @@ leads_behind entries behind before old given new now next group streams kept at 
     (group_or_end now next group given gives) e keeps settled))
 
 -- a header block that is whole: its head and its bytes as they were passed on
-pub collected : (entries : List Entry) (before old new : List InEvent) (block : Pending)
-    (judged : HalfVerdict) (streams new_streams : Streams) (kept new_kept : Option Table)
+pub collected : (entries : List Entry) (before old new : List InEvent) (block : PendingBlock)
+    (judged : FrameAction) (streams new_streams : Streams) (kept new_kept : Option Table)
     (at : Option Position) (head : FrameHead) (bytes : List ℕ)
     → block.whole ≡ true → head ≡ block.head → bytes ≡ block.block
     → ((history : List Event) → Keeps history streams
@@ -224,7 +224,7 @@ collected entries before old new block judged streams new_streams kept new_kept 
     new_kept) f g.2) in
     let as_judged : BlockGives kept block.head (verdict history block.head) block.block
     (after_frame (verdict history block.head) block.head history) g.0 g.1 new_kept =
-    subst (λ (v : HalfVerdict).
+    subst (λ (v : FrameAction).
     BlockGives kept block.head v block.block (after_frame v block.head history) g.0 g.1 new_kept)
     inside.as_judged as_head in
     leads_behind entries (map Whole frames) before old g.0 new
@@ -251,7 +251,7 @@ behind_groups entries entry before old given new now next group streams kept at 
 
 -- inside a header block, which it doesn't go on with
 pub breaks : (entries : List Entry) (entry : Entry) (rest : List ℕ) (before old new : List InEvent)
-    (block : Pending) (judged : HalfVerdict) (streams : Streams) (kept : Option Table)
+    (block : PendingBlock) (judged : FrameAction) (streams : Streams) (kept : Option Table)
     (fault : FragmentFault)
     → Leads entries (before ++ old) (Inside block judged) streams kept → Breaks entry block fault
     → new ≡ old ++ fatal (fragment_reason fault)
@@ -278,7 +278,8 @@ first_credit Between entries id rest before old new streams kept is leads e = ab
 first_credit (Inside block judged) entries id rest before old new streams kept is
     leads e = absurd cc
 
-pub inner_credit : (at : Position) (block : Pending) (judged : HalfVerdict) (entries : List Entry)
+pub inner_credit : (at : Position) (block : PendingBlock) (judged : FrameAction)
+    (entries : List Entry)
     (id : ℕ) (rest : List ℕ) (before old new : List InEvent) (streams : Streams)
     (kept : Option Table)
     → at ≡ Inside block judged → Leads entries (before ++ old) at streams kept
@@ -307,7 +308,7 @@ refuses entries frame error rest before old new history kept passes settled kind
 
 -- HEADERS that begin a block
 pub begun : (entries : List Entry) (frame : Frame) (before old : List InEvent)
-    (history : List Event) (block : Pending) (judged : HalfVerdict) (streams : Streams)
+    (history : List Event) (block : PendingBlock) (judged : FrameAction) (streams : Streams)
     (kept : Option Table)
     → Passes entries [] (before ++ old) (record { history = history; kept = kept })
     → IsSettled (entries ++ Whole frame ∷ []) → Collects (frame ∷ []) block
@@ -332,7 +333,7 @@ begun entries frame before old history block judged streams kept passes settled
         begun = record {
           collects = collects;
           lawful =
-              subst (λ (v : HalfVerdict). is_connection_error v ≡ false)
+              subst (λ (v : FrameAction). is_connection_error v ≡ false)
               (same ∙ ap (verdict history) first) live;
         };
         as_judged = same ∙ ap (verdict history) first;
@@ -342,7 +343,7 @@ begun entries frame before old history block judged streams kept passes settled
 
 -- one more frame of a block
 pub held : (entries : List Entry) (frame : Frame) (before old : List InEvent)
-    (block longer : Pending) (judged : HalfVerdict) (streams : Streams) (kept : Option Table)
+    (block longer : PendingBlock) (judged : FrameAction) (streams : Streams) (kept : Option Table)
     → Leads entries (before ++ old) (Inside block judged) streams kept
     → ((frames : List Frame) → Collects frames block → Collects (frames ++ frame ∷ []) longer)
     → longer.head ≡ block.head
@@ -392,7 +393,7 @@ if_ended (Err e) P Q none p f = tt
 
 -- WINDOW_UPDATE without an increment, behind whole groups
 pub credits : (at : Position) (entries : List Entry) (id : ℕ) (before old new : List InEvent)
-    (judged : HalfVerdict) (streams new_streams : Streams) (kept : Option Table)
+    (judged : FrameAction) (streams new_streams : Streams) (kept : Option Table)
     (next : Option Position)
     → at ≡ Between
     → ((history : List Event) → Keeps history streams → judged ≡ credit_verdict history id)
@@ -410,8 +411,8 @@ credits at entries id before old new judged streams new_streams kept next is sam
     (record { history = after_frame judged (credit_head id) l.0; kept = kept }) (Credit id)
     new_streams kept next
     l.1.passes (settled_longer entries (NoIncrement id ∷ []) l.1.settled) refl (
-      ap (λ (v : HalfVerdict). refusal v (credit_head id)) (same l.0 l.2),
-      ap (λ (v : HalfVerdict). after_frame v (credit_head id) l.0) (same l.0 l.2),
+      ap (λ (v : FrameAction). refusal v (credit_head id)) (same l.0 l.2),
+      ap (λ (v : FrameAction). after_frame v (credit_head id) l.0) (same l.0 l.2),
       refl,
     )
     e (follows l.0 l.2) refl place
@@ -456,13 +457,13 @@ first_stops at entries frame rest before old new streams kept is leads other e =
     unsettled entries (Whole frame) rest before old new l.0 l.1 other e
 
 -- an entry that doesn't go on with a header block, by a fault that isn't want of memory
-pub frame_breaks : (fault : FragmentFault) (frame : Frame) (block : Pending)
+pub frame_breaks : (fault : FragmentFault) (frame : Frame) (block : PendingBlock)
     → Stands fault block frame → (fault ≡ OutOfMemory → ⊥) → Breaks (Whole frame) block fault
 frame_breaks Interrupted frame block stands other = stands
 frame_breaks TooLong frame block stands other = stands
 frame_breaks OutOfMemory frame block stands other = absurd (other refl)
 
-not_fatal_verdict : (judged : HalfVerdict)
+not_fatal_verdict : (judged : FrameAction)
     → ((error : ErrorCode) → judged ≡ ConnectionError error → ⊥)
     → is_connection_error judged ≡ false
 not_fatal_verdict Open not = refl
@@ -473,7 +474,7 @@ not_fatal_verdict (ConnectionError error) not = absurd (not error refl)
 
 -- HEADERS that begin a block, which has come to this already
 pub block_begins : (entries : List Entry) (frame : Frame) (before old new : List InEvent)
-    (block : Pending) (judged : HalfVerdict) (streams between_streams new_streams : Streams)
+    (block : PendingBlock) (judged : FrameAction) (streams between_streams new_streams : Streams)
     (kept new_kept : Option Table) (next : Option Position) (history : List Event)
     → Collected block judged between_streams kept old next new_streams new_kept new
     → Passes entries [] (before ++ old) (record { history = history; kept = kept })
@@ -488,8 +489,8 @@ block_begins entries frame before old new block judged streams between_streams n
     judged between_streams kept passes settled collects same (not_fatal_verdict judged live) keeps)
 
 -- a block that was collected is whole
-pub whole_block : (entries : List Entry) (before old new : List InEvent) (block : Pending)
-    (head : FrameHead) (bytes : List ℕ) (judged : HalfVerdict) (streams new_streams : Streams)
+pub whole_block : (entries : List Entry) (before old new : List InEvent) (block : PendingBlock)
+    (head : FrameHead) (bytes : List ℕ) (judged : FrameAction) (streams new_streams : Streams)
     (kept new_kept : Option Table) (next : Option Position)
     → block.whole ≡ true → head ≡ block.head → bytes ≡ block.block
     → Collected (record { head = head; block = bytes; whole = true }) judged streams kept old next
@@ -501,11 +502,11 @@ whole_block entries before old new block head bytes judged streams new_streams k
     let same : block ≡ record { head = head; block = bytes; whole = true } =
     rw (same_head, same_bytes, ← whole) refl in
     collected entries before
-    (subst (λ (b : Pending). Holds entries (before ++ old) b judged streams kept) same holds)
+    (subst (λ (b : PendingBlock). Holds entries (before ++ old) b judged streams kept) same holds)
 
 -- HEADERS that are all of their block
 pub one_frame : (entries : List Entry) (frame : Frame) (bytes : List ℕ)
-    (before old new : List InEvent) (judged : HalfVerdict)
+    (before old new : List InEvent) (judged : FrameAction)
     (streams between_streams new_streams : Streams) (kept new_kept : Option Table)
     (next : Option Position) (history : List Event)
     → Collected (record { head = frame.head; block = bytes; whole = true }) judged between_streams

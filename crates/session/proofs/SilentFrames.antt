@@ -5,7 +5,7 @@ use Rattle.std.proofs.lemmas.Bool.{ne_eqb}
 use Rattle.h2frame.specs.declared.frame.Frame.{Frame}
 use Rattle.h2frame.specs.declared.kind.FrameKind.{FrameKind}
 use Rattle.h2frame.specs.declared.kind.FrameKind.TheVariants.{Priority, Unknown}
-use Rattle.flow.specs.declared.halves.HalfVerdict.{HalfVerdict}
+use Rattle.flow.specs.declared.halves.FrameAction.{FrameAction}
 use Rattle.flow.specs.Halves.{Event, Streams, Stands, verdict}
 use Rattle.session.specs.declared.event.InEvent.{InEvent}
 use Rattle.session.specs.Streams.{after_frame, window_events}
@@ -19,7 +19,7 @@ gives_nothing history frame (inl e) =
 gives_nothing history frame (inr (code, e)) =
     subst (λ (k : FrameKind). KindGives k history frame [] history) (sym e) (refl, refl)
 
-pub gives_on_stream : (history : List Event) (frame : Frame) (answer : HalfVerdict)
+pub gives_on_stream : (history : List Event) (frame : Frame) (answer : FrameAction)
     → (frame.head.stream ≡ 0 → ⊥) → answer ≡ verdict history frame.head
     → WindowGives (frame.head.stream == 0) history frame (window_events answer frame)
     (after_frame answer frame.head history)
@@ -27,8 +27,8 @@ gives_on_stream history frame answer on same =
     subst (λ (b : Bool).
     WindowGives b history frame (window_events answer frame)
     (after_frame answer frame.head history)) (sym (ne_eqb frame.head.stream 0 on)) (
-      ap (λ (v : HalfVerdict). window_events v frame) same,
-      ap (λ (v : HalfVerdict). after_frame v frame.head history) same,
+      ap (λ (v : FrameAction). window_events v frame) same,
+      ap (λ (v : FrameAction). after_frame v frame.head history) same,
     )
 
 -- what is due of WINDOW_UPDATE, where there is memory
@@ -39,7 +39,7 @@ IsCredited frame old new before behind =
     × WindowGives (frame.head.stream == 0) history frame given next × (new ≡ old ++ given)
     × Stands next behind
 
-pub credited : {T E : Type 0} (r : Result T E) (frame : Frame) (answer : HalfVerdict)
+pub credited : {T E : Type 0} (r : Result T E) (frame : Frame) (answer : FrameAction)
     (old new : List InEvent) (before behind : Streams)
     → (frame.head.stream ≡ 0 → ⊥)
     → ((history : List Event) → Stands history before → answer ≡ verdict history frame.head)

@@ -27,8 +27,8 @@ use Rattle.reasons.specs.declared.Reason.TheVariants as reason
 use Rattle.session.specs.declared.event.InEvent.{InEvent}
 use Rattle.session.specs.declared.context.Position.{Position}
 use Rattle.session.specs.declared.context.Position.TheVariants.{First}
-use Rattle.session.specs.declared.in_core.Stage.{Stage}
-use Rattle.session.specs.declared.in_core.Stage.TheVariants.{Greeting, Reading, Dead}
+use Rattle.session.specs.declared.in_core.InStage.{InStage}
+use Rattle.session.specs.declared.in_core.InStage.TheVariants.{Greeting, Reading, Dead}
 use Rattle.session.specs.Prefaces.{preface, Departs, Brings}
 use Rattle.session.specs.Frames.{fatal}
 use Rattle.session.specs.Events.{
@@ -103,7 +103,7 @@ departs_more text bytes piece departs more behind e =
 
 -- ---- the stages
 
-at_stage : (stage : Stage) (bytes text : List ℕ) (given : List InEvent) (waiting : List ℕ)
+at_stage : (stage : InStage) (bytes text : List ℕ) (given : List InEvent) (waiting : List ℕ)
     (streams : Streams) (kept : Option Table)
     → bytes ≡ preface ++ text → ReadsOn text given stage waiting streams kept
     → AtStage bytes given stage waiting streams kept
@@ -137,7 +137,7 @@ dead_feeds piece before waiting streams kept =
     }
 
 -- what is read behind the preface
-pub reading_feeds : (position : Position) (next : Stage) (piece : List ℕ)
+pub reading_feeds : (position : Position) (next : InStage) (piece : List ℕ)
     (before after : List InEvent) (waiting left : List ℕ) (streams new_streams : Streams)
     (kept new_kept : Option Table)
     → IsSoundStage next new_streams
@@ -162,7 +162,7 @@ reading_feeds position next piece before after waiting left streams new_streams 
 -- ---- the preface
 
 -- what the preface lacked came, and what is behind it is read
-pub greeted : (due piece still rest : List ℕ) (before after : List InEvent) (next : Stage)
+pub greeted : (due piece still rest : List ℕ) (before after : List InEvent) (next : InStage)
     (waiting left : List ℕ) (streams new_streams : Streams) (kept new_kept : Option Table)
     → Brings due piece still rest → still ≡ []
     → Feeds (core_of (Reading First) waiting streams kept) rest before

@@ -41,8 +41,8 @@ use Rattle.hpack_codec.specs.Table.{Table}
 use Rattle.callhead.specs.MalformedHeads.{are_malformed_trailers}
 use Rattle.callhead.specs.declared.fault.HeadFault.{HeadFault}
 use Rattle.callhead.specs.declared.fault.HeadFault.TheVariants.{Malformed}
-use Rattle.flow.specs.declared.halves.HalfVerdict.{HalfVerdict}
-use Rattle.flow.specs.declared.halves.HalfVerdict.TheVariants.{
+use Rattle.flow.specs.declared.halves.FrameAction.{FrameAction}
+use Rattle.flow.specs.declared.halves.FrameAction.TheVariants.{
   Open,
   Accept,
   Discard,
@@ -116,7 +116,7 @@ end_elsewhere id head other =
       | false ↦ refl
     ]
 
-pub refusal_elsewhere : (id : ℕ) (judged : HalfVerdict) (head : FrameHead)
+pub refusal_elsewhere : (id : ℕ) (judged : FrameAction) (head : FrameHead)
     → nat_eq id head.stream ≡ false → IsQuiet id (refusal judged head)
 refusal_elsewhere id (StreamError error) head other =
     ap (λ (b : Bool). first_end (if b then Aborted else Unended) Unended) other
@@ -131,7 +131,7 @@ counted_quiet id n event quiet =
     elim (n == 0) as (λ (b : Bool). IsQuiet id (if b then [] else event ∷ []))
     [ true ↦ refl | false ↦ ap (λ (e : Ending). first_end e Unended) quiet ]
 
-data_elsewhere : (id : ℕ) (judged : HalfVerdict) (frame : Frame)
+data_elsewhere : (id : ℕ) (judged : FrameAction) (frame : Frame)
     → nat_eq id frame.head.stream ≡ false → IsQuiet id (data_events judged frame)
 data_elsewhere id Accept frame other =
     quiet_join id
@@ -152,7 +152,7 @@ data_elsewhere id (StreamError error) frame other =
     (counted_quiet id frame.head.length (events.Loose frame.head.length) refl)
     (refusal_elsewhere id (StreamError error) frame.head other)
 
-reset_elsewhere : (id : ℕ) (judged : HalfVerdict) (frame : Frame)
+reset_elsewhere : (id : ℕ) (judged : FrameAction) (frame : Frame)
     → nat_eq id frame.head.stream ≡ false → IsQuiet id (reset_events judged frame)
 reset_elsewhere id Accept frame other =
     ap (λ (b : Bool). first_end (if b then Aborted else Unended) Unended) other
@@ -162,7 +162,7 @@ reset_elsewhere id (StreamError error) frame other =
     refusal_elsewhere id (StreamError error) frame.head other
 reset_elsewhere id (ConnectionError error) frame other = refl
 
-credit_elsewhere : (id : ℕ) (judged : HalfVerdict) (frame : Frame)
+credit_elsewhere : (id : ℕ) (judged : FrameAction) (frame : Frame)
     → nat_eq id frame.head.stream ≡ false → IsQuiet id (window_events judged frame)
 credit_elsewhere id Accept frame other = refl
 credit_elsewhere id Open frame other = refl
@@ -231,7 +231,7 @@ trailers_elsewhere : (id : ℕ) (malformed : Bool) (head : FrameHead) → nat_eq
 trailers_elsewhere id true head other = refusal_elsewhere id (StreamError ProtocolError) head other
 trailers_elsewhere id false head other = end_elsewhere id head other
 
-fields_elsewhere : (id : ℕ) (judged : HalfVerdict) (head : FrameHead) (fields : List Field)
+fields_elsewhere : (id : ℕ) (judged : FrameAction) (head : FrameHead) (fields : List Field)
     (history next : List Event) (given : List InEvent)
     → nat_eq id head.stream ≡ false → FieldsGive judged head fields history given next
     → IsQuiet id given
@@ -246,7 +246,7 @@ fields_elsewhere id (StreamError error) head fields history next given other (e,
 fields_elsewhere id (ConnectionError error) head fields history next given other (e, same) =
     quiet_same id given _ e refl
 
-block_elsewhere : (id : ℕ) (kept kept_next : Option Table) (head : FrameHead) (judged : HalfVerdict)
+block_elsewhere : (id : ℕ) (kept kept_next : Option Table) (head : FrameHead) (judged : FrameAction)
     (block : List ℕ) (history next : List Event) (given : List InEvent)
     → nat_eq id head.stream ≡ false → BlockGives kept head judged block history given next kept_next
     → IsQuiet id given

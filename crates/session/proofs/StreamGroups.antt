@@ -46,9 +46,9 @@ use Rattle.lists.specs.declared.field.Field.{Field}
 use Rattle.hpack_codec.specs.Table.{Table}
 use Rattle.callhead.specs.MalformedHeads.{are_malformed_trailers}
 use Rattle.callhead.specs.declared.fault.HeadFault.TheVariants.{Malformed}
-use Rattle.flow.specs.declared.halves.Half.{Half}
-use Rattle.flow.specs.declared.halves.HalfVerdict.{HalfVerdict}
-use Rattle.flow.specs.declared.halves.HalfVerdict.TheVariants.{
+use Rattle.flow.specs.declared.halves.HalfState.{HalfState}
+use Rattle.flow.specs.declared.halves.FrameAction.{FrameAction}
+use Rattle.flow.specs.declared.halves.FrameAction.TheVariants.{
   Open,
   Accept,
   Discard,
@@ -59,7 +59,7 @@ use Rattle.flow.specs.Halves.{Event, Cut, is_headers, begun, verdict}
 use Rattle.session.specs.declared.event.InEvent.{InEvent}
 use Rattle.session.specs.Streams.{after_frame, data_events, credit_head, credit_verdict}
 use Rattle.session.specs.Frames.{WindowGives, KindGives}
-use Rattle.session.specs.HeaderBlocks.{Pending, Collects, IsContinuation}
+use Rattle.session.specs.HeaderBlocks.{PendingBlock, Collects, IsContinuation}
 use Rattle.session.specs.Blocks.{HeadGives, FieldsGive, BlockGives}
 use Rattle.session.specs.Events.{Situation, Group, Single, Credit, Block, entries_of, GroupGives}
 use Rattle.session.specs.StreamData.{data_with, data_behind, data_of, is_opening}
@@ -120,7 +120,7 @@ head_next head fields history next given (inl (call, is, e, same)) = inl same
 head_next head fields history next given (inr (Malformed, first, e, same)) = inr same
 head_next head fields history next given (inr (_, first, e, same)) = inl same
 
-pub fields_next : (judged : HalfVerdict) (head : FrameHead) (fields : List Field)
+pub fields_next : (judged : FrameAction) (head : FrameHead) (fields : List Field)
     (history next : List Event) (given : List InEvent)
     → FieldsGive judged head fields history given next
     → (next ≡ history) ⊎ (next ≡ Cut head.stream ∷ history)
@@ -132,7 +132,7 @@ fields_next Discard head fields history next given (e, same) = inl same
 fields_next (StreamError error) head fields history next given (e, same) = inl same
 fields_next (ConnectionError error) head fields history next given (e, same) = inl same
 
-block_next : (kept kept_next : Option Table) (head : FrameHead) (judged : HalfVerdict)
+block_next : (kept kept_next : Option Table) (head : FrameHead) (judged : FrameAction)
     (block : List ℕ) (history next : List Event) (given : List InEvent)
     → BlockGives kept head judged block history given next kept_next
     → (next ≡ history) ⊎ (next ≡ Cut head.stream ∷ history)
@@ -141,7 +141,7 @@ block_next kept kept_next head judged block history next given (inl (fields, rea
 block_next kept kept_next head judged block history next given
     (inr (fault, first, memory, e, same)) = inl same
 
-pub at_next : (id : ℕ) (next history : List Event) (P : Option Half → Type 0) → next ≡ history
+pub at_next : (id : ℕ) (next history : List Event) (P : Option HalfState → Type 0) → next ≡ history
     → P (half_at history id) → P (half_at next id)
 at_next id next history P e p = subst (λ (h : List Event). P (half_at h id)) (sym e) p
 
@@ -162,7 +162,7 @@ group_closed id old new (Credit stream) given (g, e, same) closed =
     (after_frame (credit_verdict old.history stream) (credit_head stream) old.history) IsClosed e
     (closed_after id (credit_verdict old.history stream) (credit_head stream) old.history closed)
 group_closed id old new (Block frames block) given (begun, whole, gives) closed =
-    let judged : HalfVerdict = verdict old.history block.head in
+    let judged : FrameAction = verdict old.history block.head in
     let after : IsClosed (half_at (after_frame judged block.head old.history) id) =
     closed_after id judged block.head old.history closed in
     elim (block_next old.kept new.kept block.head judged block.block
@@ -195,7 +195,7 @@ group_elsewhere id old new (Credit stream) given (g, e, same) other =
     ap (λ (h : List Event). half_at h id) e
     ∙ other_after id (credit_verdict old.history stream) (credit_head stream) old.history other
 group_elsewhere id old new (Block frames block) given (begun, whole, gives) other =
-    let judged : HalfVerdict = verdict old.history block.head in
+    let judged : FrameAction = verdict old.history block.head in
     let after : half_at (after_frame judged block.head old.history) id ≡ half_at old.history id =
     other_after id judged block.head old.history other in
     elim (block_next old.kept new.kept block.head judged block.block
@@ -218,7 +218,7 @@ head_elsewhere id head fields history next given other (inl (call, is, e, same))
 head_elsewhere id head fields history next given other (inr (fault, first, e, same)) =
     ap (list_any (is_opening id)) e ∙ bad_head_elsewhere id fault head other
 
-pub open_or_not : (judged : HalfVerdict) → (judged ≡ Open) ⊎ (judged ≢ Open)
+pub open_or_not : (judged : FrameAction) → (judged ≡ Open) ⊎ (judged ≢ Open)
 open_or_not Open = inl refl
 open_or_not Accept = inr (λ (e : Accept ≡ Open). cc)
 open_or_not Discard = inr (λ (e : Discard ≡ Open). cc)
@@ -234,7 +234,7 @@ open_elsewhere id kept kept_next head block history next given other (inl (field
 open_elsewhere id kept kept_next head block history next given other
     (inr (fault, first, memory, e, same)) = ap (list_any (is_opening id)) e
 
-block_elsewhere : (id : ℕ) (kept kept_next : Option Table) (head : FrameHead) (judged : HalfVerdict)
+block_elsewhere : (id : ℕ) (kept kept_next : Option Table) (head : FrameHead) (judged : FrameAction)
     (block : List ℕ) (history next : List Event) (given : List InEvent)
     → nat_eq id head.stream ≡ false → BlockGives kept head judged block history given next kept_next
     → IsSilent id given
@@ -243,7 +243,7 @@ block_elsewhere id kept kept_next head judged block history next given other giv
       | inl opens ↦ (
         block_pieces id kept kept_next head judged block history next given gives,
         open_elsewhere id kept kept_next head block history next given other (subst
-            (λ (v : HalfVerdict).
+            (λ (v : FrameAction).
             BlockGives kept head v block history given next kept_next) opens gives),
       )
       | inr not ↦ (block_silent id kept kept_next head judged block history next given not gives).0
@@ -308,7 +308,7 @@ group_full old new (Credit stream) given (g, e, same) full =
     (after_frame (credit_verdict old.history stream) (credit_head stream) old.history) e
     (full_after (credit_verdict old.history stream) (credit_head stream) old.history full)
 group_full old new (Block frames block) given (begun, whole, gives) full =
-    let judged : HalfVerdict = verdict old.history block.head in
+    let judged : FrameAction = verdict old.history block.head in
     let after : IsFull (after_frame judged block.head old.history) =
     full_after judged block.head old.history full in
     elim (block_next old.kept new.kept block.head judged block.block
@@ -377,7 +377,7 @@ of_continuations id stream (frame ∷ frames) more all =
     and_false false b e = refl
 
 -- the entries of a header block, where its stream is open
-pub block_behind : (id : ℕ) (frames : List Frame) (block : Pending) (more : List Entry)
+pub block_behind : (id : ℕ) (frames : List Frame) (block : PendingBlock) (more : List Entry)
     → Collects frames block
     → data_behind id (map Whole frames ++ more)
     ≡ (if nat_eq id block.head.stream then [] else data_behind id more)
@@ -395,7 +395,7 @@ block_behind id frames block more so =
     (behind_continuations id block.head.stream so.others more so.continuations)
 
 -- and where it isn't
-pub block_of : (id : ℕ) (frames : List Frame) (block : Pending) (more : List Entry)
+pub block_of : (id : ℕ) (frames : List Frame) (block : PendingBlock) (more : List Entry)
     → Collects frames block
     → data_of id (map Whole frames ++ more)
     ≡ (if nat_eq id block.head.stream

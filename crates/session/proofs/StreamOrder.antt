@@ -33,9 +33,9 @@ use Rattle.h2frame.specs.FrameList.{Entry}
 use Rattle.hpack_codec.specs.Table.{Table}
 use Rattle.callhead.specs.declared.fault.HeadFault.{HeadFault}
 use Rattle.callhead.specs.declared.fault.HeadFault.TheVariants.{Malformed}
-use Rattle.flow.specs.declared.halves.Half.TheVariants.{Opened}
-use Rattle.flow.specs.declared.halves.HalfVerdict.{HalfVerdict}
-use Rattle.flow.specs.declared.halves.HalfVerdict.TheVariants.{
+use Rattle.flow.specs.declared.halves.HalfState.TheVariants.{Opened}
+use Rattle.flow.specs.declared.halves.FrameAction.{FrameAction}
+use Rattle.flow.specs.declared.halves.FrameAction.TheVariants.{
   Open,
   Accept,
   Discard,
@@ -229,14 +229,14 @@ open_alone id kept kept_next head block history next given
 open_alone id kept kept_next head block history next given (inr (fault, first, memory, e, same)) =
     same_alone id given _ e refl
 
-block_alone : (id : ℕ) (kept kept_next : Option Table) (head : FrameHead) (judged : HalfVerdict)
+block_alone : (id : ℕ) (kept kept_next : Option Table) (head : FrameHead) (judged : FrameAction)
     (block : List ℕ) (history next : List Event) (given : List InEvent)
     → BlockGives kept head judged block history given next kept_next → IsFirstAlone id given
 block_alone id kept kept_next head judged block history next given gives =
     elim (open_or_not judged) [
       | inl opens ↦
           open_alone id kept kept_next head block history next given (subst
-          (λ (v : HalfVerdict).
+          (λ (v : FrameAction).
           BlockGives kept head v block history given next kept_next) opens gives)
       | inr not ↦
           none_alone id given
@@ -381,7 +381,7 @@ IsParted id given =
 without_data : (id : ℕ) (given : List InEvent) → pieces id given ≡ [] → IsParted id given
 without_data id given none = ([], given, refl, refl, none)
 
-data_parted : (id : ℕ) (judged : HalfVerdict) (frame : Frame)
+data_parted : (id : ℕ) (judged : FrameAction) (frame : Frame)
     → IsParted id (data_events judged frame)
 data_parted id Accept frame =
     let piece : InEvent = events.Data frame.head.stream frame.content frame.head.length in (

@@ -49,8 +49,8 @@ use Rattle.hpack_codec.specs.Table.{Table}
 use Rattle.callhead.specs.MalformedHeads.{are_malformed_trailers}
 use Rattle.callhead.specs.declared.fault.HeadFault.{HeadFault}
 use Rattle.callhead.specs.declared.fault.HeadFault.TheVariants.{Malformed}
-use Rattle.flow.specs.declared.halves.HalfVerdict.{HalfVerdict}
-use Rattle.flow.specs.declared.halves.HalfVerdict.TheVariants.{
+use Rattle.flow.specs.declared.halves.FrameAction.{FrameAction}
+use Rattle.flow.specs.declared.halves.FrameAction.TheVariants.{
   Open,
   Accept,
   Discard,
@@ -110,7 +110,7 @@ loose_silent id n =
     elim (n == 0) as (λ (b : Bool). IsSilent id (if b then [] else events.Loose n ∷ []))
     [ true ↦ (refl, refl) | false ↦ (refl, refl) ]
 
-pub refusal_silent : (id : ℕ) (judged : HalfVerdict) (head : FrameHead)
+pub refusal_silent : (id : ℕ) (judged : FrameAction) (head : FrameHead)
     → IsSilent id (refusal judged head)
 refusal_silent id Open head = (refl, refl)
 refusal_silent id Accept head = (refl, refl)
@@ -118,7 +118,7 @@ refusal_silent id Discard head = (refl, refl)
 refusal_silent id (StreamError error) head = (refl, refl)
 refusal_silent id (ConnectionError error) head = (refl, refl)
 
-pub data_silent : (id : ℕ) (judged : HalfVerdict) (frame : Frame) → judged ≢ Accept
+pub data_silent : (id : ℕ) (judged : FrameAction) (frame : Frame) → judged ≢ Accept
     → IsSilent id (data_events judged frame)
 data_silent id Accept frame not = absurd (not refl)
 data_silent id (ConnectionError error) frame not = (refl, refl)
@@ -134,7 +134,7 @@ data_silent id (StreamError error) frame not =
     (loose_silent id frame.head.length) (refl, refl)
 
 -- DATA open no stream
-pub data_untold : (id : ℕ) (judged : HalfVerdict) (frame : Frame)
+pub data_untold : (id : ℕ) (judged : FrameAction) (frame : Frame)
     → list_any (is_opening id) (data_events judged frame) ≡ false
 data_untold id Accept frame =
     list_any-append (is_opening id) (counted frame.head.length
@@ -158,7 +158,7 @@ piece_silent id frame true on other = absurd cc
 piece_silent id frame false on other =
     (ap (λ (b : Bool). (if b then frame.content else []) ++ []) on, refl)
 
-pub data_elsewhere : (id : ℕ) (judged : HalfVerdict) (frame : Frame)
+pub data_elsewhere : (id : ℕ) (judged : FrameAction) (frame : Frame)
     → nat_eq id frame.head.stream ≡ false → IsSilent id (data_events judged frame)
 data_elsewhere id Accept frame other =
     silent_join id (counted frame.head.length
@@ -175,7 +175,7 @@ data_elsewhere id (StreamError error) frame other =
 data_elsewhere id (ConnectionError error) frame other =
     data_silent id (ConnectionError error) frame (λ (e : ConnectionError error ≡ Accept). cc)
 
-reset_silent : (id : ℕ) (judged : HalfVerdict) (frame : Frame)
+reset_silent : (id : ℕ) (judged : FrameAction) (frame : Frame)
     → IsSilent id (reset_events judged frame)
 reset_silent id Accept frame = (refl, refl)
 reset_silent id Open frame = (refl, refl)
@@ -183,7 +183,7 @@ reset_silent id Discard frame = (refl, refl)
 reset_silent id (StreamError error) frame = (refl, refl)
 reset_silent id (ConnectionError error) frame = (refl, refl)
 
-credit_silent : (id : ℕ) (judged : HalfVerdict) (frame : Frame)
+credit_silent : (id : ℕ) (judged : FrameAction) (frame : Frame)
     → IsSilent id (window_events judged frame)
 credit_silent id Accept frame = (refl, refl)
 credit_silent id Open frame = (refl, refl)
@@ -263,7 +263,7 @@ head_pieces id head fields history next given (inl (call, is, e, same)) =
 head_pieces id head fields history next given (inr (fault, first, e, same)) =
     ap (pieces id) e ∙ bad_head_pieces id fault head
 
-fields_pieces : (id : ℕ) (judged : HalfVerdict) (head : FrameHead) (fields : List Field)
+fields_pieces : (id : ℕ) (judged : FrameAction) (head : FrameHead) (fields : List Field)
     (history next : List Event) (given : List InEvent)
     → FieldsGive judged head fields history given next → pieces id given ≡ []
 fields_pieces id Open head fields history next given gives =
@@ -278,14 +278,14 @@ fields_pieces id (ConnectionError error) head fields history next given (e, same
     (silent_same id given _ e (refusal_silent id (ConnectionError error) head)).0
 
 pub block_pieces : (id : ℕ) (kept kept_next : Option Table) (head : FrameHead)
-    (judged : HalfVerdict) (block : List ℕ) (history next : List Event) (given : List InEvent)
+    (judged : FrameAction) (block : List ℕ) (history next : List Event) (given : List InEvent)
     → BlockGives kept head judged block history given next kept_next → pieces id given ≡ []
 block_pieces id kept kept_next head judged block history next given (inl (fields, reads, gives)) =
     fields_pieces id judged head fields history next given gives
 block_pieces id kept kept_next head judged block history next given
     (inr (fault, first, memory, e, same)) = (silent_same id given _ e (refl, refl)).0
 
-fields_silent : (id : ℕ) (judged : HalfVerdict) (head : FrameHead) (fields : List Field)
+fields_silent : (id : ℕ) (judged : FrameAction) (head : FrameHead) (fields : List Field)
     (history next : List Event) (given : List InEvent)
     → judged ≢ Open → FieldsGive judged head fields history given next
     → IsSilent id given × IsNextOf head.stream history next
@@ -303,7 +303,7 @@ fields_silent id (ConnectionError error) head fields history next given not (e, 
 
 -- a block whose HEADERS don't open their stream
 pub block_silent : (id : ℕ) (kept kept_next : Option Table) (head : FrameHead)
-    (judged : HalfVerdict) (block : List ℕ) (history next : List Event) (given : List InEvent)
+    (judged : FrameAction) (block : List ℕ) (history next : List Event) (given : List InEvent)
     → judged ≢ Open → BlockGives kept head judged block history given next kept_next
     → IsSilent id given × IsNextOf head.stream history next
 block_silent id kept kept_next head judged block history next given not

@@ -33,7 +33,7 @@ use Rattle.h2frame.specs.FrameList.{Entry, Whole, NoIncrement, Spells, Joined}
 use Rattle.h2frame.specs.Flags.{is_padded}
 use Rattle.h2frame.specs.Spelling.{payload_text}
 use Rattle.flow.specs.declared.TheConstants.{MAX_STREAMS}
-use Rattle.flow.specs.declared.halves.Half.TheVariants.{Opened}
+use Rattle.flow.specs.declared.halves.HalfState.TheVariants.{Opened}
 use Rattle.flow.specs.Halves.{begun}
 use Rattle.flow.proofs.HalfLemmas.{kept-None}
 use Rattle.session.specs.declared.event.InEvent.{InEvent}

@@ -13,8 +13,8 @@ use Rattle.callhead.specs.declared.fault.HeadFault.{HeadFault}
 use Rattle.callhead.specs.declared.fault.HeadFault.TheVariants.{Malformed}
 use Rattle.callhead.specs.Heads.{IsHead, IsFirstFault as IsFirstHeadFault}
 use Rattle.callhead.specs.MalformedHeads.{are_malformed_trailers}
-use Rattle.flow.specs.declared.halves.HalfVerdict.{HalfVerdict}
-use Rattle.flow.specs.declared.halves.HalfVerdict.TheVariants.{Open, Accept, StreamError}
+use Rattle.flow.specs.declared.halves.FrameAction.{FrameAction}
+use Rattle.flow.specs.declared.halves.FrameAction.TheVariants.{Open, Accept, StreamError}
 use Rattle.flow.specs.Halves.{Event, Cut}
 use Rattle.reasons.specs.declared.Reason.TheVariants as reason
 use Rattle.session.specs.declared.event.InEvent.{InEvent}
@@ -50,7 +50,7 @@ after_trailers true id history = Cut id ∷ history
 after_trailers false id history = history
 
 -- the fields of a refused block aren't looked at
-abbrev pub FieldsGive : HalfVerdict → FrameHead → List Field → List Event → List InEvent
+abbrev pub FieldsGive : FrameAction → FrameHead → List Field → List Event → List InEvent
     → List Event → Type 0
 FieldsGive Open head fields history given next = HeadGives head fields history given next
 FieldsGive Accept head fields history given next =
@@ -60,7 +60,7 @@ FieldsGive judged head fields history given next = (given ≡ refusal judged hea
 
 -- The block is read with the decoder's table, whatever its stream. Its first fault ends the
 -- connection.
-abbrev pub BlockGives : Option Table → FrameHead → HalfVerdict → List ℕ → List Event → List InEvent
+abbrev pub BlockGives : Option Table → FrameHead → FrameAction → List ℕ → List Event → List InEvent
     → List Event → Option Table → Type 0
 BlockGives kept head judged block history given next kept_next =
     ((fields : List Field) × Reads kept block fields kept_next

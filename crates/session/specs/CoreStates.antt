@@ -29,19 +29,19 @@ use Rattle.h2frame.specs.declared.fault.FrameFault.TheVariants.{OutOfMemory}
 use Rattle.h2frame.specs.declared.frame.Frame.{Frame}
 use Rattle.h2frame.specs.FrameList.{Entry, Whole, Joined, IsUnfinished}
 use Rattle.hpack_codec.specs.Table.{Table, empty_table}
-use Rattle.flow.specs.declared.halves.HalfVerdict.{HalfVerdict}
+use Rattle.flow.specs.declared.halves.FrameAction.{FrameAction}
 use Rattle.flow.specs.Halves.{Event, Streams, verdict, half_of}
 use Rattle.flow.specs.Halves.{Stands as Keeps}
 use Rattle.reasons.specs.declared.Reason.TheVariants as reason
 use Rattle.session.specs.declared.event.InEvent.{InEvent}
 use Rattle.session.specs.declared.context.Position.{Position}
 use Rattle.session.specs.declared.context.Position.TheVariants.{First, Between, Inside}
-use Rattle.session.specs.declared.in_core.Stage.{Stage}
-use Rattle.session.specs.declared.in_core.Stage.TheVariants.{Greeting, Reading, Dead}
+use Rattle.session.specs.declared.in_core.InStage.{InStage}
+use Rattle.session.specs.declared.in_core.InStage.TheVariants.{Greeting, Reading, Dead}
 use Rattle.session.specs.Prefaces.{preface, Departs}
 use Rattle.session.specs.Streams.{after_frame, is_accepted}
 use Rattle.session.specs.Frames.{fatal}
-use Rattle.session.specs.HeaderBlocks.{Pending}
+use Rattle.session.specs.HeaderBlocks.{PendingBlock}
 use Rattle.session.specs.Events.{
   Passes,
   IsBegun,
@@ -55,7 +55,7 @@ use Rattle.session.specs.Events.{
 
 -- what is kept between two pieces
 pub record Core : Type 0 where
-  pub stage : Stage
+  pub stage : InStage
   pub waiting : List ℕ
   pub streams : Streams
   pub kept : Option Table
@@ -71,7 +71,7 @@ abbrev pub IsSoundNext : Option Position → Streams → Type 0
 IsSoundNext (Some position) streams = IsSound position streams
 IsSoundNext None streams = Unit {0}
 
-abbrev pub IsSoundStage : Stage → Streams → Type 0
+abbrev pub IsSoundStage : InStage → Streams → Type 0
 IsSoundStage (Reading position) streams = IsSound position streams
 IsSoundStage (Greeting due) streams = Unit {0}
 IsSoundStage Dead streams = Unit {0}
@@ -88,13 +88,13 @@ pub record IsPassed (entries behind : List Entry) (given : List InEvent) (histor
   pub settled : IsSettled entries
 
 -- the frames of a header block came after them, whose HEADERS had this verdict
-pub record IsInside (block : Pending) (judged : HalfVerdict) (history : List Event)
+pub record IsInside (block : PendingBlock) (judged : FrameAction) (history : List Event)
     (frames : List Frame) (streams : Streams) : Type 0 where
   pub begun : IsBegun history frames block
   pub as_judged : judged ≡ verdict history block.head
   pub keeps : Keeps (after_frame judged block.head history) streams
 
-abbrev pub Holds : List Entry → List InEvent → Pending → HalfVerdict → Streams
+abbrev pub Holds : List Entry → List InEvent → PendingBlock → FrameAction → Streams
     → Option Table → Type 0
 Holds entries given block judged streams kept =
     (history : List Event) × (frames : List Frame)
@@ -139,7 +139,7 @@ Begins streams kept old frame next new_streams new_kept new =
     → LeadsOn (entries ++ Whole frame ∷ []) (before ++ new) next new_streams new_kept
 
 -- Whatever entries led to the frames of a header block, they lead on.
-abbrev pub Collected : Pending → HalfVerdict → Streams → Option Table → List InEvent
+abbrev pub Collected : PendingBlock → FrameAction → Streams → Option Table → List InEvent
     → Option Position → Streams → Option Table → List InEvent → Type 0
 Collected block judged streams kept old next new_streams new_kept new =
     (entries : List Entry) (before : List InEvent)
@@ -176,7 +176,7 @@ ReadsNext text given (Some position) waiting streams kept =
 ReadsNext text given None waiting streams kept = IsOver text given
 
 -- the bytes after the preface lead to this stage, in which no whole frame is left
-abbrev pub ReadsOn : List ℕ → List InEvent → Stage → List ℕ → Streams → Option Table → Type 0
+abbrev pub ReadsOn : List ℕ → List InEvent → InStage → List ℕ → Streams → Option Table → Type 0
 ReadsOn text given (Reading position) waiting streams kept =
     ReadsTo text given position waiting streams kept × IsUnfinished waiting
 ReadsOn text given Dead waiting streams kept = IsOver text given
@@ -186,7 +186,7 @@ ReadsOn text given (Greeting due) waiting streams kept = ⊥
 -- lead on to this stage.
 pub record ReadsWaiting (at : Position) (waiting : List ℕ) (streams : Streams) (kept : Option Table)
     (before : List InEvent)
-    (next : Stage) (left : List ℕ) (new_streams : Streams) (new_kept : Option Table)
+    (next : InStage) (left : List ℕ) (new_streams : Streams) (new_kept : Option Table)
     (after : List InEvent) : Type 0 where
   pub sound : IsSoundStage next new_streams
   pub reads : (text : List ℕ) (earlier : List InEvent)
@@ -194,7 +194,7 @@ pub record ReadsWaiting (at : Position) (waiting : List ℕ) (streams : Streams)
       → ReadsOn text (earlier ++ after) next left new_streams new_kept
 
 -- The bytes so far, with these events, lead to this core.
-abbrev pub AtStage : List ℕ → List InEvent → Stage → List ℕ → Streams → Option Table → Type 0
+abbrev pub AtStage : List ℕ → List InEvent → InStage → List ℕ → Streams → Option Table → Type 0
 AtStage bytes given (Greeting due) waiting streams kept =
     (preface ≡ bytes ++ due) × (due ≢ []) × (given ≡ []) × (waiting ≡ []) × Keeps [] streams
     × (kept ≡ Some empty_table)
@@ -209,7 +209,7 @@ pub record Reached (bytes : List ℕ) (given : List InEvent) (core : Core) : Typ
   pub at : AtStage bytes given core.stage core.waiting core.streams core.kept
 
 -- a core by its parts
-abbrev pub core_of : Stage → List ℕ → Streams → Option Table → Core
+abbrev pub core_of : InStage → List ℕ → Streams → Option Table → Core
 core_of stage waiting streams kept =
     record { stage = stage; waiting = waiting; streams = streams; kept = kept }
 

@@ -6,7 +6,7 @@ use Rattle.h2frame.specs.declared.frame.FrameHead.{FrameHead}
 use Rattle.h2frame.specs.declared.kind.FrameKind.TheVariants.{Settings}
 use Rattle.h2frame.specs.FrameList.{Whole, Spells}
 use Rattle.reasons.specs.declared.Reason.TheVariants as reason
-use Rattle.session.specs.declared.event.Control.TheVariants as controls
+use Rattle.session.specs.declared.event.PeerControl.TheVariants as controls
 use Rattle.session.specs.declared.event.InEvent.TheVariants as events
 use Rattle.session.specs.Prefaces.{preface}
 use Rattle.session.specs.Settings.{Tells}

@@ -29,7 +29,7 @@ use Rattle.h2frame.specs.declared.frame.Frame.{Frame}
 use Rattle.h2frame.specs.declared.kind.FrameKind.TheVariants.{Headers, Settings}
 use Rattle.h2frame.specs.FrameList.{Entry, Whole, NoIncrement, Joined, IsUnfinished, IsFaulty}
 use Rattle.hpack_codec.specs.Table.{Table, empty_table}
-use Rattle.flow.specs.declared.halves.HalfVerdict.TheVariants.{ConnectionError}
+use Rattle.flow.specs.declared.halves.FrameAction.TheVariants.{ConnectionError}
 use Rattle.flow.specs.Halves.{Event, verdict, is_connection_error}
 use Rattle.reasons.specs.declared.Reason.{Reason}
 use Rattle.reasons.specs.declared.Reason.TheVariants as reason
@@ -44,7 +44,7 @@ use Rattle.session.specs.declared.header_block.FragmentFault.TheVariants.{
 use Rattle.session.specs.Prefaces.{preface, Departs}
 use Rattle.session.specs.Streams.{after_frame, refusal, credit_head, credit_verdict}
 use Rattle.session.specs.Frames.{fatal, Gives}
-use Rattle.session.specs.HeaderBlocks.{Pending, Collects, Stands, fragment_reason}
+use Rattle.session.specs.HeaderBlocks.{PendingBlock, Collects, Stands, fragment_reason}
 use Rattle.session.specs.Blocks.{BlockGives}
 
 -- what frames are judged by: those before them and the resets, and the table of header fields
@@ -61,7 +61,7 @@ start = record { history = []; kept = Some empty_table }
 pub data Group : Type 0 where
   Single : Frame → Group
   Credit : ℕ → Group
-  Block : List Frame → Pending → Group
+  Block : List Frame → PendingBlock → Group
 
 abbrev pub entries_of : Group → List Entry
 entries_of (Single frame) = Whole frame ∷ []
@@ -69,7 +69,8 @@ entries_of (Credit id) = NoIncrement id ∷ []
 entries_of (Block frames block) = map Whole frames
 
 -- the frames of a header block, whole or not, whose HEADERS are no error of the connection
-pub record IsBegun (history : List Event) (frames : List Frame) (block : Pending) : Type 0 where
+pub record IsBegun (history : List Event) (frames : List Frame)
+    (block : PendingBlock) : Type 0 where
   pub collects : Collects frames block
   pub lawful : is_connection_error (verdict history block.head) ≡ false
 
@@ -128,18 +129,18 @@ pub data Close : Type 0 where
   Unfinished : Close
   Faulty : FrameFault → Close
   Refused : Frame → ErrorCode → Close
-  Broken : List Frame → Pending → Entry → FragmentFault → Close
+  Broken : List Frame → PendingBlock → Entry → FragmentFault → Close
   Ended : Group → Situation → Reason → Close
 
 -- nothing, or a header block that isn't whole
 abbrev pub IsPartial : List Event → List Entry → Type 0
 IsPartial history behind =
     (behind ≡ [])
-    ⊎ ((frames : List Frame) × (block : Pending) × IsBegun history frames block
+    ⊎ ((frames : List Frame) × (block : PendingBlock) × IsBegun history frames block
     × (block.whole ≡ false) × (behind ≡ map Whole frames))
 
 -- why an entry doesn't go on with a header block
-abbrev pub Breaks : Entry → Pending → FragmentFault → Type 0
+abbrev pub Breaks : Entry → PendingBlock → FragmentFault → Type 0
 Breaks entry block OutOfMemory = ⊥
 Breaks (Whole frame) block fault = Stands fault block frame
 Breaks (NoIncrement id) block Interrupted = Unit {0}

@@ -16,11 +16,11 @@ use Rattle.h2frame.specs.declared.kind.FrameKind.TheVariants.{
   Unknown,
 }
 use Rattle.h2frame.specs.Flags.{has, ack}
-use Rattle.flow.specs.declared.halves.HalfVerdict.{HalfVerdict}
+use Rattle.flow.specs.declared.halves.FrameAction.{FrameAction}
 use Rattle.flow.specs.Halves.{Event, verdict}
 use Rattle.reasons.specs.declared.Reason.{Reason}
 use Rattle.reasons.specs.declared.Reason.TheVariants as reason
-use Rattle.session.specs.declared.event.Control.TheVariants as controls
+use Rattle.session.specs.declared.event.PeerControl.TheVariants as controls
 use Rattle.session.specs.declared.event.InEvent.{InEvent}
 use Rattle.session.specs.declared.event.InEvent.TheVariants as events
 use Rattle.h2frame.specs.declared.settings.PeerSetting.{PeerSetting}
@@ -51,7 +51,7 @@ ping_events true content = []
 ping_events false content = events.Control (controls.Ping content) ∷ []
 
 -- a frame of a stream: its events by its verdict, and the history after it
-abbrev pub OnStream : (HalfVerdict → Frame → List InEvent) → List Event → Frame → List InEvent
+abbrev pub OnStream : (FrameAction → Frame → List InEvent) → List Event → Frame → List InEvent
     → List Event → Type 0
 OnStream events_of history frame given next =
     (given ≡ events_of (verdict history frame.head) frame)

@@ -2,7 +2,7 @@
 use Rattle.std.specs.Prelude.{[], ◌∷◌, ◌++◌, refl}
 use Rattle.std.proofs.Common.{inl, inr, lit<}
 use Rattle.h2frame.specs.FrameList.{Whole}
-use Rattle.session.specs.declared.event.Control.TheVariants as controls
+use Rattle.session.specs.declared.event.PeerControl.TheVariants as controls
 use Rattle.session.specs.declared.event.InEvent.TheVariants as events
 use Rattle.session.specs.Prefaces.{preface}
 use Rattle.session.specs.Events.{start, Single, Unfinished}

@@ -21,7 +21,7 @@ max_block = 65536
 
 -- what is kept of a header block: the head of its HEADERS, its bytes so far, and whether they are
 -- all of them
-pub record Pending : Type 0 where
+pub record PendingBlock : Type 0 where
   pub head : FrameHead
   pub block : List ℕ
   pub whole : Bool
@@ -40,7 +40,7 @@ abbrev pub fragments : List Frame → List ℕ
 fragments frames = flat_map (λ (frame : Frame). frame.content) frames
 
 -- The frames are those of the block so far, and their joined contents are its bytes.
-pub record Collects (frames : List Frame) (pending : Pending) : Type 0 where
+pub record Collects (frames : List Frame) (pending : PendingBlock) : Type 0 where
   pub first : Frame
   pub others : List Frame
   pub parts : frames ≡ first ∷ others
@@ -53,7 +53,7 @@ pub record Collects (frames : List Frame) (pending : Pending) : Type 0 where
 
 -- why a frame doesn't go on with the block: it isn't CONTINUATION of the stream, or it has too many
 -- bytes
-abbrev pub Stands : FragmentFault → Pending → Frame → Type 0
+abbrev pub Stands : FragmentFault → PendingBlock → Frame → Type 0
 Stands Interrupted pending frame = IsContinuation pending.head.stream frame → ⊥
 Stands TooLong pending frame =
     IsContinuation pending.head.stream frame

@@ -10,8 +10,8 @@ use Rattle.h2frame.specs.declared.kind.FrameKind.TheVariants.{WindowUpdate}
 use Rattle.h2frame.specs.ErrorCode.{error_of}
 use Rattle.h2frame.specs.Faults.{increment_of}
 use Rattle.h2frame.specs.Flags.{has, end_stream}
-use Rattle.flow.specs.declared.halves.HalfVerdict.{HalfVerdict}
-use Rattle.flow.specs.declared.halves.HalfVerdict.TheVariants.{
+use Rattle.flow.specs.declared.halves.FrameAction.{FrameAction}
+use Rattle.flow.specs.declared.halves.FrameAction.TheVariants.{
   Open,
   Accept,
   StreamError,
@@ -19,26 +19,26 @@ use Rattle.flow.specs.declared.halves.HalfVerdict.TheVariants.{
 }
 use Rattle.flow.specs.Halves.{Event, Received, Cut, verdict}
 use Rattle.reasons.specs.declared.Reason.TheVariants as reason
-use Rattle.session.specs.declared.event.Control.TheVariants.{Window}
+use Rattle.session.specs.declared.event.PeerControl.TheVariants.{Window}
 use Rattle.session.specs.declared.event.InEvent.{InEvent}
 use Rattle.session.specs.declared.event.InEvent.TheVariants as events
 
 -- the history after a frame with this verdict: an error of the stream resets it
-abbrev pub after : HalfVerdict → ℕ → List Event → List Event
+abbrev pub after : FrameAction → ℕ → List Event → List Event
 after (StreamError error) id history = Cut id ∷ history
 after _ id history = history
 
-abbrev pub after_frame : HalfVerdict → FrameHead → List Event → List Event
+abbrev pub after_frame : FrameAction → FrameHead → List Event → List Event
 after_frame judged head history = after judged head.stream (Received head ∷ history)
 
 -- the verdicts of frames that are no error: HEADERS with them open a stream, or are its trailers
-abbrev pub is_accepted : HalfVerdict → Bool
+abbrev pub is_accepted : FrameAction → Bool
 is_accepted Open = true
 is_accepted Accept = true
 is_accepted _ = false
 
 -- the events of a frame with a verdict other than Accept
-abbrev pub refusal : HalfVerdict → FrameHead → List InEvent
+abbrev pub refusal : FrameAction → FrameHead → List InEvent
 refusal (StreamError error) head = events.StreamError head.stream error ∷ []
 refusal (ConnectionError error) head = events.Fatal (reason.Stream head.kind error) ∷ []
 refusal _ head = []
@@ -51,7 +51,7 @@ abbrev pub end_of : FrameHead → List InEvent
 end_of head = if has end_stream head.flags then events.End head.stream ∷ [] else []
 
 -- DATA on a stream that takes no more still count on the connection
-abbrev pub data_events : HalfVerdict → Frame → List InEvent
+abbrev pub data_events : FrameAction → Frame → List InEvent
 data_events Accept frame =
     counted frame.head.length (events.Data frame.head.stream frame.content frame.head.length)
     ++ end_of frame.head
@@ -60,7 +60,7 @@ data_events judged frame =
     counted frame.head.length (events.Loose frame.head.length) ++ refusal judged frame.head
 
 -- RST_STREAM has the error in four bytes
-abbrev pub reset_events : HalfVerdict → Frame → List InEvent
+abbrev pub reset_events : FrameAction → Frame → List InEvent
 reset_events Accept frame =
     events.Reset frame.head.stream (error_of (from_be_bytes w32 frame.content)) ∷ []
 reset_events judged frame = refusal judged frame.head
@@ -68,7 +68,7 @@ reset_events judged frame = refusal judged frame.head
 abbrev pub window_event : Frame → InEvent
 window_event frame = events.Control (Window frame.head.stream (increment_of frame.content))
 
-abbrev pub window_events : HalfVerdict → Frame → List InEvent
+abbrev pub window_events : FrameAction → Frame → List InEvent
 window_events Accept frame = window_event frame ∷ []
 window_events judged frame = refusal judged frame.head
 
@@ -78,9 +78,9 @@ abbrev pub credit_head : ℕ → FrameHead
 credit_head id =
     record { kind = WindowUpdate; flags = record { bits = 0 }; stream = id; length = 4 }
 
-abbrev pub without_increment : HalfVerdict → HalfVerdict
+abbrev pub without_increment : FrameAction → FrameAction
 without_increment Accept = StreamError ProtocolError
 without_increment judged = judged
 
-abbrev pub credit_verdict : List Event → ℕ → HalfVerdict
+abbrev pub credit_verdict : List Event → ℕ → FrameAction
 credit_verdict history id = without_increment (verdict history (credit_head id))

@@ -8,11 +8,11 @@ use Rattle.lists.specs.declared.field.Field.{Field}
 use Rattle.hpack_codec.specs.Table.{Table}
 use Rattle.hpack_codec.specs.Codec.{Reads}
 use Rattle.callhead.specs.MalformedHeads.{are_malformed_trailers}
-use Rattle.flow.specs.declared.halves.HalfVerdict.TheVariants.{Accept}
+use Rattle.flow.specs.declared.halves.FrameAction.TheVariants.{Accept}
 use Rattle.flow.specs.Halves.{verdict}
 use Rattle.session.specs.declared.event.InEvent.{InEvent}
 use Rattle.session.specs.declared.event.InEvent.TheVariants as events
-use Rattle.session.specs.HeaderBlocks.{Pending, Collects}
+use Rattle.session.specs.HeaderBlocks.{PendingBlock, Collects}
 use Rattle.session.specs.Events.{Situation, Passes}
 use Rattle.session.specs.StreamData.{Finished, Aborted, ending_of, ending_told}
 
@@ -20,7 +20,7 @@ use Rattle.session.specs.StreamData.{Finished, Aborted, ending_of, ending_told}
 -- the open stream, and its fields are no trailers.
 pub record HasMalformedTrailers (id : ℕ) (entries : List Entry) : Type 0 where
   pub frames : List Frame
-  pub block : Pending
+  pub block : PendingBlock
   pub behind : List Entry
   pub given : List InEvent
   pub now : Situation

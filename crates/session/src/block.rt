@@ -17,7 +17,7 @@ ghost use Rattle.session.specs.Blocks.{
 use crate::event::InEvent;
 use crate::judge::refuse;
 use callhead::{CallHead, HeadFault, are_malformed_trailers};
-use flow::{HalfVerdict, Halves};
+use flow::{FrameAction, Halves};
 use h2frame::{ErrorCode, Flags, FrameHead};
 use hpack_codec::{Decoder, HpackFault};
 use lists::Field;
@@ -31,7 +31,7 @@ pub fn block_events(
     halves: &mut Halves,
     decoder: &mut Decoder,
     head: &FrameHead,
-    verdict: HalfVerdict,
+    verdict: FrameAction,
     block: &[u8],
     events: &mut Vec<InEvent>,
 ) -> Result<(), AllocError>
@@ -50,8 +50,8 @@ pub fn block_events(
         }
     };
     match verdict {
-        HalfVerdict::Open => head_events(alloc, halves, head, fields.as_slice(), events),
-        HalfVerdict::Accept => trailer_events(halves, head, fields.as_slice(), events),
+        FrameAction::Open => head_events(alloc, halves, head, fields.as_slice(), events),
+        FrameAction::Accept => trailer_events(halves, head, fields.as_slice(), events),
         _ => refuse(verdict, head, events),
     }
 }
@@ -114,7 +114,7 @@ fn trailer_events(
 {
     if are_malformed_trailers(fields) {
         halves.cut(head.stream);
-        let error = HalfVerdict::StreamError(ErrorCode::ProtocolError);
+        let error = FrameAction::StreamError(ErrorCode::ProtocolError);
         return refuse(error, head, events);
     }
     end_event(head, events)

@@ -23,7 +23,7 @@ use crate::block::block_events;
 use crate::event::InEvent;
 use crate::header_block::{FragmentFault, HeaderBlock};
 use crate::judge::{credit_head, frame_events, judge, judge_credit, refuse};
-use flow::{HalfVerdict, Halves};
+use flow::{FrameAction, Halves};
 use h2frame::{Flags, Frame, FrameFault, FrameHead, FrameKind, StreamId};
 use hpack_codec::Decoder;
 use reasons::Reason;
@@ -37,7 +37,7 @@ pub enum Position {
     /// No header block is unfinished.
     Between,
     /// A header block isn't whole yet. Its HEADERS had this verdict.
-    Inside(HeaderBlock, HalfVerdict),
+    Inside(HeaderBlock, FrameAction),
 }
 
 /// What is kept of the frames before.
@@ -184,7 +184,7 @@ impl Context {
             return Ok(between(events));
         }
         let verdict = judge(&mut self.halves, &frame.head)?;
-        if let HalfVerdict::ConnectionError(error) = verdict {
+        if let FrameAction::ConnectionError(error) = verdict {
             return end(Reason::Stream(frame.head.kind, error), events);
         }
         if frame.head.flags.contains(Flags::END_HEADERS) {
@@ -198,7 +198,7 @@ impl Context {
     fn go_on(
         &mut self,
         block: HeaderBlock,
-        verdict: HalfVerdict,
+        verdict: FrameAction,
         frame: &Frame,
         events: &mut Vec<InEvent>,
     ) -> Result<Option<Position>, AllocError>
@@ -223,7 +223,7 @@ impl Context {
     fn collect(
         &mut self,
         block: HeaderBlock,
-        verdict: HalfVerdict,
+        verdict: FrameAction,
         events: &mut Vec<InEvent>,
     ) -> Result<Option<Position>, AllocError>
         requires { is_accepted verdict ≡ true → IsSome (half_of self.old.halves block.head.stream) }
@@ -242,7 +242,7 @@ impl Context {
     fn whole(
         &mut self,
         head: &FrameHead,
-        verdict: HalfVerdict,
+        verdict: FrameAction,
         block: &[u8],
         events: &mut Vec<InEvent>,
     ) -> Result<Option<Position>, AllocError>

@@ -1,6 +1,6 @@
 //! The events of a connection.
 //!
-//! `Control` has what the peer says to the side that writes, but no ends of calls.
+//! `PeerControl` has what the peer says to the side that writes, but no ends of calls.
 
 use bytes::Bytes;
 use callhead::{CallHead, HeadFault};
@@ -9,7 +9,7 @@ use reasons::Reason;
 
 /// What the peer says to the side that writes.
 #[derive(Debug, Drop)]
-pub enum Control {
+pub enum PeerControl {
     /// SETTINGS, which are to be acknowledged.
     Settings(PeerSettings),
     /// PING with these eight bytes, which are to be sent back.
@@ -36,7 +36,7 @@ pub enum InEvent {
     Reset(StreamId, ErrorCode),
     /// A stream is to be reset with this error, and counts as reset from here on.
     StreamError(StreamId, ErrorCode),
-    Control(Control),
+    Control(PeerControl),
     /// The peer opens no more streams.
     PeerGoaway,
     /// The connection is to be ended, for this reason. It is the last event.

@@ -74,9 +74,9 @@ pub struct HeaderBlock {
 }
 
 impl Model for HeaderBlock {
-    ghost use Rattle.session.specs.HeaderBlocks.{Pending};
+    ghost use Rattle.session.specs.HeaderBlocks.{PendingBlock};
 
-    ghost Value = { Pending };
+    ghost Value = { PendingBlock };
 
     ghost view = { λ b. record { head = b.head; block = b.bytes.items; whole = b.whole } };
 }

@@ -21,7 +21,7 @@ ghost use Rattle.std.specs.Io.KnownBytes.{Consumes, IsAtEnd, Keeps};
 ghost use Rattle.device.specs.Bytes.{ConsumesSome};
 ghost use Rattle.device.specs.declared.whole.ReadFault.TheVariants.{Device};
 ghost use Rattle.session.specs.declared.event.InEvent.{InEvent as InEventOf};
-ghost use Rattle.session.specs.declared.in_core.Stage.TheVariants.{Dead, Greeting, Reading};
+ghost use Rattle.session.specs.declared.in_core.InStage.TheVariants.{Dead, Greeting, Reading};
 ghost use Rattle.session.specs.CoreStates.{
   Reached,
   IsSound,
@@ -46,7 +46,7 @@ const FIRST_PIECE: usize = 1_024;
 
 /// What the bytes so far have come to.
 #[derive(Drop)]
-pub enum Stage {
+pub enum InStage {
     /// The preface isn't whole yet.
     Greeting(Preface),
     /// Frames are read.
@@ -58,7 +58,7 @@ pub enum Stage {
 /// Reads a connection.
 #[derive(Drop)]
 pub struct InCore {
-    stage: Stage,
+    stage: InStage,
     reader: FrameReader,
     context: Context,
 }
@@ -84,7 +84,7 @@ impl InCore {
         ensures { Reached [] [] result }
     {
         InCore {
-            stage: Stage::Greeting(Preface::new()),
+            stage: InStage::Greeting(Preface::new()),
             reader: FrameReader::new(alloc),
             context: Context::new(alloc),
         }
@@ -111,7 +111,7 @@ impl InCore {
             → I.failed input.new ≡ I.failed input.old }
     {
         let mut events = Vec::new(self.context.alloc);
-        let stage = mem::replace(&mut self.stage, Stage::Dead);
+        let stage = mem::replace(&mut self.stage, InStage::Dead);
         let (next, count) = advance_from(
             stage,
             &mut self.reader,
@@ -136,7 +136,7 @@ impl InCore {
         ensures err { OnErr result (self.new.stage ≡ Dead) }
     {
         let mut events = Vec::new(self.context.alloc);
-        let stage = mem::replace(&mut self.stage, Stage::Dead);
+        let stage = mem::replace(&mut self.stage, InStage::Dead);
         self.stage = advance(
             stage,
             &mut self.reader,
@@ -150,12 +150,12 @@ impl InCore {
 
 /// What a stage comes to by one read. Answers how many bytes came, too.
 fn advance_from<I: ConnRead>(
-    stage: Stage,
+    stage: InStage,
     reader: &mut FrameReader,
     context: &mut Context,
     input: &mut I,
     events: &mut Vec<InEvent>,
-) -> Result<(Stage, usize), ReadFault>
+) -> Result<(InStage, usize), ReadFault>
     requires { IsSoundStage stage context.old.halves }
     ensures feeds { IfOk result (λ next. (came : List ℕ) × (length came ≡ next.1)
         × Consumes (I.remaining input.old) (I.remaining input.new) came
@@ -172,7 +172,7 @@ fn advance_from<I: ConnRead>(
         → I.failed input.new ≡ I.failed input.old }
 {
     match stage {
-        Stage::Reading(position) => {
+        InStage::Reading(position) => {
             let count = reader.read_from(input)?;
             let next = read_waiting(position, reader, context, events)?;
             Ok((next, count))
@@ -188,12 +188,12 @@ fn advance_from<I: ConnRead>(
 
 /// What a stage comes to by a piece.
 fn advance(
-    stage: Stage,
+    stage: InStage,
     reader: &mut FrameReader,
     context: &mut Context,
     piece: &[u8],
     events: &mut Vec<InEvent>,
-) -> Result<Stage, AllocError>
+) -> Result<InStage, AllocError>
     requires { IsSoundStage stage context.old.halves }
     ensures feeds { IfOk result
         (λ next. Feeds (core_of stage reader.old context.old.halves context.old.decoder) piece.now
@@ -203,9 +203,9 @@ fn advance(
         × IfOk result (λ next. (next ≡ Dead) × (events.new.items ≡ events.old.items)) }
 {
     match stage {
-        Stage::Greeting(preface) => greet(preface, reader, context, piece, events),
-        Stage::Reading(position) => read(position, reader, context, piece, events),
-        Stage::Dead => Ok(Stage::Dead),
+        InStage::Greeting(preface) => greet(preface, reader, context, piece, events),
+        InStage::Reading(position) => read(position, reader, context, piece, events),
+        InStage::Dead => Ok(InStage::Dead),
     }
 }
 
@@ -216,7 +216,7 @@ fn greet(
     context: &mut Context,
     piece: &[u8],
     events: &mut Vec<InEvent>,
-) -> Result<Stage, AllocError>
+) -> Result<InStage, AllocError>
     ensures feeds { IfOk result
         (λ next. Feeds (core_of (Greeting preface) reader.old context.old.halves
         context.old.decoder) piece.now events.old.items
@@ -225,10 +225,10 @@ fn greet(
     let mut preface = preface;
     let Ok(rest) = preface.take(piece) else {
         events.push(InEvent::Fatal(Reason::Preface))?;
-        return Ok(Stage::Dead);
+        return Ok(InStage::Dead);
     };
     if !preface.is_whole() {
-        return Ok(Stage::Greeting(preface));
+        return Ok(InStage::Greeting(preface));
     }
     read(Position::First, reader, context, rest, events)
 }
@@ -240,7 +240,7 @@ fn read(
     context: &mut Context,
     piece: &[u8],
     events: &mut Vec<InEvent>,
-) -> Result<Stage, AllocError>
+) -> Result<InStage, AllocError>
     requires { IsSound position context.old.halves }
     ensures feeds { IfOk result
         (λ next. Feeds (core_of (Reading position) reader.old context.old.halves
@@ -259,7 +259,7 @@ fn read_waiting(
     reader: &mut FrameReader,
     context: &mut Context,
     events: &mut Vec<InEvent>,
-) -> Result<Stage, AllocError>
+) -> Result<InStage, AllocError>
     requires { IsSound position context.old.halves }
     ensures reads { IfOk result
         (λ next. ReadsWaiting position reader.old context.old.halves context.old.decoder
@@ -269,10 +269,10 @@ fn read_waiting(
     let mut at = position;
     loop {
         let Some(answer) = reader.next() else {
-            return Ok(Stage::Reading(at));
+            return Ok(InStage::Reading(at));
         };
         let Some(next) = context.entry(at, answer, events)? else {
-            return Ok(Stage::Dead);
+            return Ok(InStage::Dead);
         };
         at = next;
     }

@@ -28,16 +28,16 @@ ghost use Rattle.session.specs.Streams.{
 };
 ghost use Rattle.session.specs.Frames.{Gives, SettingsGive, WindowGives, ping_events};
 
-use crate::event::{Control, InEvent};
+use crate::event::{InEvent, PeerControl};
 use crate::settings::{SettingsFault, read_settings};
-use flow::{HalfVerdict, Halves};
+use flow::{FrameAction, Halves};
 use h2frame::{ErrorCode, Flags, Frame, FrameHead, FrameKind, StreamId, increment, ping_bytes};
 use reasons::Reason;
 use std::alloc::{AllocError, Global};
 
 /// Judges a frame of a stream. An error of the stream resets it.
 #[tactic(auto, using(crate::proofs::LawfulFrames::accepted_begun))]
-pub fn judge(halves: &mut Halves, head: &FrameHead) -> Result<HalfVerdict, AllocError>
+pub fn judge(halves: &mut Halves, head: &FrameHead) -> Result<FrameAction, AllocError>
     requires { IsJudged head.now }
     ensures verdict { IfOk result
         (λ answer. (history : List Event) → Stands history halves.old → answer
@@ -48,7 +48,7 @@ pub fn judge(halves: &mut Halves, head: &FrameHead) -> Result<HalfVerdict, Alloc
         (λ answer. is_accepted answer ≡ true → IsSome (half_of halves.new head.now.stream)) }
 {
     let verdict = halves.on(head)?;
-    if let HalfVerdict::StreamError(_) = verdict {
+    if let FrameAction::StreamError(_) = verdict {
         halves.cut(head.stream);
     }
     Ok(verdict)
@@ -56,7 +56,7 @@ pub fn judge(halves: &mut Halves, head: &FrameHead) -> Result<HalfVerdict, Alloc
 
 /// Judges a WINDOW_UPDATE without an increment on a stream.
 #[tactic(auto, using(crate::proofs::LawfulFrames::not_fatal))]
-pub fn judge_credit(halves: &mut Halves, id: StreamId) -> Result<HalfVerdict, AllocError>
+pub fn judge_credit(halves: &mut Halves, id: StreamId) -> Result<FrameAction, AllocError>
     requires { 0 < id }
     ensures verdict { IfOk result
         (λ answer. (history : List Event) → Stands history halves.old → answer
@@ -66,7 +66,7 @@ pub fn judge_credit(halves: &mut Halves, id: StreamId) -> Result<HalfVerdict, Al
 {
     let head = credit_head(id);
     let verdict = without_increment(halves.on(&head)?);
-    if let HalfVerdict::StreamError(_) = verdict {
+    if let FrameAction::StreamError(_) = verdict {
         halves.cut(id);
     }
     Ok(verdict)
@@ -85,11 +85,11 @@ pub(crate) fn credit_head(id: StreamId) -> FrameHead
 }
 
 /// The verdict of a WINDOW_UPDATE without an increment, by that of one with an increment.
-fn without_increment(verdict: HalfVerdict) -> HalfVerdict
+fn without_increment(verdict: FrameAction) -> FrameAction
     ensures { result ≡ without_increment verdict }
 {
     match verdict {
-        HalfVerdict::Accept => HalfVerdict::StreamError(ErrorCode::ProtocolError),
+        FrameAction::Accept => FrameAction::StreamError(ErrorCode::ProtocolError),
         _ => verdict,
     }
 }
@@ -124,15 +124,15 @@ pub fn frame_events(
 
 /// The events of a frame that isn't accepted, by its verdict.
 pub(crate) fn refuse(
-    verdict: HalfVerdict,
+    verdict: FrameAction,
     head: &FrameHead,
     events: &mut Vec<InEvent>,
 ) -> Result<(), AllocError>
     ensures { OnOk result (events.new.items ≡ events.old.items ++ refusal verdict head.now) }
 {
     match verdict {
-        HalfVerdict::StreamError(error) => events.push(InEvent::StreamError(head.stream, error))?,
-        HalfVerdict::ConnectionError(error) => {
+        FrameAction::StreamError(error) => events.push(InEvent::StreamError(head.stream, error))?,
+        FrameAction::ConnectionError(error) => {
             events.push(InEvent::Fatal(Reason::Stream(head.kind, error)))?
         }
         _ => {}
@@ -157,13 +157,13 @@ fn data_events(
 }
 
 /// The events of DATA with this verdict.
-fn data_of(verdict: HalfVerdict, frame: Frame, events: &mut Vec<InEvent>) -> Result<(), AllocError>
+fn data_of(verdict: FrameAction, frame: Frame, events: &mut Vec<InEvent>) -> Result<(), AllocError>
     ensures { OnOk result (events.new.items ≡ events.old.items ++ data_events verdict frame) }
 {
     let Frame { head, content } = frame;
     let id = head.stream;
     match verdict {
-        HalfVerdict::Accept => {
+        FrameAction::Accept => {
             if head.length != 0 {
                 events.push(InEvent::Data(id, content, head.length))?;
             }
@@ -172,7 +172,7 @@ fn data_of(verdict: HalfVerdict, frame: Frame, events: &mut Vec<InEvent>) -> Res
             }
             Ok(())
         }
-        HalfVerdict::ConnectionError(error) => {
+        FrameAction::ConnectionError(error) => {
             events.push(InEvent::Fatal(Reason::Stream(head.kind, error)))?;
             Ok(())
         }
@@ -203,7 +203,7 @@ fn reset_events(
 
 /// The events of RST_STREAM with this verdict.
 fn reset_of(
-    verdict: HalfVerdict,
+    verdict: FrameAction,
     frame: &Frame,
     events: &mut Vec<InEvent>,
 ) -> Result<(), AllocError>
@@ -211,7 +211,7 @@ fn reset_of(
     ensures { OnOk result (events.new.items ≡ events.old.items ++ reset_events verdict frame.now) }
 {
     let id = frame.head.stream;
-    if verdict != HalfVerdict::Accept {
+    if verdict != FrameAction::Accept {
         return refuse(verdict, &frame.head, events);
     }
     let error = error_code(frame.content.as_slice());
@@ -241,7 +241,7 @@ fn window_events(
         × (events.new.items ≡ events.old.items ++ given) × Stands next halves.new) }
 {
     if frame.head.stream == 0 {
-        return window_of(HalfVerdict::Accept, &frame, events);
+        return window_of(FrameAction::Accept, &frame, events);
     }
     let verdict = judge(halves, &frame.head)?;
     window_of(verdict, &frame, events)
@@ -249,7 +249,7 @@ fn window_events(
 
 /// The events of WINDOW_UPDATE with this verdict.
 fn window_of(
-    verdict: HalfVerdict,
+    verdict: FrameAction,
     frame: &Frame,
     events: &mut Vec<InEvent>,
 ) -> Result<(), AllocError>
@@ -257,10 +257,10 @@ fn window_of(
     ensures { OnOk result (events.new.items ≡ events.old.items ++ window_events verdict frame.now) }
 {
     let id = frame.head.stream;
-    if verdict != HalfVerdict::Accept {
+    if verdict != FrameAction::Accept {
         return refuse(verdict, &frame.head, events);
     }
-    let credit = Control::Window(id, increment(frame.content.as_slice()));
+    let credit = PeerControl::Window(id, increment(frame.content.as_slice()));
     events.push(InEvent::Control(credit))?;
     Ok(())
 }
@@ -277,7 +277,7 @@ fn settings_events(alloc: Global, frame: Frame, events: &mut Vec<InEvent>) -> Re
         return Ok(());
     }
     let event = match read_settings(alloc, frame.content.as_slice()) {
-        Ok(settings) => InEvent::Control(Control::Settings(settings)),
+        Ok(settings) => InEvent::Control(PeerControl::Settings(settings)),
         Err(SettingsFault::Refused(reason)) => InEvent::Fatal(reason),
         Err(SettingsFault::OutOfMemory) => return Err(AllocError),
     };
@@ -295,7 +295,7 @@ fn ping_events(frame: Frame, events: &mut Vec<InEvent>) -> Result<(), AllocError
 {
     if !frame.head.flags.contains(Flags::ACK) {
         let bytes = ping_bytes(frame.content.as_slice());
-        events.push(InEvent::Control(Control::Ping(bytes)))?;
+        events.push(InEvent::Control(PeerControl::Ping(bytes)))?;
     }
     Ok(())
 }

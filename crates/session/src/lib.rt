@@ -1,5 +1,5 @@
-//! The events that the bytes of an HTTP/2 connection mean. RFC 9113, sections 3.4 to 6, says what
-//! they mean.
+//! Turns the bytes of an HTTP/2 connection into events. RFC 9113, sections 3.4 to 6, says what the
+//! bytes mean.
 //!
 //! Each part has a contract of its own: `preface` is the text with which a client begins,
 //! `settings` the content of a SETTINGS frame, `judge` what a frame means after those before it,
@@ -20,7 +20,7 @@ mod preface;
 mod settings;
 pub mod uses;
 
-pub use event::{Control, InEvent};
+pub use event::{InEvent, PeerControl};
 pub use header_block::{FragmentFault, HeaderBlock, MAX_BLOCK};
 pub use in_core::InCore;
 pub use preface::{BadPreface, Preface};

@@ -15,13 +15,13 @@ use Rattle.std.specs.Prelude.{
   string_bytes,
 }
 use Rattle.results.specs.Standings.{standing_of}
-use Rattle.results.specs.declared.known.Known.{Known}
+use Rattle.results.specs.declared.known_failure.KnownFailure.{KnownFailure}
 use Rattle.results.specs.declared.outcome.Outcome.{Outcome}
 use Rattle.results.specs.declared.standing.Standing.{Standing}
 use Rattle.results.specs.declared.words.Verdict.{Verdict}
 
 -- the line for a standing, and for what the list of known failures says
-abbrev pub line_of : Standing → Option Known → List ℕ
+abbrev pub line_of : Standing → Option KnownFailure → List ℕ
 line_of Standing.Known (Some known) = codes "  known: " ++ string_bytes known.reason ++ 10 ∷ []
 line_of Standing.Known None = []
 line_of Standing.Mended known =

@@ -13,9 +13,9 @@ use crate::progress::Progress;
 use crate::saved::{is_saved, save};
 use device::{ConnWrite, write_all};
 use results::{
-    Known, KnownFault, Outcome, Standing, Suite, TAP_VERSION, Verdict, fail_the_run, json_line,
-    json_summary, known_named, push_junit, push_plan, push_summary, push_tap, read_known, renewed,
-    stray, summary_of,
+    KnownFailure, KnownFault, Outcome, Standing, Suite, TAP_VERSION, Verdict, fail_the_run,
+    json_line, json_summary, known_named, push_junit, push_plan, push_summary, push_tap,
+    read_known, renewed, stray, summary_of,
 };
 use std::alloc::{AllocError, Global};
 use std::io::Write;
@@ -69,7 +69,7 @@ pub struct Sinks<'a, R: Files> {
     pub form: Form,
     /// The file for JSON.
     json: Option<R::File>,
-    known: Vec<Known>,
+    known: Vec<KnownFailure>,
     /// What the list of known failures begins with: lines that name no case.
     head: String,
     /// The outcomes that were reported, in the order of the cases.
@@ -369,7 +369,7 @@ fn known_failures<R: Files + Eprint + AllocGlobal>(
     alloc: Global,
     file: &str,
     names: &[&str],
-) -> Result<(Vec<Known>, String), SinkFault> {
+) -> Result<(Vec<KnownFailure>, String), SinkFault> {
     let text = read(rt, file)?;
     let known = match read_known(alloc, text.as_str()) {
         Ok(known) => known,
@@ -382,7 +382,7 @@ fn known_failures<R: Files + Eprint + AllocGlobal>(
     if let Some(other) = stray(known.as_slice(), names) {
         let name = other.name.as_str();
         let number = line_of(text.as_str(), name);
-        let _said = eprintln!(rt; "interop: {file}, line {number}: {name} is the name of no case");
+        let _said = eprintln!(rt; "interop: {file}, line {number}: there is no case {name}");
         return Err(SinkFault::BadKnown);
     }
     let head = head_of(alloc, text.as_str())?;

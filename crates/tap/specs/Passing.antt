@@ -1,13 +1,13 @@
 -- What passes through a device, and what its tap sees.
 use Rattle.std.specs.Prelude.{◌≡◌, ⊤, ℕ, List, [], ◌∷◌, ◌++◌, Option, Some, None}
-use Rattle.tap.specs.declared.tapped.Tapped.{Tapped}
+use Rattle.tap.specs.declared.tapped_device.TappedDevice.{TappedDevice}
 
 -- the device
-abbrev pub device_of : {D T : Type 0} → Tapped D T → D
+abbrev pub device_of : {D T : Type 0} → TappedDevice D T → D
 device_of tapped = tapped.device
 
 -- its tap, if it has one
-abbrev pub tap_of : {D T : Type 0} → Tapped D T → Option T
+abbrev pub tap_of : {D T : Type 0} → TappedDevice D T → Option T
 tap_of tapped = tapped.tap
 
 pub data Way : Type 0 where

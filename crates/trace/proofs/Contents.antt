@@ -19,7 +19,7 @@ use Rattle.std.proofs.Common.{
 }
 use Rattle.h2frame.specs.declared.frame.FrameHead.{FrameHead}
 use Rattle.h2frame.specs.Flags.{is_padded, has_priority}
-use Rattle.h2frame.specs.Spelling.{Skipped}
+use Rattle.h2frame.specs.Spelling.{SkippedParts}
 use Rattle.trace.specs.Contents.{HasPadding, HasPriority, IsContent}
 
 -- the front of a payload, before its content
@@ -47,7 +47,7 @@ pub is_content : (head : FrameHead) (payload rest behind content last : List ℕ
 is_content head payload rest behind content last padding padded has e size =
     let before =
     front (is_padded head) (has_priority head) payload rest behind padding padded has in
-    let skipped : Skipped = record { reserved = 0; priority = before.0; padding = last } in
+    let skipped : SkippedParts = record { reserved = 0; priority = before.0; padding = last } in
     let whole : payload ≡ (if is_padded head then length last ∷ [] else [])
     ++ (before.0 ++ (content ++ last)) =
     before.1

@@ -32,8 +32,8 @@ use Rattle.h2frame.specs.Spelling.{head_text, payload_text}
 use Rattle.h2frame.proofs.Heads.{head_again}
 use Rattle.trace.specs.declared.item.Item.{Item}
 use Rattle.trace.specs.declared.item.Item.TheVariants.{Preface, Frame, Rest}
-use Rattle.trace.specs.declared.item.Stage.{Stage}
-use Rattle.trace.specs.declared.item.Stage.TheVariants.{BeforePreface, InFrames}
+use Rattle.trace.specs.declared.item.SideStage.{SideStage}
+use Rattle.trace.specs.declared.item.SideStage.TheVariants.{BeforePreface, InFrames}
 use Rattle.trace.specs.Cuts.{Cut, IsUnfinished, Spells, Takes, leftover, preface}
 
 -- fronts of one length of one list are one
@@ -92,7 +92,7 @@ one_frame bytes more further head other payload content is size has length_is =
     (cc (heads, contents), same.1)
 
 -- one list begins with one item
-one_item : (stage : Stage) (bytes text more other further : List ℕ) (item thing : Item)
+one_item : (stage : SideStage) (bytes text more other further : List ℕ) (item thing : Item)
     → bytes ≡ text ++ more → Spells stage text item → bytes ≡ other ++ further
     → Spells stage other thing → (item ≡ thing) × (more ≡ further)
 one_item BeforePreface bytes text more other further Preface Preface e is f has =
@@ -117,7 +117,7 @@ one_item InFrames bytes text more other further (Frame head payload) (Frame seco
     (begins_more other second content further has)) long
 
 -- an item has bytes
-pub some_bytes : (stage : Stage) (text : List ℕ) (item : Item)
+pub some_bytes : (stage : SideStage) (text : List ℕ) (item : Item)
     → Spells stage text item → 0 < length text
 some_bytes BeforePreface text Preface is = omega (arith, ap length is)
 some_bytes BeforePreface text (Frame head payload) is = absurd is
@@ -194,11 +194,12 @@ no_preface bytes none text more (Rest rest) e is = absurd is
 
 -- ---- lists of items
 
-pub cut_join : (first next last : Stage) (bytes rest piece left : List ℕ) (items others : List Item)
+pub cut_join : (first next last : SideStage) (bytes rest piece left : List ℕ)
+    (items others : List Item)
     → Cut first bytes items next rest → Cut next (rest ++ piece) others last left
     → Cut first (bytes ++ piece) (items ++ others) last left
 cut_join first next last bytes rest piece left [] others (same, e) cut =
-    subst (λ (s : Stage). Cut s (bytes ++ piece) others last left) same
+    subst (λ (s : SideStage). Cut s (bytes ++ piece) others last left) same
     (subst (λ (b : List ℕ). Cut next (b ++ piece) others last left) e cut)
 cut_join first next last bytes rest piece left (item ∷ items) others
     (text, more, parts, spells, then_) cut = (
@@ -209,20 +210,25 @@ cut_join first next last bytes rest piece left (item ∷ items) others
       cut_join InFrames next last more rest piece left items others then_ cut,
     )
 
-pub cut_push : (first next : Stage) (bytes rest left : List ℕ) (items : List Item) (item : Item)
+pub cut_push : (first next : SideStage) (bytes rest left : List ℕ) (items : List Item) (item : Item)
     → Cut first bytes items next rest → Takes next rest item left
     → Cut first bytes (items ++ item ∷ []) InFrames left
-cut_push first next bytes rest left [] item (same, e) (text, parts, spells) =
-    (text, left, sym e ∙ parts, subst (λ (s : Stage). Spells s text item) same spells, (refl, refl))
+cut_push first next bytes rest left [] item (same, e) (text, parts, spells) = (
+  text,
+  left,
+  sym e ∙ parts,
+  subst (λ (s : SideStage). Spells s text item) same spells,
+  (refl, refl),
+)
 cut_push first next bytes rest left (thing ∷ items) item (text, more, parts, spells, cut) takes =
     (text, more, parts, spells, cut_push InFrames next more rest left items item cut takes)
 
-pub taken_is_shorter : (stage : Stage) (bytes rest : List ℕ) (item : Item)
+pub taken_is_shorter : (stage : SideStage) (bytes rest : List ℕ) (item : Item)
     → Takes stage bytes item rest → length rest < length bytes
 taken_is_shorter stage bytes rest item (text, parts, spells) =
     omega (arith, some_bytes stage text item spells, ap length parts, length-append text rest)
 
-pub one_cut : (first next last : Stage) (bytes rest left : List ℕ) (items others : List Item)
+pub one_cut : (first next last : SideStage) (bytes rest left : List ℕ) (items others : List Item)
     → Cut first bytes items next rest → IsUnfinished next rest → Cut first bytes others last left
     → IsUnfinished last left
     → (items ≡ others) × (rest ≡ left)
@@ -231,11 +237,12 @@ one_cut first next last bytes rest left [] [] (same, e) unfinished (equal, f)
 one_cut first next last bytes rest left [] (thing ∷ others) (same, e) unfinished
     (text, more, parts, spells, cut) open_ =
     absurd (unfinished text more thing (e ∙ parts)
-    (subst (λ (s : Stage). Spells s text thing) (sym same) spells))
+    (subst (λ (s : SideStage). Spells s text thing) (sym same) spells))
 one_cut first next last bytes rest left (item ∷ items) [] (text, more, parts, spells, cut)
     unfinished (same, e) open_ =
     absurd
-    (open_ text more item (e ∙ parts) (subst (λ (s : Stage). Spells s text item) (sym same) spells))
+    (open_ text more item (e ∙ parts)
+    (subst (λ (s : SideStage). Spells s text item) (sym same) spells))
 one_cut first next last bytes rest left (item ∷ items) (thing ∷ others) (text, more, e, spells, cut)
     unfinished (other, further, f, has, goes) open_ =
     let same = one_item first bytes text more other further item thing e spells f has in

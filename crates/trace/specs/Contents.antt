@@ -2,12 +2,12 @@
 use Rattle.std.specs.Prelude.{◌≡◌, ℕ, Bool, true, false, if◌then◌else◌, List, [], ◌∷◌, ◌++◌, length}
 use Rattle.h2frame.specs.declared.frame.FrameHead.{FrameHead}
 use Rattle.h2frame.specs.Flags.{is_padded, has_priority}
-use Rattle.h2frame.specs.Spelling.{Skipped, payload_text}
+use Rattle.h2frame.specs.Spelling.{SkippedParts, payload_text}
 
 -- the payload is the content, and around it what the flags say
 abbrev pub IsContent : FrameHead → List ℕ → List ℕ → Type 0
 IsContent head payload content =
-    (skipped : Skipped) × (payload ≡ payload_text head skipped content)
+    (skipped : SkippedParts) × (payload ≡ payload_text head skipped content)
     × (length skipped.priority ≡ (if has_priority head then 5 else 0))
     × (is_padded head ≡ false → skipped.padding ≡ [])
 

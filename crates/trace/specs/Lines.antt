@@ -5,14 +5,14 @@ use Rattle.capture.specs.declared.conversation.Side.TheVariants.{Client, Server}
 use Rattle.trace.specs.declared.item.Item.{Item}
 use Rattle.trace.specs.declared.line.Line.{Line}
 use Rattle.trace.specs.declared.tracing.Trace.{Trace}
-use Rattle.trace.specs.Cuts.{Cut, Pending}
+use Rattle.trace.specs.Cuts.{Cut, PendingBytes}
 
 -- a line is of one item
 abbrev pub items_of : List Line → List Item
 items_of lines = map (λ (line : Line). line.item) lines
 
 -- what waits of a side's bytes
-abbrev pub pending_of : Trace → Side → Pending
+abbrev pub pending_of : Trace → Side → PendingBytes
 pending_of trace Client = trace.client
 pending_of trace Server = trace.server
 

@@ -4,8 +4,8 @@ ghost use Rattle.std.specs.Prelude.{◌≡◌, ◌++◌, [], IfOk, IfErr, OnOk};
 ghost use Rattle.hpack_codec.specs.Codec.{Reads, IsFirstFault};
 
 use crate::content::{content_of, promise_of};
+use crate::frame_meaning::{Block, FrameMeaning};
 use crate::spelling::spellings;
-use crate::told::{Block, Told};
 use callhead::read_status;
 use capture::Side;
 use h2frame::{Flags, FrameFault, FrameHead, FrameKind};
@@ -38,7 +38,7 @@ impl Blocks {
     }
 
     /// What HEADERS, PUSH_PROMISE or CONTINUATION mean.
-    pub fn take(&mut self, head: &FrameHead, payload: &[u8]) -> Result<Told, AllocError> {
+    pub fn take(&mut self, head: &FrameHead, payload: &[u8]) -> Result<FrameMeaning, AllocError> {
         match head.kind {
             FrameKind::Continuation => self.next_frame(head, payload),
             FrameKind::PushPromise => self.first_frame(head, promise_of(head, payload)),
@@ -50,20 +50,24 @@ impl Blocks {
         &mut self,
         head: &FrameHead,
         fragment: Option<&[u8]>,
-    ) -> Result<Told, AllocError> {
+    ) -> Result<FrameMeaning, AllocError> {
         let Some(fragment) = fragment else {
-            return Ok(Told::Fault(FrameFault::BadPadding));
+            return Ok(FrameMeaning::Fault(FrameFault::BadPadding));
         };
         self.begin(*head, fragment)?;
         self.told(head, *head)
     }
 
-    fn next_frame(&mut self, head: &FrameHead, fragment: &[u8]) -> Result<Told, AllocError> {
+    fn next_frame(
+        &mut self,
+        head: &FrameHead,
+        fragment: &[u8],
+    ) -> Result<FrameMeaning, AllocError> {
         let Some(begun) = self.begun else {
-            return Ok(Told::NoBlock);
+            return Ok(FrameMeaning::NoBlock);
         };
         if begun.stream != head.stream {
-            return Ok(Told::NoBlock);
+            return Ok(FrameMeaning::NoBlock);
         }
         self.go_on(fragment)?;
         self.told(head, begun)
@@ -71,12 +75,12 @@ impl Blocks {
 
     /// What the frame with this head means, which has a fragment of the block that another frame
     /// began.
-    fn told(&mut self, head: &FrameHead, begun: FrameHead) -> Result<Told, AllocError> {
+    fn told(&mut self, head: &FrameHead, begun: FrameHead) -> Result<FrameMeaning, AllocError> {
         if !head.flags.contains(Flags::END_HEADERS) {
-            return Ok(Told::Fragment);
+            return Ok(FrameMeaning::Fragment);
         }
         let block = self.end(begun)?;
-        Ok(Told::Block(block))
+        Ok(FrameMeaning::Block(block))
     }
 
     /// A frame begins a block.

@@ -21,10 +21,10 @@ ghost use Rattle.std.specs.Prelude.{
 };
 ghost use Rattle.h2frame.specs.FrameList.{BeginsWith};
 ghost use Rattle.h2frame.specs.Reading.{head_at};
-ghost use Rattle.trace.specs.declared.item.Stage.TheVariants as stages;
+ghost use Rattle.trace.specs.declared.item.SideStage.TheVariants as stages;
 ghost use Rattle.trace.specs.Cuts.{Cut, IsUnfinished, Takes, item_list, preface, rest_of};
 
-use crate::item::{Item, Stage};
+use crate::item::{Item, SideStage};
 use bytes::{Bytes, BytesMut};
 use h2frame::{Flags, FrameHead, FrameKind};
 use std::alloc::{AllocError, Global};
@@ -42,21 +42,21 @@ const PREFACE: &[u8] = b"PRI * HTTP/2.0\r\n\r\nSM\r\n\r\n";
 /// whole item.
 #[derive(Drop)]
 pub struct Cutter {
-    stage: Stage,
+    stage: SideStage,
     kept: BytesMut,
 }
 
 impl Model for Cutter {
-    ghost use Rattle.trace.specs.Cuts.{Pending};
+    ghost use Rattle.trace.specs.Cuts.{PendingBytes};
 
-    ghost Value = { Pending };
+    ghost Value = { PendingBytes };
 
     ghost view = { λ c. record { stage = c.stage; bytes = c.kept.items } };
 }
 
 impl Cutter {
     /// No bytes came. It takes no memory yet.
-    pub fn new(alloc: Global, stage: Stage) -> Cutter
+    pub fn new(alloc: Global, stage: SideStage) -> Cutter
         ensures { result ≡ record { stage = stage; bytes = [] } }
     {
         Cutter {
@@ -94,29 +94,29 @@ impl Cutter {
 
 /// Takes the whole items off the front of what is kept.
 #[tactic(auto, using(crate::proofs::Cutting::cut_push, crate::proofs::Cutting::taken_is_shorter))]
-fn items_of(stage: &mut Stage, kept: &mut BytesMut) -> Result<Vec<Item>, AllocError>
+fn items_of(stage: &mut SideStage, kept: &mut BytesMut) -> Result<Vec<Item>, AllocError>
     ensures cut { IfOk result (λ cut.
         Cut stage.old kept.old.items cut.items stage.new kept.new.items) }
     ensures all { OnOk result (IsUnfinished stage.new kept.new.items) }
 {
     let mut items = Vec::new(*kept.allocator());
     while let Some(item) = first_item(*stage, kept)? {
-        *stage = Stage::InFrames;
+        *stage = SideStage::InFrames;
         items.push(item)?;
     }
     Ok(items)
 }
 
 /// Takes the first item off the front, where it is whole.
-fn first_item(stage: Stage, kept: &mut BytesMut) -> Result<Option<Item>, AllocError>
+fn first_item(stage: SideStage, kept: &mut BytesMut) -> Result<Option<Item>, AllocError>
     ensures some { IfOk result (λ found. IfSome found
         (λ item. Takes stage kept.old.items item kept.new.items)) }
     ensures none { IfOk result (λ found. IfNone found (IsUnfinished stage kept.old.items)) }
     ensures kept { IfOk result (λ found. IfNone found (kept.new.items ≡ kept.old.items)) }
 {
     match stage {
-        Stage::BeforePreface => Ok(first_preface(kept)),
-        Stage::InFrames => first_frame(kept),
+        SideStage::BeforePreface => Ok(first_preface(kept)),
+        SideStage::InFrames => first_frame(kept),
     }
 }
 

@@ -33,7 +33,7 @@ const FIN: u8 = 0x01;
 
 /// What a side of a connection sends at a time.
 #[derive(Debug, Drop, PartialEq, Eq)]
-pub struct Sent {
+pub struct SentBytes {
     /// How many microseconds the connection has gone on.
     pub time: u64,
     pub side: Side,
@@ -80,7 +80,7 @@ impl<T: Drop> From<AllocFailed<T>> for InputFault {
 /// - lines `client DIGITS` and `server DIGITS`, with a time in microseconds before the side or not;
 /// - hexadecimal digits alone, or the bytes themselves, of one side: of the client if they begin
 ///   with its preface.
-pub fn sent_of(alloc: Global, file: &[u8]) -> Result<Vec<Sent>, InputFault> {
+pub fn sent_of(alloc: Global, file: &[u8]) -> Result<Vec<SentBytes>, InputFault> {
     if is_capture(file) {
         return match read(alloc, file) {
             Ok(packets) => of_packets(alloc, packets),
@@ -117,14 +117,14 @@ fn is_printed(byte: u8) -> bool {
 // ---- one side
 
 /// The bytes of one side.
-fn of_side(alloc: Global, bytes: &[u8]) -> Result<Vec<Sent>, InputFault> {
+fn of_side(alloc: Global, bytes: &[u8]) -> Result<Vec<SentBytes>, InputFault> {
     let side = if bytes.starts_with(PREFACE) {
         Side::Client
     } else {
         Side::Server
     };
     let mut sent = Vec::new(alloc);
-    sent.push(Sent {
+    sent.push(SentBytes {
         time: 0,
         side,
         bytes: Bytes::copy_from_slice(alloc, bytes)?,
@@ -132,7 +132,7 @@ fn of_side(alloc: Global, bytes: &[u8]) -> Result<Vec<Sent>, InputFault> {
     Ok(sent)
 }
 
-fn of_digits(alloc: Global, text: &str) -> Result<Vec<Sent>, InputFault> {
+fn of_digits(alloc: Global, text: &str) -> Result<Vec<SentBytes>, InputFault> {
     let mut digits = Vec::new(alloc);
     for word in text.split_whitespace() {
         digits.extend_from_slice(word.as_bytes())?;
@@ -158,7 +158,7 @@ fn has_sides(text: &str) -> bool {
     text.contains("client") || text.contains("server")
 }
 
-fn of_lines(alloc: Global, text: &str) -> Result<Vec<Sent>, InputFault> {
+fn of_lines(alloc: Global, text: &str) -> Result<Vec<SentBytes>, InputFault> {
     let mut sent = Vec::new(alloc);
     let mut time = 0;
     for (place, line) in text.lines().enumerate() {
@@ -175,7 +175,7 @@ fn of_lines(alloc: Global, text: &str) -> Result<Vec<Sent>, InputFault> {
 }
 
 /// What a line says, at this time if it has none.
-fn of_line(alloc: Global, time: u64, line: &str) -> Result<Option<Sent>, AllocError> {
+fn of_line(alloc: Global, time: u64, line: &str) -> Result<Option<SentBytes>, AllocError> {
     let (mut told, mut side) = (None, None);
     let mut digits = Vec::new(alloc);
     for word in line.split_whitespace() {
@@ -197,7 +197,7 @@ fn of_line(alloc: Global, time: u64, line: &str) -> Result<Option<Sent>, AllocEr
     let Some(bytes) = bytes_of(alloc, digits.as_slice())? else {
         return Ok(None);
     };
-    Ok(Some(Sent {
+    Ok(Some(SentBytes {
         time: told.unwrap_or(time),
         side,
         bytes: Bytes::copy_from_slice(alloc, bytes.as_slice())?,
@@ -223,7 +223,7 @@ fn side_named(word: &str) -> Option<Side> {
 // ---- captures
 
 /// What the segments of a connection carry.
-fn of_packets(alloc: Global, packets: Vec<Packet>) -> Result<Vec<Sent>, InputFault> {
+fn of_packets(alloc: Global, packets: Vec<Packet>) -> Result<Vec<SentBytes>, InputFault> {
     let mut sent = Vec::new(alloc);
     let Some(first) = packets.first() else {
         return Ok(sent);
@@ -245,7 +245,7 @@ fn of_packets(alloc: Global, packets: Vec<Packet>) -> Result<Vec<Sent>, InputFau
         numbers.set(side, Some(number_after(&packet)));
         let Packet { time, payload, .. } = packet;
         if !payload.is_empty() {
-            sent.push(Sent {
+            sent.push(SentBytes {
                 time: micros_of(time).saturating_sub(began),
                 side,
                 bytes: payload,

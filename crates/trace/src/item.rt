@@ -5,7 +5,7 @@ use h2frame::FrameHead;
 
 /// Where a side's bytes are.
 #[derive(Clone, Copy, Debug, PartialEq, Eq)]
-pub enum Stage {
+pub enum SideStage {
     /// A client's, which begin with the preface (RFC 9113, section 3.4).
     BeforePreface,
     /// Frames follow one another.

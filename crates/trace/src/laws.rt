@@ -6,8 +6,8 @@ ghost use Rattle.h2frame.specs.declared.frame.Frame.{Frame as FrameOf};
 ghost use Rattle.h2frame.specs.FrameList.{IsSpelling};
 ghost use Rattle.trace.specs.declared.item.Item.{Item as ItemOf};
 ghost use Rattle.trace.specs.declared.item.Item.TheVariants as items;
-ghost use Rattle.trace.specs.declared.item.Stage.{Stage as StageOf};
-ghost use Rattle.trace.specs.declared.item.Stage.TheVariants as stages;
+ghost use Rattle.trace.specs.declared.item.SideStage.{SideStage as StageOf};
+ghost use Rattle.trace.specs.declared.item.SideStage.TheVariants as stages;
 ghost use Rattle.trace.specs.Cuts.{Cut, IsUnfinished, Spells};
 
 /// One piece cut after another gives what both give together.

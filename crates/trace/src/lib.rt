@@ -13,17 +13,17 @@
 //! to read the file and to write the text.
 //!
 //! Read `item` for what bytes are cut into, `cutter` for the cutting; `content`, `blocks`,
-//! `spelling`, `messages`, `windows` and `streams` for what is known of a connection, `told` and
-//! `known` for what a frame means, `tracing` for the lines; `names`, `text` and `line` for how they
-//! are written; `input` and `report` for files.
+//! `spelling`, `messages`, `windows` and `streams` for what is known of a connection,
+//! `frame_meaning` and `trace_state` for what a frame means, `tracing` for the lines; `names`,
+//! `text` and `line` for how they are written; `input` and `report` for files.
 #![tactic(auto)]
 
 mod blocks;
 mod content;
 mod cutter;
+mod frame_meaning;
 mod input;
 mod item;
-mod known;
 mod laws;
 mod line;
 mod messages;
@@ -33,18 +33,18 @@ mod sides;
 mod spelling;
 mod streams;
 mod text;
-mod told;
+mod trace_state;
 mod tracing;
 mod windows;
 
 pub use cutter::Cutter;
-pub use input::{InputFault, Sent, sent_of};
-pub use item::{Item, Stage};
+pub use frame_meaning::{Block, FrameMeaning};
+pub use input::{InputFault, SentBytes, sent_of};
+pub use item::{Item, SideStage};
 pub use laws::{joins, one_cut, reads_frames};
-pub use line::{Form, Line, Shown};
+pub use line::{Form, Line, ShownLine};
 pub use messages::{Part, Prefix};
 pub use report::{push_frames, push_lines};
 pub use spelling::Spelling;
-pub use told::{Block, Told};
 pub use tracing::Trace;
 pub use windows::Change;

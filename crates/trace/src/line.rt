@@ -1,15 +1,15 @@
 //! The line of a frame.
 
 use crate::content::{PARAMETER_LEN, number_at};
+use crate::frame_meaning::{Block, FrameMeaning};
 use crate::item::Item;
 use crate::messages::{Part, Prefix};
 use crate::names::{FlagNames, SettingName};
 use crate::spelling::Spelling;
-use crate::text::{Digits, Quoted, front_of};
-use crate::told::{Block, Told};
+use crate::text::{Digits, QuotedBytes, front_of};
 use crate::windows::Change;
 use capture::Side;
-use figures::{ErrorName, Grouped, KindName, byte_count};
+use figures::{ErrorName, GroupedNumber, KindName, byte_count};
 use h2frame::{FrameFault, FrameHead, FrameKind, SettingId};
 use lists::Field;
 use std::fmt;
@@ -37,17 +37,17 @@ pub struct Line {
     /// Who sent it.
     pub side: Side,
     pub item: Item,
-    pub told: Told,
+    pub told: FrameMeaning,
 }
 
 /// A line, as it is written.
 #[derive(Clone, Copy)]
-pub struct Shown<'a> {
+pub struct ShownLine<'a> {
     pub line: &'a Line,
     pub form: Form,
 }
 
-impl fmt::Display for Shown<'_> {
+impl fmt::Display for ShownLine<'_> {
     fn fmt<W: fmt::Write>(&self, f: &mut fmt::Formatter<W>) -> fmt::Result {
         let Line { time, side, .. } = self.line;
         let (seconds, micros) = (*time / SECOND, *time % SECOND);
@@ -63,7 +63,7 @@ impl fmt::Display for Shown<'_> {
     }
 }
 
-impl Shown<'_> {
+impl ShownLine<'_> {
     fn frame<W: fmt::Write>(
         &self,
         f: &mut fmt::Formatter<W>,
@@ -77,7 +77,7 @@ impl Shown<'_> {
         let (kind, flags) = (KindName(head.kind), FlagNames(*head));
         let count = byte_count(payload.len());
         write!(f, " {kind}{flags}, {count}")?;
-        if let Told::Fault(fault) = &self.line.told {
+        if let FrameMeaning::Fault(fault) = &self.line.told {
             let bytes = self.bytes(payload);
             write_fault(f, *fault)?;
             return write!(f, ": {bytes}");
@@ -87,19 +87,19 @@ impl Shown<'_> {
     }
 
     /// Bytes of the line, in hexadecimal digits.
-    fn bytes<'b>(&self, bytes: &'b [u8]) -> Shortened<Digits<'b>> {
+    fn bytes<'b>(&self, bytes: &'b [u8]) -> ShortenedBytes<Digits<'b>> {
         let (front, is_whole) = self.front(bytes);
-        Shortened {
+        ShortenedBytes {
             front: Digits(front),
             is_whole,
         }
     }
 
     /// Bytes of the line, between quotes.
-    fn text<'b>(&self, bytes: &'b [u8]) -> Shortened<Quoted<'b>> {
+    fn text<'b>(&self, bytes: &'b [u8]) -> ShortenedBytes<QuotedBytes<'b>> {
         let (front, is_whole) = self.front(bytes);
-        Shortened {
-            front: Quoted(front),
+        ShortenedBytes {
+            front: QuotedBytes(front),
             is_whole,
         }
     }
@@ -121,7 +121,7 @@ impl Shown<'_> {
         match head.kind {
             FrameKind::Settings => write_settings(f, payload),
             FrameKind::WindowUpdate => {
-                let credit = Grouped(u64::from(number_at(payload, 0) & 0x7fff_ffff));
+                let credit = GroupedNumber(u64::from(number_at(payload, 0) & 0x7fff_ffff));
                 write!(f, ": +{credit}")
             }
             FrameKind::RstStream => write_error(f, number_at(payload, 0)),
@@ -153,14 +153,14 @@ impl Shown<'_> {
     }
 
     /// Writes what the frame means.
-    fn told<W: fmt::Write>(&self, f: &mut fmt::Formatter<W>, told: &Told) -> fmt::Result {
+    fn told<W: fmt::Write>(&self, f: &mut fmt::Formatter<W>, told: &FrameMeaning) -> fmt::Result {
         match told {
-            Told::Nothing => Ok(()),
-            Told::Fault(fault) => write_fault(f, *fault),
-            Told::Fragment => write!(f, ": the header block goes on"),
-            Told::NoBlock => write!(f, ": it goes on with no header block"),
-            Told::Block(block) => self.block(f, block),
-            Told::Data {
+            FrameMeaning::Nothing => Ok(()),
+            FrameMeaning::Fault(fault) => write_fault(f, *fault),
+            FrameMeaning::Fragment => write!(f, ": the header block goes on"),
+            FrameMeaning::NoBlock => write!(f, ": it goes on with no header block"),
+            FrameMeaning::Block(block) => self.block(f, block),
+            FrameMeaning::Data {
                 parts,
                 connection,
                 stream,
@@ -172,8 +172,8 @@ impl Shown<'_> {
                 }
                 write!(f, "; windows: connection {connection}, stream {stream}")
             }
-            Told::Credit(change) => write!(f, ": {change}"),
-            Told::Resized(change) => write!(f, "; windows of streams: {change}"),
+            FrameMeaning::Credit(change) => write!(f, ": {change}"),
+            FrameMeaning::Resized(change) => write!(f, "; windows of streams: {change}"),
         }
     }
 
@@ -190,7 +190,7 @@ impl Shown<'_> {
         if more == 0 {
             return Ok(());
         }
-        let more = Grouped(more as u64);
+        let more = GroupedNumber(more as u64);
         write!(f, ": {more} more messages")
     }
 
@@ -241,12 +241,12 @@ impl Shown<'_> {
 
 /// Bytes of which only a front may be shown.
 #[derive(Clone, Copy)]
-struct Shortened<T> {
+struct ShortenedBytes<T> {
     front: T,
     is_whole: bool,
 }
 
-impl<T: fmt::Display> fmt::Display for Shortened<T> {
+impl<T: fmt::Display> fmt::Display for ShortenedBytes<T> {
     fn fmt<W: fmt::Write>(&self, f: &mut fmt::Formatter<W>) -> fmt::Result {
         let front = &self.front;
         write!(f, "{front}")?;
@@ -279,7 +279,7 @@ fn write_settings<W: fmt::Write>(f: &mut fmt::Formatter<W>, payload: &[u8]) -> f
     for (place, parameter) in payload.chunks(PARAMETER_LEN).enumerate() {
         let id = (number_at(parameter, 0) >> 16) as u16;
         let name = SettingName(SettingId::from_code(id));
-        let value = Grouped(u64::from(number_at(parameter, 2)));
+        let value = GroupedNumber(u64::from(number_at(parameter, 2)));
         if place == 0 {
             write!(f, ":")?;
         }
@@ -317,7 +317,7 @@ fn write_fault<W: fmt::Write>(f: &mut fmt::Formatter<W>, fault: FrameFault) -> f
 
 impl fmt::Display for Part {
     fn fmt<W: fmt::Write>(&self, f: &mut fmt::Formatter<W>) -> fmt::Result {
-        let (number, here) = (self.number, Grouped(self.bytes as u64));
+        let (number, here) = (self.number, GroupedNumber(self.bytes as u64));
         let Some(Prefix { flag, length }) = self.prefix else {
             return write!(f, "message {number}, inside its prefix");
         };
@@ -335,18 +335,18 @@ impl fmt::Display for Part {
 
 impl fmt::Display for Change {
     fn fmt<W: fmt::Write>(&self, f: &mut fmt::Formatter<W>) -> fmt::Result {
-        let (before, after) = (Signed(self.before), Signed(self.after));
+        let (before, after) = (SignedNumber(self.before), SignedNumber(self.after));
         write!(f, "{before} to {after}")
     }
 }
 
 /// A number that may be below zero, with commas.
 #[derive(Clone, Copy)]
-struct Signed(i64);
+struct SignedNumber(i64);
 
-impl fmt::Display for Signed {
+impl fmt::Display for SignedNumber {
     fn fmt<W: fmt::Write>(&self, f: &mut fmt::Formatter<W>) -> fmt::Result {
-        let size = Grouped(self.0.unsigned_abs());
+        let size = GroupedNumber(self.0.unsigned_abs());
         if self.0 < 0 {
             write!(f, "-")?;
         }

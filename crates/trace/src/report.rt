@@ -1,13 +1,13 @@
 //! The lines of a connection as text.
 
-use crate::input::Sent;
-use crate::line::{Form, Line, Shown};
+use crate::input::SentBytes;
+use crate::line::{Form, Line, ShownLine};
 use crate::tracing::Trace;
 use std::alloc::AllocError;
 
 /// Pushes the line of each frame of what the sides of a connection sent, and then of what each has
 /// left over.
-pub fn push_frames(text: &mut String, sent: &[Sent], form: Form) -> Result<(), AllocError> {
+pub fn push_frames(text: &mut String, sent: &[SentBytes], form: Form) -> Result<(), AllocError> {
     let mut trace = Trace::new(*text.allocator());
     let mut last = 0;
     for piece in sent {
@@ -22,7 +22,7 @@ pub fn push_frames(text: &mut String, sent: &[Sent], form: Form) -> Result<(), A
 /// Pushes lines, with an end of line after each.
 pub fn push_lines(text: &mut String, lines: &[Line], form: Form) -> Result<(), AllocError> {
     for line in lines {
-        let line = Shown { line, form };
+        let line = ShownLine { line, form };
         writeln!(text, "{line}").map_err(|_| AllocError)?;
     }
     Ok(())

@@ -2,22 +2,22 @@
 
 use crate::messages::Messages;
 use crate::sides::Sides;
-use crate::windows::Moved;
+use crate::windows::WindowShift;
 use h2frame::StreamId;
 use indexmap::IndexMap;
 use std::alloc::{AllocError, Global};
 
 /// What is known of what one side sends on a stream.
 #[derive(Clone, Copy)]
-pub struct Half {
+pub struct StreamHalf {
     pub messages: Messages,
     /// Its window.
-    pub moved: Moved,
+    pub moved: WindowShift,
     pub has_end: bool,
 }
 
 /// A stream, by its two sides.
-pub type Stream = Sides<Half>;
+pub type Stream = Sides<StreamHalf>;
 
 /// The streams that neither side reset, and not both have ended.
 #[derive(Drop)]
@@ -26,9 +26,9 @@ pub struct Streams {
 }
 
 /// Nothing was sent on it.
-const NEW_HALF: Half = Half {
+const NEW_HALF: StreamHalf = StreamHalf {
     messages: Messages::NONE,
-    moved: Moved::NONE,
+    moved: WindowShift::NONE,
     has_end: false,
 };
 

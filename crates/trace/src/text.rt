@@ -8,9 +8,9 @@ const SHOWN: usize = 128;
 /// Bytes between quotes: `\"`, `\\`, `\n`, `\r`, `\t`, and `\xNN` for each other byte that isn't a
 /// printable character of ASCII.
 #[derive(Clone, Copy)]
-pub struct Quoted<'a>(pub &'a [u8]);
+pub struct QuotedBytes<'a>(pub &'a [u8]);
 
-impl fmt::Display for Quoted<'_> {
+impl fmt::Display for QuotedBytes<'_> {
     fn fmt<W: fmt::Write>(&self, f: &mut fmt::Formatter<W>) -> fmt::Result {
         write!(f, "\"")?;
         for byte in self.0 {

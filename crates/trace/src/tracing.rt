@@ -2,15 +2,15 @@
 
 ghost use Rattle.std.specs.Prelude.{◌≡◌, ◌++◌, [], IfOk, OnOk};
 ghost use Rattle.capture.specs.declared.conversation.Side.TheVariants as sides;
-ghost use Rattle.trace.specs.declared.item.Stage.TheVariants as stages;
+ghost use Rattle.trace.specs.declared.item.SideStage.TheVariants as stages;
 ghost use Rattle.trace.specs.Cuts.{IsUnfinished, item_list, rest_of};
 ghost use Rattle.trace.specs.Lines.{IsTold, items_of, pending_of};
 
 use crate::cutter::Cutter;
-use crate::item::{Item, Stage};
-use crate::known::Known;
+use crate::frame_meaning::FrameMeaning;
+use crate::item::{Item, SideStage};
 use crate::line::Line;
-use crate::told::Told;
+use crate::trace_state::TraceState;
 use capture::Side;
 use std::alloc::{AllocError, Global};
 
@@ -20,7 +20,7 @@ pub struct Trace {
     alloc: Global,
     client: Cutter,
     server: Cutter,
-    known: Known,
+    known: TraceState,
 }
 
 impl Trace {
@@ -33,9 +33,9 @@ impl Trace {
     {
         Trace {
             alloc,
-            client: Cutter::new(alloc, Stage::BeforePreface),
-            server: Cutter::new(alloc, Stage::InFrames),
-            known: Known::new(alloc),
+            client: Cutter::new(alloc, SideStage::BeforePreface),
+            server: Cutter::new(alloc, SideStage::InFrames),
+            known: TraceState::new(alloc),
         }
     }
 
@@ -91,7 +91,7 @@ impl Trace {
 #[tactic(auto, using(crate::proofs::Lines::items_of_push))]
 fn lines_of(
     alloc: Global,
-    known: &mut Known,
+    known: &mut TraceState,
     time: u64,
     side: Side,
     items: Vec<Item>,
@@ -129,7 +129,7 @@ fn push_rest(
         time,
         side,
         item,
-        told: Told::Nothing,
+        told: FrameMeaning::Nothing,
     })?;
     Ok(())
 }

@@ -21,7 +21,7 @@ pub struct Windows {
 
 /// What one side may send on a stream, beyond the initial size.
 #[derive(Clone, Copy, Debug, PartialEq, Eq)]
-pub struct Moved(i64);
+pub struct WindowShift(i64);
 
 impl Windows {
     /// Before any frame.
@@ -45,7 +45,7 @@ impl Windows {
     }
 
     /// The window of a stream changes by `bytes`.
-    pub fn change_stream(&self, moved: &mut Moved, bytes: i64) -> Change
+    pub fn change_stream(&self, moved: &mut WindowShift, bytes: i64) -> Change
         ensures before { result.before ≡ saturate_signed w64 (self.now.initial +ℤ moved.old.0) }
         ensures moved { moved.new.0 ≡ saturate_signed w64 (moved.old.0 +ℤ bytes) }
         ensures after { result.after ≡ saturate_signed w64 (self.now.initial +ℤ moved.new.0) }
@@ -74,7 +74,7 @@ impl Windows {
     }
 }
 
-impl Moved {
+impl WindowShift {
     /// Nothing was sent, and no credit came.
-    pub const NONE: Moved = Moved(0);
+    pub const NONE: WindowShift = WindowShift(0);
 }

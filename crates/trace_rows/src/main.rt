@@ -22,7 +22,7 @@ use capture::{Conversation, Hosts, Path, Time, file_head};
 use std::alloc::Global;
 use std::env;
 use std::rt::Env;
-use trace::{Form, Sent, push_frames, sent_of};
+use trace::{Form, SentBytes, push_frames, sent_of};
 
 const V4: Hosts = Hosts::V4 {
     from: [127, 0, 0, 1],
@@ -36,7 +36,7 @@ const V6: Hosts = Hosts::V6 {
 
 const SECOND: u64 = 1_000_000;
 
-fn print_frames(rt: &(impl Print + AllocGlobal), sent: &[Sent], form: Form) -> Result<()> {
+fn print_frames(rt: &(impl Print + AllocGlobal), sent: &[SentBytes], form: Form) -> Result<()> {
     let mut text = String::new(rt.alloc());
     push_frames(&mut text, sent, form)?;
     print!(rt; "{text}")?;
@@ -44,13 +44,13 @@ fn print_frames(rt: &(impl Print + AllocGlobal), sent: &[Sent], form: Form) -> R
 }
 
 /// The bytes in pieces of at most `most`.
-fn cut(alloc: Global, sent: &[Sent], most: usize) -> Result<Vec<Sent>>
+fn cut(alloc: Global, sent: &[SentBytes], most: usize) -> Result<Vec<SentBytes>>
     requires { 0 < most }
 {
     let mut pieces = Vec::new(alloc);
     for one in sent {
         for bytes in one.bytes.as_slice().chunks(most) {
-            pieces.push(Sent {
+            pieces.push(SentBytes {
                 time: one.time,
                 side: one.side,
                 bytes: Bytes::copy_from_slice(alloc, bytes)?,
@@ -67,7 +67,7 @@ fn time_of(micros: u64) -> Result<Time> {
     })
 }
 
-fn print_capture(rt: &(impl Print + AllocGlobal), sent: &[Sent], hosts: Hosts) -> Result<()> {
+fn print_capture(rt: &(impl Print + AllocGlobal), sent: &[SentBytes], hosts: Hosts) -> Result<()> {
     let alloc = rt.alloc();
     let path = Path {
         hosts,
@@ -91,7 +91,7 @@ fn print_capture(rt: &(impl Print + AllocGlobal), sent: &[Sent], hosts: Hosts) -
     Ok(())
 }
 
-fn print_sent(rt: &(impl Print + AllocGlobal), sent: &[Sent]) -> Result<()> {
+fn print_sent(rt: &(impl Print + AllocGlobal), sent: &[SentBytes]) -> Result<()> {
     for piece in sent {
         let (time, side) = (piece.time, piece.side);
         let digits = hex::encode(rt.alloc(), piece.bytes.as_slice())?;
@@ -113,7 +113,7 @@ fn read_input(rt: &HostRuntime) -> Result<String> {
 }
 
 /// What a file has that standard input has in digits.
-fn decoded(alloc: Global, text: &str) -> Result<Vec<Sent>> {
+fn decoded(alloc: Global, text: &str) -> Result<Vec<SentBytes>> {
     let file = hex::decode(alloc, text.trim())?;
     Ok(sent_of(alloc, file.as_slice())?)
 }

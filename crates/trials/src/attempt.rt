@@ -7,9 +7,9 @@ ghost use Rattle.cases.specs.declared.fault.CaseFault.TheVariants.{UnknownCase};
 ghost use Rattle.trials.specs.Verdicts.{verdict_by, verdict_on};
 ghost use Rattle.results.specs.Summaries.{summary_line, summary_of};
 
-use crate::connecting::{Place, connect};
-use crate::kept::{Bytes, Kept};
-use cases::{Case, CaseFault, Failure, Limit, ReportFault, Timed, Windows};
+use crate::captured_conn::{Bytes, CapturedConn};
+use crate::connecting::{ServerPlace, connect};
+use cases::{Case, CaseFault, Failure, Limit, ReportFault, TimedConn, Windows};
 use device::{ConnWrite, write_all};
 use recorder::{Recorder, look_at_server};
 use results::{Level, Outcome, Rule, Suite, Verdict, push_summary, summary_of};
@@ -22,7 +22,7 @@ use std::time::{Clock, Duration, Instant};
 /// The server that cases are run against, and how.
 #[derive(Clone, Copy)]
 pub struct Target<'a> {
-    pub place: Place<'a>,
+    pub place: ServerPlace<'a>,
     /// How many seconds a case may take; at least 1.
     pub patience: u16,
     pub windows: Windows,
@@ -56,10 +56,10 @@ where
         Err(failure) => return unmade(failure, milliseconds_of(limit.spent(rt))),
     };
     let line = look_at_server(*rt, target.recorder, stream, name);
-    let mut kept = Kept::new(alloc, line);
-    let line = Timed::new(rt, &mut kept, limit);
+    let mut kept = CapturedConn::new(alloc, line);
+    let line = TimedConn::new(rt, &mut kept, limit);
     let failure = cases::run_case(alloc, name, line, target.windows).err();
-    let Kept { stream, bytes } = kept;
+    let CapturedConn { stream, bytes } = kept;
     if let (Some(eye), Some(failure)) = (stream.tap(), &failure) {
         eye.fault(failure.note.as_str());
     }

@@ -7,11 +7,11 @@ ghost use Rattle.cases.specs.declared.fault.CaseFault.TheVariants.{UnknownCase};
 ghost use Rattle.cases.specs.declared.report.Outcome.{Outcome as Ended};
 
 use crate::attempt::{Target, connect_and_run, fault_of, outcome_by, outcome_of, try_case};
-use crate::connecting::{Place, connect};
+use crate::connecting::{ServerPlace, connect};
 use crate::load::load_case;
 use crate::soak::run_soak;
 use crate::tally::{Tally, push_tally};
-use crate::trial::{TrialFault, Verdict, choice_of, end_run, refuse_choice};
+use crate::trial::{RunVerdict, TrialFault, choice_of, end_run, refuse_choice};
 use cases::{Case, CaseFault, Limit, ReportFault, Soak, Windows, print_line, push_line, run_all};
 use device::{ConnWrite, write_all};
 use recorder::Recorder;
@@ -34,7 +34,7 @@ impl<'a> Target<'a> {
     /// The one that words name, with windows held.
     fn of(words: &CaseRun<'a>, recorder: &'a Option<Arc<Recorder>>) -> Target<'a> {
         Target {
-            place: Place::new(words.host, words.port),
+            place: ServerPlace::new(words.host, words.port),
             patience: words.patience,
             windows: Windows::Held,
             recorder,
@@ -50,7 +50,7 @@ pub fn run_case<R, W>(
     words: CaseWords<'_>,
     is_shown: bool,
     output: &mut W,
-) -> Result<Verdict, TrialFault>
+) -> Result<RunVerdict, TrialFault>
 where
     R: Net<Stream = TcpStream, Listener = TcpListener> + Files<File = File> + Eprint + AllocGlobal,
     R: Clock + Threads + Wait + Copy + Send + Sync + Drop + 'static,
@@ -59,7 +59,7 @@ where
     let words = match words {
         CaseWords::List => {
             print_names(rt.alloc(), output)?;
-            return Ok(Verdict::Passed);
+            return Ok(RunVerdict::Passed);
         }
         CaseWords::Run(words) => words,
     };
@@ -73,7 +73,7 @@ where
             if is_named(name, &words) {
                 print_unknown(alloc, name, output)?;
             }
-            Ok(Verdict::UnknownCase)
+            Ok(RunVerdict::UnknownCase)
         }
         Err(fault) => refuse_choice(&rt, fault),
     }
@@ -132,7 +132,7 @@ fn run_chosen<R, W>(
     words: &CaseRun<'_>,
     is_shown: bool,
     output: &mut W,
-) -> Result<Verdict, TrialFault>
+) -> Result<RunVerdict, TrialFault>
 where
     R: Net<Stream = TcpStream, Listener = TcpListener> + Files<File = File> + Eprint + AllocGlobal,
     R: Clock + Threads + Wait + Copy + Send + Sync + Drop + 'static,
@@ -159,7 +159,7 @@ fn run_recorded<R, W>(
     run: Run<'_, '_>,
     recorder: &Option<Arc<Recorder>>,
     output: &mut W,
-) -> Result<Verdict, TrialFault>
+) -> Result<RunVerdict, TrialFault>
 where
     R: Net<Stream = TcpStream, Listener = TcpListener> + Files<File = File> + Eprint + AllocGlobal,
     R: Clock + Threads + Wait + Copy + Send + Sync + Drop + 'static,
@@ -177,7 +177,7 @@ where
             }
         }
     }
-    Ok(Verdict::from(sinks.close(output)?))
+    Ok(RunVerdict::from(sinks.close(output)?))
 }
 
 /// Runs the case or the soak of this name, as the words say, and reports its outcome.
@@ -226,7 +226,7 @@ fn is_unconnected(outcome: &Outcome) -> bool {
 fn is_there<R: Net + Clock>(rt: &R, alloc: Global, words: &CaseRun<'_>) -> bool {
     let whole = Duration::from_secs(u64::from(words.patience));
     match Limit::begin(rt, whole) {
-        Ok(limit) => connect(rt, alloc, Place::new(words.host, words.port), limit).is_ok(),
+        Ok(limit) => connect(rt, alloc, ServerPlace::new(words.host, words.port), limit).is_ok(),
         Err(_) => false,
     }
 }

@@ -9,16 +9,16 @@ use std::{fmt, io};
 
 /// Where a server is.
 #[derive(Clone, Copy, Debug, PartialEq, Eq)]
-pub struct Place<'a> {
+pub struct ServerPlace<'a> {
     /// Its address, without brackets, or a name for it.
     host: &'a str,
     port: u16,
 }
 
-impl<'a> Place<'a> {
+impl<'a> ServerPlace<'a> {
     /// An IPv6 address may stand in brackets, as the line `listening` has it.
-    pub fn new(host: &'a str, port: u16) -> Place<'a> {
-        Place {
+    pub fn new(host: &'a str, port: u16) -> ServerPlace<'a> {
+        ServerPlace {
             host: without_brackets(host),
             port,
         }
@@ -33,9 +33,9 @@ pub fn without_brackets(host: &str) -> &str {
     }
 }
 
-impl<'a> fmt::Display for Place<'a> {
+impl<'a> fmt::Display for ServerPlace<'a> {
     fn fmt<W: fmt::Write>(&self, f: &mut fmt::Formatter<W>) -> fmt::Result {
-        let Place { host, port } = *self;
+        let ServerPlace { host, port } = *self;
         if host.bytes().any(|byte| byte == b':') {
             write!(f, "[{host}]:{port}")
         } else {
@@ -49,7 +49,7 @@ impl<'a> fmt::Display for Place<'a> {
 pub(crate) fn connect<R: Net + Clock>(
     rt: &R,
     alloc: Global,
-    place: Place<'_>,
+    place: ServerPlace<'_>,
     limit: Limit,
 ) -> Result<R::Stream, Failure> {
     let addresses = match (place.host, place.port).to_socket_addrs(rt) {
@@ -118,7 +118,7 @@ impl fmt::Display for Why {
     }
 }
 
-fn no_connection(alloc: Global, place: Place<'_>, why: Why) -> Failure {
+fn no_connection(alloc: Global, place: ServerPlace<'_>, why: Why) -> Failure {
     let text = match format!(in alloc; "no connection to {place}: {why}") {
         Ok(text) => text,
         Err(_) => String::new(alloc),

@@ -6,7 +6,7 @@ use sinks::{Form, Sinks};
 use std::alloc::Global;
 use std::rt::Files;
 use std::time::Clock;
-use wire::{Case, Ended, WireFault, lost_outcome, lost_text, text_of};
+use wire::{Case, CaseOutcome, WireFault, lost_outcome, lost_text, text_of};
 
 /// Why nothing more is run of a server that a case has ended.
 pub(crate) const NO_ANSWER: &str = "the server answers no more";
@@ -26,7 +26,7 @@ pub(crate) enum Round {
 
 /// A case that couldn't be tested.
 #[derive(Drop)]
-struct Lost {
+struct UntestedCase {
     place: usize,
     why: String,
 }
@@ -35,7 +35,7 @@ struct Lost {
 #[derive(Drop)]
 pub(crate) struct Desk {
     alloc: Global,
-    waiting: Vec<Option<Ended>>,
+    waiting: Vec<Option<CaseOutcome>>,
     /// The place of the case that is reported next.
     next: usize,
     is_verbose: bool,
@@ -44,7 +44,7 @@ pub(crate) struct Desk {
     /// Whether a case has ended the server, and whether it fails the run by itself.
     is_dead: bool,
     is_failed: bool,
-    lost: Option<Lost>,
+    lost: Option<UntestedCase>,
 }
 
 impl Desk {
@@ -93,7 +93,7 @@ impl Desk {
     pub(crate) fn take<R, W>(
         &mut self,
         place: usize,
-        answer: Result<Ended, WireFault>,
+        answer: Result<CaseOutcome, WireFault>,
         sinks: &mut Sinks<'_, R>,
         output: &mut W,
     ) -> Result<(), TrialFault>
@@ -104,7 +104,7 @@ impl Desk {
         match answer {
             Ok(ended) => self.put(place, ended, sinks, output),
             Err(WireFault::NoConnection(why)) => {
-                self.lost = Some(Lost { place, why });
+                self.lost = Some(UntestedCase { place, why });
                 Ok(())
             }
             Err(fault) => Err(TrialFault::from(fault)),
@@ -115,7 +115,7 @@ impl Desk {
     fn put<R, W>(
         &mut self,
         place: usize,
-        mut ended: Ended,
+        mut ended: CaseOutcome,
         sinks: &mut Sinks<'_, R>,
         output: &mut W,
     ) -> Result<(), TrialFault>
@@ -140,7 +140,7 @@ impl Desk {
     }
 
     /// The case whose turn it is, if it has ended.
-    fn next_ended(&mut self) -> Option<Ended> {
+    fn next_ended(&mut self) -> Option<CaseOutcome> {
         let ended = self.waiting.as_mut_slice().get_mut(self.next)?.take()?;
         self.next = self.next.saturating_add(1);
         Some(ended)
@@ -163,7 +163,7 @@ impl Desk {
         if self.is_dead && !is_told {
             let last = self.waiting.len().saturating_sub(1);
             let why = String::from_str(self.alloc, NO_ANSWER)?;
-            self.lost = Some(Lost {
+            self.lost = Some(UntestedCase {
                 place: self.next.min(last),
                 why,
             });
@@ -180,7 +180,7 @@ impl Desk {
     /// Reports the outcome of a case.
     fn tell<R, W>(
         &self,
-        ended: Ended,
+        ended: CaseOutcome,
         sinks: &mut Sinks<'_, R>,
         output: &mut W,
     ) -> Result<(), TrialFault>
@@ -189,7 +189,7 @@ impl Desk {
         W: ConnWrite,
     {
         let text = text_of(self.alloc, &ended, self.is_verbose)?;
-        let Ended { outcome, .. } = ended;
+        let CaseOutcome { outcome, .. } = ended;
         sinks.tell(outcome, text.as_bytes(), output)?;
         Ok(())
     }

@@ -5,7 +5,7 @@ ghost use Rattle.std.specs.Prelude.{◌≡◌, ◌≤◌};
 ghost use Rattle.trials.specs.Times.{rank_of};
 
 use crate::attempt::{Target, outcome_by, passed_since, try_case};
-use crate::connecting::Place;
+use crate::connecting::ServerPlace;
 use crate::tally::{Tally, push_tally};
 use crate::trial::TrialFault;
 use cases::{Case, CaseFault, Windows};
@@ -128,7 +128,7 @@ where
     R: Net + Wait + Clock + Eprint + AllocGlobal + Copy + Drop,
 {
     let target = Target {
-        place: Place::new(trial.host.as_str(), trial.port),
+        place: ServerPlace::new(trial.host.as_str(), trial.port),
         patience: trial.patience,
         windows: Windows::Open,
         recorder: &trial.recorder,

@@ -2,10 +2,10 @@
 //! one each, and how long they took (gRPC, "Interoperability Test Case Descriptions").
 
 use crate::attempt::{milliseconds_of, outcome_by};
-use crate::connecting::{Place, connect};
+use crate::connecting::{ServerPlace, connect};
 use crate::load::nearest_rank;
 use crate::trial::TrialFault;
-use cases::{CaseFault, Channel, Failure, Limit, Soak, SoakSizes, Timed, push_line};
+use cases::{CaseFault, Channel, Failure, Limit, Soak, SoakSizes, TimedConn, push_line};
 use recorder::{Line, Recorder, look_at_server};
 use results::{Outcome, Suite};
 use std::alloc::{AllocError, Global};
@@ -16,7 +16,7 @@ use std::time::{Clock, Duration};
 use words::{CaseRun, SoakWords};
 
 /// A connection that goes on.
-type Open<R> = Channel<Timed<R, Line<TcpStream, R>>>;
+type Open<R> = Channel<TimedConn<R, Line<TcpStream, R>>>;
 
 /// What came of a call.
 #[derive(Clone, Copy, Debug, PartialEq, Eq)]
@@ -30,7 +30,7 @@ struct Iteration {
 #[derive(Drop)]
 struct Plan<'a> {
     soak: Soak,
-    place: Place<'a>,
+    place: ServerPlace<'a>,
     words: SoakWords,
     sizes: SoakSizes,
     limit: Limit,
@@ -57,7 +57,7 @@ where
     };
     let plan = Plan {
         soak,
-        place: Place::new(run.host, run.port),
+        place: ServerPlace::new(run.host, run.port),
         words,
         sizes: SoakSizes {
             request: words.request_size as usize,
@@ -168,7 +168,7 @@ where
         None => {
             let stream = connect(&rt, alloc, plan.place, plan.limit)?;
             let line = look_at_server(rt, plan.recorder, stream, plan.soak.name());
-            Channel::open(alloc, Timed::new(rt, line, plan.limit))?
+            Channel::open(alloc, TimedConn::new(rt, line, plan.limit))?
         }
     };
     channel.call(plan.sizes)?;

@@ -15,7 +15,7 @@ use words::Reporting;
 
 /// What came of the cases that words name.
 #[derive(Clone, Copy, Debug, PartialEq, Eq)]
-pub enum Verdict {
+pub enum RunVerdict {
     /// None failed that isn't known to.
     Passed,
     Failed,
@@ -23,12 +23,12 @@ pub enum Verdict {
     UnknownCase,
 }
 
-impl From<bool> for Verdict {
-    fn from(has_passed: bool) -> Verdict {
+impl From<bool> for RunVerdict {
+    fn from(has_passed: bool) -> RunVerdict {
         if has_passed {
-            Verdict::Passed
+            RunVerdict::Passed
         } else {
-            Verdict::Failed
+            RunVerdict::Failed
         }
     }
 }
@@ -118,21 +118,21 @@ pub fn choice_of<'w, 'a>(names: &'w [&'a str], reporting: &'w Reporting<'a>) -> 
 }
 
 /// Says on standard error why words choose no case.
-pub fn refuse_choice(rt: &impl Eprint, fault: ChoiceFault<'_>) -> Result<Verdict, TrialFault> {
+pub fn refuse_choice(rt: &impl Eprint, fault: ChoiceFault<'_>) -> Result<RunVerdict, TrialFault> {
     if fault == ChoiceFault::OutOfMemory {
         return Err(TrialFault::OutOfMemory);
     }
     // The exit status reports it even if nothing can be written here.
     let _said = eprintln!(rt; "interop: {fault}");
-    Ok(Verdict::UnknownCase)
+    Ok(RunVerdict::UnknownCase)
 }
 
 /// A run is over, and nothing more passes: its verdict, unless it couldn't be written what passed.
 pub fn end_run(
     rt: &impl Wait,
     recorder: &Option<Arc<Recorder>>,
-    verdict: Result<Verdict, TrialFault>,
-) -> Result<Verdict, TrialFault> {
+    verdict: Result<RunVerdict, TrialFault>,
+) -> Result<RunVerdict, TrialFault> {
     let Some(recorder) = recorder else {
         return verdict;
     };

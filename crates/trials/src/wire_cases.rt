@@ -1,8 +1,8 @@
 //! `interop wire`: wire cases against a server, several side by side.
 
-use crate::connecting::{Place, connect};
+use crate::connecting::{ServerPlace, connect};
 use crate::desk::{Desk, NO_ANSWER, Round};
-use crate::trial::{TrialFault, Verdict, choice_of, end_run, refuse_choice};
+use crate::trial::{RunVerdict, TrialFault, choice_of, end_run, refuse_choice};
 use cases::Limit;
 use device::ConnWrite;
 use lane::Bell;
@@ -18,7 +18,7 @@ use std::sync::{Arc, Mutex, Wait};
 use std::thread;
 use std::thread::Threads;
 use std::time::{Clock, Duration, Instant};
-use wire::{Case, Ended, Pace, Server, WireFault, every_case, list, run_case};
+use wire::{Case, CaseOutcome, Pace, Server, WireFault, every_case, list, run_case};
 use words::{WireRun, WireWords};
 
 /// The words that choose cases.
@@ -47,7 +47,7 @@ struct Target<R> {
 
 /// The server under test, for the tries of one case.
 #[derive(Drop)]
-struct Tried<'a, R> {
+struct TriedServer<'a, R> {
     target: &'a Target<R>,
     /// The case's name, where it is written what passes.
     name: String,
@@ -56,7 +56,7 @@ struct Tried<'a, R> {
 impl<R: Net<Stream = TcpStream> + Clock + AllocGlobal + Drop> Target<R> {
     fn stream(&self) -> Result<TcpStream, WireFault> {
         let limit = Limit::begin(&self.rt, self.patience).map_err(|_| WireFault::ClockFailed)?;
-        let place = Place::new(self.host.as_str(), self.port);
+        let place = ServerPlace::new(self.host.as_str(), self.port);
         match connect(&self.rt, self.rt.alloc(), place, limit) {
             Ok(stream) => {
                 // A connection on which no time can be set is broken, and a read reports that.
@@ -68,7 +68,7 @@ impl<R: Net<Stream = TcpStream> + Clock + AllocGlobal + Drop> Target<R> {
     }
 
     /// Runs a case.
-    fn run(&self, alloc: Global, case: Case, pace: Pace) -> Result<Ended, WireFault>
+    fn run(&self, alloc: Global, case: Case, pace: Pace) -> Result<CaseOutcome, WireFault>
     where
         R: Wait + Eprint + Copy,
     {
@@ -76,11 +76,11 @@ impl<R: Net<Stream = TcpStream> + Clock + AllocGlobal + Drop> Target<R> {
             Some(_) => case.name(alloc)?,
             None => String::new(alloc),
         };
-        run_case(alloc, case, pace, &Tried { target: self, name })
+        run_case(alloc, case, pace, &TriedServer { target: self, name })
     }
 }
 
-impl<'a, R> Server for Tried<'a, R>
+impl<'a, R> Server for TriedServer<'a, R>
 where
     R: Net<Stream = TcpStream> + Wait + Clock + Eprint + AllocGlobal,
     R: Copy + Drop,
@@ -88,7 +88,7 @@ where
     type Line = Line<TcpStream, R>;
 
     fn connect(&self) -> Result<Line<TcpStream, R>, WireFault> {
-        let Tried { target, name } = self;
+        let TriedServer { target, name } = self;
         let stream = target.stream()?;
         Ok(look_at_server(target.rt, &target.recorder, stream, name.as_str()))
     }
@@ -115,16 +115,16 @@ struct Board<R> {
     next: AtomicU64,
     /// Whether no more are run.
     is_over: AtomicBool,
-    found: Mutex<Found>,
+    found: Mutex<CaseOutcomes>,
     /// Rung where something came of a case.
     bell: Bell,
 }
 
 /// What came of cases that run side by side.
 #[derive(Drop)]
-struct Found {
+struct CaseOutcomes {
     /// By the places of the cases, until it is taken.
-    answers: Vec<Option<Result<Ended, WireFault>>>,
+    answers: Vec<Option<Result<CaseOutcome, WireFault>>>,
 }
 
 /// Lists the wire cases, or runs those that the words choose, and reports each outcome. It answers
@@ -141,7 +141,7 @@ pub fn run_wire<R, W>(
     words: WireWords<'_>,
     is_shown: bool,
     output: &mut W,
-) -> Result<Verdict, TrialFault>
+) -> Result<RunVerdict, TrialFault>
 where
     R: Net<Stream = TcpStream, Listener = TcpListener> + Files<File = File> + Eprint + AllocGlobal,
     R: Clock + Threads + Wait + Copy + Send + Sync + Drop + 'static,
@@ -151,7 +151,7 @@ where
     let words = match words {
         WireWords::List => {
             list(alloc, output)?;
-            return Ok(Verdict::Passed);
+            return Ok(RunVerdict::Passed);
         }
         WireWords::Run(words) => words,
     };
@@ -201,7 +201,7 @@ fn run_recorded<R, W>(
     run: Run<'_, '_>,
     recorder: &Option<Arc<Recorder>>,
     output: &mut W,
-) -> Result<Verdict, TrialFault>
+) -> Result<RunVerdict, TrialFault>
 where
     R: Net<Stream = TcpStream, Listener = TcpListener> + Files<File = File> + Eprint + AllocGlobal,
     R: Clock + Threads + Wait + Copy + Send + Sync + Drop + 'static,
@@ -218,12 +218,12 @@ where
             Round::Dead => {
                 sinks.bail_out(NO_ANSWER, output)?;
                 sinks.close(output)?;
-                return Ok(Verdict::Failed);
+                return Ok(RunVerdict::Failed);
             }
             Round::Lost(why) => return lose(&rt, why.as_str(), &mut sinks, output),
         }
     }
-    Ok(Verdict::from(sinks.close(output)?))
+    Ok(RunVerdict::from(sinks.close(output)?))
 }
 
 /// Ends a run for which there is no connection to the server any more, and says why.
@@ -232,7 +232,7 @@ fn lose<R, W>(
     why: &str,
     sinks: &mut Sinks<'_, R>,
     output: &mut W,
-) -> Result<Verdict, TrialFault>
+) -> Result<RunVerdict, TrialFault>
 where
     R: Files + Clock + Eprint + AllocGlobal + Drop,
     W: ConnWrite,
@@ -245,10 +245,10 @@ where
 }
 
 /// Says that there is no case of this name, and which there are.
-fn refuse_name(rt: &impl Eprint, name: &str) -> Verdict {
+fn refuse_name(rt: &impl Eprint, name: &str) -> RunVerdict {
     // The exit status reports it even if nothing can be written here.
     let _said = eprintln!(rt; "interop: there is no wire case {name}: {KNOWN}");
-    Verdict::UnknownCase
+    RunVerdict::UnknownCase
 }
 
 /// The names of cases.
@@ -359,7 +359,7 @@ fn board_of<R: Net<Stream = TcpStream> + Clock + AllocGlobal + Drop>(
         },
         next: AtomicU64::new(0),
         is_over: AtomicBool::new(false),
-        found: Mutex::new(Found { answers }),
+        found: Mutex::new(CaseOutcomes { answers }),
         bell: Bell::new(),
     })
 }
@@ -425,7 +425,7 @@ where
     }
 
     /// What came of the next case that ends, and its place.
-    fn wait_for_next(&self, rt: &impl Wait) -> (usize, Result<Ended, WireFault>) {
+    fn wait_for_next(&self, rt: &impl Wait) -> (usize, Result<CaseOutcome, WireFault>) {
         for _ in rt.forever() {
             let mark = self.bell.mark();
             let taken = self.found.lock(rt).take();
@@ -438,16 +438,16 @@ where
     }
 }
 
-impl Found {
+impl CaseOutcomes {
     /// Puts down what came of the case at a place.
-    fn put(&mut self, place: usize, answer: Result<Ended, WireFault>) {
+    fn put(&mut self, place: usize, answer: Result<CaseOutcome, WireFault>) {
         if let Some(slot) = self.answers.as_mut_slice().get_mut(place) {
             *slot = Some(answer);
         }
     }
 
     /// The first place of which something came, and what.
-    fn take(&mut self) -> Option<(usize, Result<Ended, WireFault>)> {
+    fn take(&mut self) -> Option<(usize, Result<CaseOutcome, WireFault>)> {
         let place = self.answers.iter().position(|slot| slot.is_some())?;
         let answer = self.answers.as_mut_slice().get_mut(place)?.take()?;
         Some((place, answer))

@@ -4,10 +4,10 @@ use Rattle.std.specs.Global.{Vec}
 use Rattle.wire.specs.declared.fault.WireFault.{WireFault}
 use Rattle.wire.specs.declared.reaction.Reaction.{Reaction}
 use Rattle.wire.specs.declared.reaction.Reaction.TheVariants as reaction
-use Rattle.wire.specs.declared.seen.Seen.{Seen}
+use Rattle.wire.specs.declared.seen_frames.SeenFrames.{SeenFrames}
 use Rattle.wire.specs.Reactions.{Judges}
 
-unclaimed : (seen : Seen) (r : Reaction) (held : Bool)
+unclaimed : (seen : SeenFrames) (r : Reaction) (held : Bool)
     → ((codes : Vec ℕ) → r ≡ reaction.Connection codes → ⊥)
     → ((codes : Vec ℕ) → r ≡ reaction.Goaway codes → ⊥)
     → (r ≡ reaction.Closed → ⊥)
@@ -25,7 +25,7 @@ unclaimed seen (reaction.Largest most) held a b c d e f g h = absurd (g most ref
 unclaimed seen reaction.Orderly held a b c d e f g h = absurd (h refl)
 unclaimed seen other held a b c d e f g h = tt
 
-pub unclaimed_answer : (seen : Seen) (r : Reaction) (answer : Result Bool WireFault)
+pub unclaimed_answer : (seen : SeenFrames) (r : Reaction) (answer : Result Bool WireFault)
     → ((codes : Vec ℕ) → r ≡ reaction.Connection codes → ⊥)
     → ((codes : Vec ℕ) → r ≡ reaction.Goaway codes → ⊥)
     → (r ≡ reaction.Closed → ⊥)

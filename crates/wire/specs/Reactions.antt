@@ -24,10 +24,10 @@ use Rattle.std.specs.Prelude.{
 use Rattle.std.specs.Ordering.{nat_cmp}
 use Rattle.std.specs.List.{All, Any, list_any}
 use Rattle.std.specs.BTreeMap.{get}
-use Rattle.wire.specs.declared.reaction.Lawful.{Lawful}
+use Rattle.wire.specs.declared.reaction.LawfulReaction.{LawfulReaction}
 use Rattle.wire.specs.declared.reaction.Reaction.{Reaction}
 use Rattle.wire.specs.declared.reaction.Reaction.TheVariants as reaction
-use Rattle.wire.specs.declared.seen.Seen.{Seen}
+use Rattle.wire.specs.declared.seen_frames.SeenFrames.{SeenFrames}
 use Rattle.wire.specs.declared.stream_seen.StreamSeen.{StreamSeen}
 
 -- an error was said, and it is one of these
@@ -52,7 +52,7 @@ was_reset None codes = false
 was_reset (Some seen) codes = is_one_or_any seen.reset codes
 
 -- what was judged of an error, or of an end, is so
-abbrev pub Judges : Seen → Reaction → Bool → Type 0
+abbrev pub Judges : SeenFrames → Reaction → Bool → Type 0
 Judges seen (reaction.Connection codes) held = held ≡ has_ended seen.goaway seen.closed codes.items
 Judges seen (reaction.Goaway codes) held = held ≡ is_one_of seen.goaway codes.items
 Judges seen reaction.Closed held = held ≡ seen.closed
@@ -68,14 +68,14 @@ Judges seen reaction.Orderly held = held ≡ not seen.late
 Judges seen other held = ⊤
 
 -- the connection ended before anything came that could be judged
-abbrev pub was_shut : Seen → Bool
+abbrev pub was_shut : SeenFrames → Bool
 was_shut seen = seen.closed && (not seen.any_frame && (not seen.text && is_none seen.wrong))
 
 -- the server did nothing that no server may, and all that is asked for holds
-pub record IsLawful (seen : Seen) (lawful : Lawful) : Type 0 where
+pub record IsLawful (seen : SeenFrames) (lawful : LawfulReaction) : Type 0 where
   pub no_wrong : seen.wrong ≡ None
   pub all : All (λ asked. Judges seen asked true) lawful.all.items
 
 -- the server did what no server may, or something that is asked for was judged not to hold
-abbrev pub IsUnlawful : Seen → Lawful → Type 0
+abbrev pub IsUnlawful : SeenFrames → LawfulReaction → Type 0
 IsUnlawful seen lawful = IsSome seen.wrong ⊎ Any (λ asked. Judges seen asked false) lawful.all.items

@@ -1,7 +1,7 @@
 //! What frames carry, as the rows spell it.
 //!
-//! Words with blanks between them, each of which adds bytes. A N is an amount (`announced`): a
-//! number, or one that is taken from what the server announced, as `frame+1`.
+//! Words with blanks between them, each of which adds bytes. A N is an amount (`server_settings`):
+//! a number, or one that is taken from what the server announced, as `frame+1`.
 //!
 //! - `0801`: these bytes, in hexadecimal; `00*N`: N times.
 //! - `te=trailers`: a field of a header block, without indexing and with its name spelled out (RFC
@@ -18,20 +18,20 @@
 
 ghost use Rattle.std.specs.Prelude.{◌<◌, IfSome};
 
-use crate::announced::Announced;
 use crate::fault::WireFault;
+use crate::server_settings::ServerSettings;
 use std::alloc::Global;
 
 /// For what the lines of a case are read.
 #[derive(Clone, Copy, Debug, PartialEq, Eq)]
 pub struct Reading {
-    pub announced: Announced,
+    pub announced: ServerSettings,
     /// Whether without the fault.
     pub is_control: bool,
 }
 
 /// SETTINGS of a server that announced each, by which rows can be read before there is a server.
-pub const SAMPLE: Announced = Announced {
+pub const SAMPLE: ServerSettings = ServerSettings {
     table: 4_096,
     streams: Some(100),
     window: 65_535,
@@ -89,7 +89,7 @@ fn push_word(
     alloc: Global,
     bytes: &mut Vec<u8>,
     word: &str,
-    announced: &Announced,
+    announced: &ServerSettings,
 ) -> Result<(), WireFault> {
     if let Some(amount) = word.strip_prefix("size:") {
         return push_size(bytes, announced.amount(amount)?);

@@ -5,16 +5,16 @@ ghost use Rattle.std.specs.Prelude.{◌≡◌, false, IfOk, IsTrue};
 ghost use Rattle.std.specs.List.{All, Any};
 ghost use Rattle.wire.specs.Reactions.{IsLawful, IsUnlawful, was_shut};
 
-use crate::announced::{Announced, Need};
 use crate::case::Case;
 use crate::content::{Reading, push_size};
 use crate::fault::WireFault;
 use crate::frame::{DATA, END_HEADERS, HEADERS, PADDED, PRIORITY, RST_STREAM};
-use crate::reaction::{Lawful, Reaction};
-use crate::seen::Seen;
+use crate::reaction::{LawfulReaction, Reaction};
+use crate::seen_frames::SeenFrames;
 use crate::server::{Pace, Server};
-use crate::step::{OwnFrame, Step, opening_of, read_script};
-use crate::talk::{Heard, MANY_FRAMES, Talk};
+use crate::server_settings::{Need, ServerSettings};
+use crate::step::{OwnFrame, WireStep, opening_of, read_script};
+use crate::talk::{MANY_FRAMES, Talk, WaitEnd};
 use h2frame::MAX_PAYLOAD;
 use std::alloc::Global;
 
@@ -38,7 +38,7 @@ const PRIORITY_LEN: usize = 5;
 
 /// Why a case can't be tried on a server.
 #[derive(Clone, Copy, Debug, PartialEq, Eq)]
-pub enum Unfit {
+pub enum UnfitReason {
     /// The server's SETTINGS aren't what it rests on.
     Setting(Need),
     /// The server's windows have no room for this many bytes of DATA.
@@ -47,19 +47,19 @@ pub enum Unfit {
 
 /// What came of a try.
 #[derive(Clone, Copy, Debug, PartialEq, Eq)]
-pub enum Judgment {
+pub enum TryOutcome {
     Passed,
     Failed,
-    Unfit(Unfit),
+    Unfit(UnfitReason),
 }
 
 /// A try of a case.
 #[derive(Drop)]
 pub struct Try {
-    pub judgment: Judgment,
+    pub judgment: TryOutcome,
     /// What was read for it: the lawful reactions.
-    pub lawful: Vec<Lawful>,
-    pub seen: Seen,
+    pub lawful: Vec<LawfulReaction>,
+    pub seen: SeenFrames,
     /// All that was written to the server, the preface too.
     pub sent: Vec<u8>,
 }
@@ -78,32 +78,32 @@ pub fn try_case<V: Server>(
     is_control: bool,
 ) -> Result<Try, WireFault> {
     let mut reading = Reading {
-        announced: Announced::FIRST,
+        announced: ServerSettings::FIRST,
         is_control,
     };
     let mut script = read_script(alloc, case.script, &reading)?;
-    let is_bare = matches!(script.steps.as_slice().first(), Some(Step::Bare));
+    let is_bare = matches!(script.steps.as_slice().first(), Some(WireStep::Bare));
     let mut talk = open(alloc, server, pace, is_bare)?;
     if !is_bare {
         reading.announced = talk.seen.announced;
         script = read_script(alloc, case.script, &reading)?;
     }
     let unfit = match script.unmet {
-        Some(need) => Some(Unfit::Setting(need)),
+        Some(need) => Some(UnfitReason::Setting(need)),
         None => take_all(alloc, &mut talk, script.steps.as_slice(), &reading)?,
     };
     let judgment = match unfit {
-        Some(unfit) => Judgment::Unfit(unfit),
+        Some(unfit) => TryOutcome::Unfit(unfit),
         None => {
             let passed = judge(&mut talk, script.lawful.as_slice())?;
             if passed && (is_bare || talk.seen.greeted) {
-                Judgment::Passed
+                TryOutcome::Passed
             } else {
                 failure_of(alloc, case, &talk.seen, is_control)?
             }
         }
     };
-    if judgment == Judgment::Failed && !is_control {
+    if judgment == TryOutcome::Failed && !is_control {
         talk.tell_fault(script.lawful.as_slice())?;
     }
     if is_bare && talk.seen.was_shut() {
@@ -148,17 +148,17 @@ fn open<'a, V: Server>(
 fn failure_of(
     alloc: Global,
     case: Case,
-    seen: &Seen,
+    seen: &SeenFrames,
     is_control: bool,
-) -> Result<Judgment, WireFault> {
+) -> Result<TryOutcome, WireFault> {
     let reading = Reading {
         announced: seen.announced,
         is_control,
     };
     let script = read_script(alloc, case.script, &reading)?;
     Ok(match script.unmet {
-        Some(need) => Judgment::Unfit(Unfit::Setting(need)),
-        None => Judgment::Failed,
+        Some(need) => TryOutcome::Unfit(UnfitReason::Setting(need)),
+        None => TryOutcome::Failed,
     })
 }
 
@@ -166,9 +166,9 @@ fn failure_of(
 fn take_all<V: Server>(
     alloc: Global,
     talk: &mut Talk<'_, V>,
-    steps: &[Step],
+    steps: &[WireStep],
     reading: &Reading,
-) -> Result<Option<Unfit>, WireFault> {
+) -> Result<Option<UnfitReason>, WireFault> {
     for step in steps {
         let unfit = take(alloc, talk, step, reading)?;
         if unfit.is_some() || talk.seen.endless {
@@ -182,28 +182,28 @@ fn take_all<V: Server>(
 fn take<V: Server>(
     alloc: Global,
     talk: &mut Talk<'_, V>,
-    step: &Step,
+    step: &WireStep,
     reading: &Reading,
-) -> Result<Option<Unfit>, WireFault> {
+) -> Result<Option<UnfitReason>, WireFault> {
     match step {
-        Step::Bare => {}
-        Step::Write(bytes) => talk.say(bytes.as_slice())?,
-        Step::Drip(bytes) => drip(talk, bytes.as_slice())?,
-        Step::Frame(frame) => return write_frame(alloc, talk, frame),
-        Step::Await(reaction) => wait_for(talk, reaction)?,
-        Step::Quiet => wait_for_quiet(talk)?,
-        Step::Sync => sync(talk)?,
-        Step::Upload {
+        WireStep::Bare => {}
+        WireStep::Write(bytes) => talk.say(bytes.as_slice())?,
+        WireStep::Drip(bytes) => drip(talk, bytes.as_slice())?,
+        WireStep::Frame(frame) => return write_frame(alloc, talk, frame),
+        WireStep::Await(reaction) => wait_for(talk, reaction)?,
+        WireStep::Quiet => wait_for_quiet(talk)?,
+        WireStep::Sync => sync(talk)?,
+        WireStep::Upload {
             stream,
             count,
             padded,
         } => upload(alloc, talk, *stream, *count, *padded)?,
-        Step::Crowd(method) => {
+        WireStep::Crowd(method) => {
             let count = reading.announced.amount("streams+1")?;
             open_many(alloc, talk, count, method, reading)?;
         }
-        Step::Many { count, method } => open_many(alloc, talk, *count, method, reading)?,
-        Step::Cancel(count) => cancel_many(talk, *count)?,
+        WireStep::Many { count, method } => open_many(alloc, talk, *count, method, reading)?,
+        WireStep::Cancel(count) => cancel_many(talk, *count)?,
     }
     Ok(None)
 }
@@ -224,7 +224,7 @@ fn write_frame<V: Server>(
     alloc: Global,
     talk: &mut Talk<'_, V>,
     frame: &OwnFrame,
-) -> Result<Option<Unfit>, WireFault> {
+) -> Result<Option<UnfitReason>, WireFault> {
     let payload = frame.payload.as_slice();
     if frame.kind == HEADERS {
         let payload = with_table_size(alloc, talk, frame)?;
@@ -242,11 +242,11 @@ fn write_frame<V: Server>(
             return Ok(None);
         }
         let until = talk.silence()?;
-        if talk.hear(until)? != Heard::Frame {
+        if talk.hear(until)? != WaitEnd::Frame {
             break;
         }
     }
-    Ok(Some(Unfit::Window(count)))
+    Ok(Some(UnfitReason::Window(count)))
 }
 
 /// The payload of HEADERS. Where the server's table is smaller than tables are at first, its first
@@ -258,7 +258,7 @@ fn with_table_size<V: Server>(
 ) -> Result<Vec<u8>, WireFault> {
     let payload = frame.payload.as_slice();
     let table = talk.seen.announced.table;
-    if talk.has_told_table || table >= Announced::FIRST.table {
+    if talk.has_told_table || table >= ServerSettings::FIRST.table {
         return Ok(Vec::from_slice(alloc, payload)?);
     }
     talk.has_told_table = true;
@@ -283,12 +283,12 @@ fn wait_for<V: Server>(talk: &mut Talk<'_, V>, reaction: &Reaction) -> Result<()
         }
         let until = talk.silence()?;
         match talk.hear(until)? {
-            Heard::Frame => {}
-            Heard::Silence => {
+            WaitEnd::Frame => {}
+            WaitEnd::Silence => {
                 talk.was_silent = true;
                 return Ok(());
             }
-            Heard::Closed => return Ok(()),
+            WaitEnd::Closed => return Ok(()),
         }
     }
     Ok(())
@@ -300,7 +300,7 @@ fn wait_for_quiet<V: Server>(talk: &mut Talk<'_, V>) -> Result<(), WireFault> {
     let begun = talk.now()?;
     for _ in 0..MANY_FRAMES {
         let until = talk.moment(begun)?;
-        if talk.hear(until)? != Heard::Frame {
+        if talk.hear(until)? != WaitEnd::Frame {
             return Ok(());
         }
     }
@@ -312,7 +312,7 @@ fn sync<V: Server>(talk: &mut Talk<'_, V>) -> Result<(), WireFault> {
     talk.ask()?;
     for _ in 0..MANY_FRAMES {
         let until = talk.silence()?;
-        if talk.has_passed() || talk.hear(until)? != Heard::Frame {
+        if talk.has_passed() || talk.hear(until)? != WaitEnd::Frame {
             return Ok(());
         }
     }
@@ -377,7 +377,7 @@ fn upload<V: Server>(
             rest -= size;
         } else {
             let until = talk.silence()?;
-            if talk.hear(until)? != Heard::Frame {
+            if talk.hear(until)? != WaitEnd::Frame {
                 return Ok(());
             }
         }
@@ -388,7 +388,7 @@ fn upload<V: Server>(
 /// Waits for a lawful reaction, and answers whether there was one. Once the server has read all
 /// that was said, only an answer of a call is waited for until nothing comes, unless that was
 /// waited for already; what a server does by itself comes within a moment.
-fn judge<V: Server>(talk: &mut Talk<'_, V>, lawful: &[Lawful]) -> Result<bool, WireFault>
+fn judge<V: Server>(talk: &mut Talk<'_, V>, lawful: &[LawfulReaction]) -> Result<bool, WireFault>
     ensures passed { IfOk result
         (λ passed. IsTrue passed → Any (IsLawful talk.new.seen) lawful.now) }
     ensures failed { IfOk result
@@ -410,7 +410,7 @@ fn judge<V: Server>(talk: &mut Talk<'_, V>, lawful: &[Lawful]) -> Result<bool, W
         } else {
             talk.moment(begun)?
         };
-        if talk.hear(until)? != Heard::Frame {
+        if talk.hear(until)? != WaitEnd::Frame {
             break;
         }
     }

@@ -6,14 +6,13 @@
 //! one and answers what came of it; `every_case` has all, and `text_of` the lines that are printed
 //! of one; `list` prints what there is.
 //!
-//! Read `group` and `case` for what a case is; `announced` for what it takes from the server's
-//! SETTINGS; `content`, `frame` and `step` for what is sent; `reaction` and `seen` for what comes
-//! back and how it is judged; `server` and `talk` for the connection, `engine` for one try and
-//! `run` for one case; `verdict`, `outcome`, `report` and `every` for all of them.
+//! Read `group` and `case` for what a case is; `server_settings` for what it takes from the
+//! server's SETTINGS; `content`, `frame` and `step` for what is sent; `reaction` and `seen_frames`
+//! for what comes back and how it is judged; `server` and `talk` for the connection, `engine` for
+//! one try and `run` for one case; `verdict`, `outcome`, `report` and `every` for all of them.
 //! `specs/Verdicts.antt` says which verdict tries lead to.
 #![tactic(auto)]
 
-mod announced;
 mod case;
 mod content;
 mod engine;
@@ -26,8 +25,9 @@ mod reaction;
 mod report;
 mod rows;
 mod run;
-mod seen;
+mod seen_frames;
 mod server;
+mod server_settings;
 mod step;
 mod stream_seen;
 mod talk;
@@ -37,7 +37,7 @@ pub use case::Case;
 pub use every::{every_case, list};
 pub use fault::WireFault;
 pub use group::Group;
-pub use outcome::{Ended, lost_outcome};
+pub use outcome::{CaseOutcome, lost_outcome};
 pub use report::{lost_text, text_of};
 pub use run::run_case;
 pub use server::{Pace, Server};

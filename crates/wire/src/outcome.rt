@@ -6,7 +6,7 @@ use std::alloc::{AllocError, Global};
 
 /// A case that was run.
 #[derive(Drop)]
-pub struct Ended {
+pub struct CaseOutcome {
     pub case: Case,
     pub outcome: Outcome,
     /// Whether the server still answers. This is tried if the case failed.

@@ -135,7 +135,7 @@ pub enum Reaction {
 
 /// A way in which a case is passed.
 #[derive(Drop)]
-pub struct Lawful {
+pub struct LawfulReaction {
     /// What has to hold, all of it.
     pub all: Vec<Reaction>,
 }
@@ -145,12 +145,12 @@ pub fn read_lawful(
     alloc: Global,
     text: &'static str,
     reading: &Reading,
-) -> Result<Lawful, WireFault> {
+) -> Result<LawfulReaction, WireFault> {
     let mut all = Vec::new(alloc);
     for part in text.split(" and ") {
         all.push(read_reaction(alloc, part.trim(), reading)?)?;
     }
-    Ok(Lawful { all })
+    Ok(LawfulReaction { all })
 }
 
 /// The first word of a text, and what follows the blank.

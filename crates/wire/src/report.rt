@@ -1,9 +1,9 @@
 //! The lines that are printed.
 
 use crate::case::Case;
-use crate::outcome::Ended;
-use crate::reaction::{Lawful, Reaction, push_codes};
-use crate::seen::{Seen, SeenFrame, stream_of};
+use crate::outcome::CaseOutcome;
+use crate::reaction::{LawfulReaction, Reaction, push_codes};
+use crate::seen_frames::{SeenFrame, SeenFrames, stream_of};
 use h2frame::FrameKind;
 use results::{Outcome, Verdict};
 use std::alloc::{AllocError, Global};
@@ -23,7 +23,7 @@ pub fn push_entry(text: &mut String, case: &Case) -> Result<(), AllocError> {
 
 /// The lines that are printed of a case that was run, and one more if the server answers no more.
 /// If `is_verbose`, they also have its section, what was written and what was read.
-pub fn text_of(alloc: Global, ended: &Ended, is_verbose: bool) -> Result<String, AllocError> {
+pub fn text_of(alloc: Global, ended: &CaseOutcome, is_verbose: bool) -> Result<String, AllocError> {
     let mut text = String::new(alloc);
     push_line(&mut text, &ended.outcome)?;
     if is_verbose {
@@ -108,8 +108,8 @@ fn push_rule(text: &mut String, outcome: &Outcome) -> Result<(), AllocError> {
 
 /// Adds what `--verbose` says of a case: its section, what came, what was written and which frames
 /// were read.
-fn push_details(text: &mut String, ended: &Ended) -> Result<(), AllocError> {
-    let Ended { case, outcome, .. } = ended;
+fn push_details(text: &mut String, ended: &CaseOutcome) -> Result<(), AllocError> {
+    let CaseOutcome { case, outcome, .. } = ended;
     let rule = case.section;
     let level = case.level.name();
     let milliseconds = outcome.milliseconds;
@@ -180,7 +180,7 @@ pub fn kind_name(kind: FrameKind) -> &'static str {
 }
 
 /// Adds the ways to pass, in words.
-pub fn push_ways(text: &mut String, ways: &[Lawful]) -> Result<(), AllocError> {
+pub fn push_ways(text: &mut String, ways: &[LawfulReaction]) -> Result<(), AllocError> {
     for (place, lawful) in ways.iter().enumerate() {
         if place > 0 {
             text.push_str(" or ")?;
@@ -191,14 +191,18 @@ pub fn push_ways(text: &mut String, ways: &[Lawful]) -> Result<(), AllocError> {
 }
 
 /// Adds what was wanted, and what came.
-pub fn push_difference(text: &mut String, ways: &[Lawful], seen: &Seen) -> Result<(), AllocError> {
+pub fn push_difference(
+    text: &mut String,
+    ways: &[LawfulReaction],
+    seen: &SeenFrames,
+) -> Result<(), AllocError> {
     text.push_str("wanted ")?;
     push_ways(text, ways)?;
     text.push_str(", came ")?;
     seen.describe(text)
 }
 
-impl Lawful {
+impl LawfulReaction {
     /// Adds its reactions, in words. Where all are of stream 1, it isn't named.
     pub fn describe(&self, text: &mut String) -> Result<(), AllocError> {
         let is_first = self

@@ -2,11 +2,11 @@
 //! tried twice more.
 
 use crate::case::Case;
-use crate::engine::{Judgment, Try, Unfit, try_case};
+use crate::engine::{Try, TryOutcome, UnfitReason, try_case};
 use crate::fault::WireFault;
-use crate::outcome::{Ended, outcome_of};
+use crate::outcome::{CaseOutcome, outcome_of};
 use crate::report::{push_difference, push_frame_line, push_ways};
-use crate::seen::SeenFrame;
+use crate::seen_frames::SeenFrame;
 use crate::server::{Pace, Server};
 use crate::step::{has_control, rounds_of};
 use crate::talk::Talk;
@@ -33,7 +33,7 @@ pub fn run_case<V: Server>(
     case: Case,
     pace: Pace,
     server: &V,
-) -> Result<Ended, WireFault> {
+) -> Result<CaseOutcome, WireFault> {
     let begun = server.now().ok_or(WireFault::ClockFailed)?;
     let mut outcome = match unfit_of_control(alloc, case, pace, server)? {
         Some(outcome) => outcome,
@@ -41,7 +41,7 @@ pub fn run_case<V: Server>(
     };
     outcome.milliseconds = spent(server, begun)?;
     let is_alive = outcome.verdict != Verdict::Failed || is_alive(alloc, pace, server)?;
-    Ok(Ended {
+    Ok(CaseOutcome {
         case,
         outcome,
         is_alive,
@@ -67,9 +67,9 @@ fn unfit_of_control<V: Server>(
     }
     let tried = try_case(alloc, case, pace, server, true)?;
     match tried.judgment {
-        Judgment::Passed => Ok(None),
-        Judgment::Unfit(unfit) => Ok(Some(unfit_outcome(alloc, case, unfit, tried)?)),
-        Judgment::Failed => {
+        TryOutcome::Passed => Ok(None),
+        TryOutcome::Unfit(unfit) => Ok(Some(unfit_outcome(alloc, case, unfit, tried)?)),
+        TryOutcome::Failed => {
             let mut reason = String::from_str(alloc, "without its fault: ")?;
             push_difference(&mut reason, tried.lawful.as_slice(), &tried.seen)?;
             Ok(Some(not_applicable(alloc, case, reason, tried)?))
@@ -92,10 +92,10 @@ fn find<V: Server>(
     let mut first: Option<Try> = None;
     for _ in 0..tries_of(case.level) {
         let tried = try_rounds(alloc, case, pace, server, begun)?;
-        if let Judgment::Unfit(unfit) = tried.judgment {
+        if let TryOutcome::Unfit(unfit) = tried.judgment {
             return unfit_outcome(alloc, case, unfit, tried);
         }
-        let has_passed = tried.judgment == Judgment::Passed;
+        let has_passed = tried.judgment == TryOutcome::Passed;
         if tries > 0 && tried.seen.endless && !has_passed {
             break;
         }
@@ -129,7 +129,7 @@ fn try_rounds<V: Server>(
     for _ in 1..rounds_of(case.script)? {
         let left = pace.after(spent(server, begun)?);
         let tried = try_case(alloc, case, left, server, false)?;
-        if tried.judgment != Judgment::Passed {
+        if tried.judgment != TryOutcome::Passed {
             return Ok(tried);
         }
     }
@@ -140,7 +140,7 @@ fn try_rounds<V: Server>(
 /// Whether the try that is reported failed.
 fn has_failed(first: &Option<Try>) -> bool {
     match first {
-        Some(tried) => tried.judgment == Judgment::Failed,
+        Some(tried) => tried.judgment == TryOutcome::Failed,
         None => false,
     }
 }
@@ -183,12 +183,12 @@ fn note(alloc: Global, outcome: &mut Outcome, tried: Try) -> Result<(), AllocErr
 fn unfit_outcome(
     alloc: Global,
     case: Case,
-    unfit: Unfit,
+    unfit: UnfitReason,
     tried: Try,
 ) -> Result<Outcome, WireFault> {
     let reason = match unfit {
-        Unfit::Setting(need) => need.describe(alloc, &tried.seen.announced)?,
-        Unfit::Window(count) => {
+        UnfitReason::Setting(need) => need.describe(alloc, &tried.seen.announced)?,
+        UnfitReason::Window(count) => {
             format!(in alloc; "the server's windows have no room for {count} bytes of DATA")?
         }
     };

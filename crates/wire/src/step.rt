@@ -25,8 +25,8 @@
 //! - `rounds N`: a try goes over N connections, one after another, and fails at the first over
 //!   which the case does. It is for what a server does only sometimes.
 //! - `needs NAME at least N`, `needs NAME at most N`: if the server's setting of this name
-//!   (`announced`) isn't so, the case is not applicable. A setting that wasn't announced has its
-//!   initial value; without one it counts as at least any number, and as at most none.
+//!   (`server_settings`) isn't so, the case is not applicable. A setting that wasn't announced has
+//!   its initial value; without one it counts as at least any number, and as at most none.
 //! - `control REACTION and REACTION ..`: the case is first tried without its fault, over a
 //!   connection of its own: lines and words that begin with `!` are left out (`content`), and those
 //!   that begin with `~` stand there alone. Where these reactions don't all come then, the case is
@@ -40,17 +40,17 @@
 //! DATA is written once the server's windows have room for it. Where they have none, the case is
 //! not applicable. All that is written between two waits leaves in one write.
 
-use crate::announced::Need;
 use crate::content::{Reading, read_content};
 use crate::fault::WireFault;
 use crate::frame::{DATA, END_HEADERS, END_STREAM, HEADERS, PREFACE, kind_named};
 use crate::reaction::{
-    Lawful, Reaction, first_word, read_count, read_lawful, read_reaction, read_stream,
+    LawfulReaction, Reaction, first_word, read_count, read_lawful, read_reaction, read_stream,
 };
+use crate::server_settings::Need;
 use std::alloc::Global;
 
 #[derive(Drop)]
-pub enum Step {
+pub enum WireStep {
     Bare,
     Write(Vec<u8>),
     Drip(Vec<u8>),
@@ -83,9 +83,9 @@ pub struct OwnFrame {
 /// What a case does, and which reactions are lawful.
 #[derive(Drop)]
 pub struct Script {
-    pub steps: Vec<Step>,
+    pub steps: Vec<WireStep>,
     /// The ways to pass; where it is tried without its fault, what has to come then.
-    pub lawful: Vec<Lawful>,
+    pub lawful: Vec<LawfulReaction>,
     /// What the case needs of the server's SETTINGS and they don't have. Nothing more is read then.
     pub unmet: Option<Need>,
 }
@@ -146,7 +146,7 @@ pub fn read_script(
 /// Adds the steps of a line.
 fn push_steps(
     alloc: Global,
-    steps: &mut Vec<Step>,
+    steps: &mut Vec<WireStep>,
     word: &'static str,
     rest: &'static str,
     reading: &Reading,
@@ -169,31 +169,31 @@ fn read_step(
     word: &'static str,
     rest: &'static str,
     reading: &Reading,
-) -> Result<Step, WireFault> {
+) -> Result<WireStep, WireFault> {
     match word {
-        "bare" => Ok(Step::Bare),
-        "sync" => Ok(Step::Sync),
-        "quiet" => Ok(Step::Quiet),
-        "raw" => Ok(Step::Write(read_content(alloc, rest, reading)?)),
-        "drip" => Ok(Step::Drip(read_content(alloc, rest, reading)?)),
-        "preface" => Ok(Step::Write(Vec::from_slice(alloc, PREFACE)?)),
-        "await" => Ok(Step::Await(read_reaction(alloc, rest, reading)?)),
-        "crowd" => Ok(Step::Crowd(rest)),
+        "bare" => Ok(WireStep::Bare),
+        "sync" => Ok(WireStep::Sync),
+        "quiet" => Ok(WireStep::Quiet),
+        "raw" => Ok(WireStep::Write(read_content(alloc, rest, reading)?)),
+        "drip" => Ok(WireStep::Drip(read_content(alloc, rest, reading)?)),
+        "preface" => Ok(WireStep::Write(Vec::from_slice(alloc, PREFACE)?)),
+        "await" => Ok(WireStep::Await(read_reaction(alloc, rest, reading)?)),
+        "crowd" => Ok(WireStep::Crowd(rest)),
         "many" | "several" => {
             let (count, method) = first_word(rest);
             let count = reading.announced.amount(count)?;
-            Ok(Step::Many { count, method })
+            Ok(WireStep::Many { count, method })
         }
-        "cancel" => Ok(Step::Cancel(reading.announced.amount(rest)?)),
+        "cancel" => Ok(WireStep::Cancel(reading.announced.amount(rest)?)),
         "upload" | "padded" => {
             let (stream, count) = first_word(rest);
-            Ok(Step::Upload {
+            Ok(WireStep::Upload {
                 stream: read_stream(stream)?,
                 count: reading.announced.amount(count)?,
                 padded: word == "padded",
             })
         }
-        _ => Ok(Step::Frame(frame_of(alloc, word, rest, reading)?)),
+        _ => Ok(WireStep::Frame(frame_of(alloc, word, rest, reading)?)),
     }
 }
 
@@ -234,15 +234,15 @@ pub fn opening_of(
 /// Adds a call of a method with this DATA.
 fn push_call(
     alloc: Global,
-    steps: &mut Vec<Step>,
+    steps: &mut Vec<WireStep>,
     method: &str,
     stream: &str,
     data: &str,
     reading: &Reading,
 ) -> Result<(), WireFault> {
     let stream = read_stream(stream)?;
-    steps.push(Step::Frame(opening_of(alloc, method, stream, reading)?))?;
-    steps.push(Step::Frame(OwnFrame {
+    steps.push(WireStep::Frame(opening_of(alloc, method, stream, reading)?))?;
+    steps.push(WireStep::Frame(OwnFrame {
         kind: DATA,
         flags: END_STREAM,
         stream,

@@ -12,9 +12,9 @@ use crate::frame::{
     ACK, CONTINUATION, DATA, END_HEADERS, HEADERS, PING, PREFACE, PUSH_PROMISE, SETTINGS,
     push_frame,
 };
-use crate::reaction::Lawful;
+use crate::reaction::LawfulReaction;
 use crate::report::push_difference;
-use crate::seen::Seen;
+use crate::seen_frames::SeenFrames;
 use crate::server::{Pace, Server};
 use crate::stream_seen::StreamSeen;
 use h2frame::{
@@ -42,7 +42,7 @@ const NO_PUSH: [u8; 6] = [0, 2, 0, 0, 0, 0];
 
 /// What a wait ended with.
 #[derive(Clone, Copy, Debug, PartialEq, Eq)]
-pub enum Heard {
+pub enum WaitEnd {
     Frame,
     /// Nothing came in time.
     Silence,
@@ -79,7 +79,7 @@ pub struct Talk<'a, V: Server> {
     begun: u64,
     reader: FrameReader,
     decoder: Decoder,
-    pub seen: Seen,
+    pub seen: SeenFrames,
     /// All that was to be sent. `written` is how many of its bytes were written.
     pub sent: Vec<u8>,
     written: usize,
@@ -116,7 +116,7 @@ impl<'a, V: Server> Talk<'a, V> {
             begun: server.now().ok_or(WireFault::ClockFailed)?,
             reader: FrameReader::new(alloc),
             decoder: Decoder::new(alloc),
-            seen: Seen::new(alloc),
+            seen: SeenFrames::new(alloc),
             sent: Vec::new(alloc),
             written: 0,
             mute: false,
@@ -157,7 +157,7 @@ impl<'a, V: Server> Talk<'a, V> {
     }
 
     /// Has the recording of the connection say that none of the lawful reactions came.
-    pub fn tell_fault(&self, lawful: &[Lawful]) -> Result<(), AllocError> {
+    pub fn tell_fault(&self, lawful: &[LawfulReaction]) -> Result<(), AllocError> {
         let mut text = String::new(self.alloc);
         push_difference(&mut text, lawful, &self.seen)?;
         self.server.fault(&self.socket, text.as_str());
@@ -170,7 +170,7 @@ impl<'a, V: Server> Talk<'a, V> {
         self.say_frame(SETTINGS, 0, 0, &NO_PUSH)?;
         for _ in 0..MANY_FRAMES {
             let until = self.silence()?;
-            if self.seen.greeted || self.hear(until)? != Heard::Frame {
+            if self.seen.greeted || self.hear(until)? != WaitEnd::Frame {
                 return Ok(());
             }
         }
@@ -261,21 +261,21 @@ impl<'a, V: Server> Talk<'a, V> {
     }
 
     /// Writes what was said, waits for a frame until then, and notes what it brings.
-    pub fn hear(&mut self, until: u64) -> Result<Heard, WireFault> {
+    pub fn hear(&mut self, until: u64) -> Result<WaitEnd, WireFault> {
         self.flush();
         if self.heard >= MANY_FRAMES {
             self.seen.endless = true;
-            return Ok(Heard::Silence);
+            return Ok(WaitEnd::Silence);
         }
         match self.next(until)? {
             Next::Frame(frame) => {
                 self.heard = self.heard.saturating_add(1);
                 self.was_silent = false;
                 self.take(frame)?;
-                Ok(Heard::Frame)
+                Ok(WaitEnd::Frame)
             }
-            Next::Silence => Ok(Heard::Silence),
-            Next::Closed => Ok(Heard::Closed),
+            Next::Silence => Ok(WaitEnd::Silence),
+            Next::Closed => Ok(WaitEnd::Closed),
         }
     }
 
@@ -295,25 +295,25 @@ impl<'a, V: Server> Talk<'a, V> {
                 None => {}
             }
             match self.read(until)? {
-                Heard::Frame => {}
-                Heard::Silence => return Ok(Next::Silence),
-                Heard::Closed => return Ok(Next::Closed),
+                WaitEnd::Frame => {}
+                WaitEnd::Silence => return Ok(Next::Silence),
+                WaitEnd::Closed => return Ok(Next::Closed),
             }
         }
         Ok(Next::Silence)
     }
 
     /// Reads what there is, or comes until then. A connection whose time is up is read no more.
-    fn read(&mut self, until: u64) -> Result<Heard, WireFault> {
+    fn read(&mut self, until: u64) -> Result<WaitEnd, WireFault> {
         let now = self.now()?;
         let limit = self.pace.limit;
         if now >= limit {
             self.seen.endless = true;
-            return Ok(Heard::Silence);
+            return Ok(WaitEnd::Silence);
         }
         let patience = until.min(limit).saturating_sub(now);
         if patience == 0 {
-            return Ok(Heard::Silence);
+            return Ok(WaitEnd::Silence);
         }
         // A connection on which no time can be set is broken, and a read reports that.
         let _set = self
@@ -323,7 +323,7 @@ impl<'a, V: Server> Talk<'a, V> {
     }
 
     /// Reads what there is, or comes in the time that is set.
-    fn read_now(&mut self) -> Result<Heard, WireFault> {
+    fn read_now(&mut self) -> Result<WaitEnd, WireFault> {
         let mut piece = [0u8; 16384];
         match self.socket.read(&mut piece) {
             Ok(0) => self.seen.closed = true,
@@ -332,21 +332,21 @@ impl<'a, V: Server> Talk<'a, V> {
                 if !self.seen.any_frame && piece.starts_with(b"HTTP/1") {
                     self.seen.text = true;
                     self.seen.closed = true;
-                    return Ok(Heard::Closed);
+                    return Ok(WaitEnd::Closed);
                 }
                 if self.reader.feed(piece).is_err() {
                     self.give_up("what is no frame");
-                    return Ok(Heard::Closed);
+                    return Ok(WaitEnd::Closed);
                 }
-                return Ok(Heard::Frame);
+                return Ok(WaitEnd::Frame);
             }
             Err(error) => match error.kind() {
-                ErrorKind::Interrupted => return Ok(Heard::Frame),
-                ErrorKind::WouldBlock | ErrorKind::TimedOut => return Ok(Heard::Silence),
+                ErrorKind::Interrupted => return Ok(WaitEnd::Frame),
+                ErrorKind::WouldBlock | ErrorKind::TimedOut => return Ok(WaitEnd::Silence),
                 _ => self.seen.closed = true,
             },
         }
-        Ok(Heard::Closed)
+        Ok(WaitEnd::Closed)
     }
 
     /// Notes what no server may do. Nothing is read any more.

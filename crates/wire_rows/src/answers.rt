@@ -8,10 +8,10 @@ use crate::text::{bytes_of, push_fields};
 use anyhow::{Context, Result, bail};
 use callhead::{Texts, Values, response_fields, status_fields, trailers_only, unknown_method};
 use lists::{Field, Octets};
-use rows::{Given, number};
+use rows::{GivenRow, number};
 use std::alloc::Global;
 
-pub fn answer(alloc: Global, given: Given<'_>, answer: &mut String) -> Result<()> {
+pub fn answer(alloc: Global, given: GivenRow<'_>, answer: &mut String) -> Result<()> {
     let (word, said) = given.text.split_once(' ').unwrap_or((given.text, ""));
     let fields = match word {
         "begin" => begin(alloc, said)?,

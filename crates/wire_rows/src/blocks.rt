@@ -5,7 +5,7 @@
 use crate::text::{fields_of, push_bytes, push_fields};
 use anyhow::{Context, Result, bail, ensure};
 use hpack_codec::{Decoder, Encoder, HpackFault};
-use rows::{Given, number};
+use rows::{GivenRow, number};
 use std::alloc::Global;
 
 /// `:method: GET` by its index, a block that each decoder reads.
@@ -80,7 +80,7 @@ pub fn read(
     alloc: Global,
     decoder: &mut Decoder,
     blocks: &mut Vec<Vec<u8>>,
-    given: Given<'_>,
+    given: GivenRow<'_>,
     answer: &mut String,
 ) -> Result<()> {
     if given.text == "table" {
@@ -94,7 +94,7 @@ pub fn read(
 }
 
 /// A block on a decoder of its own, which has to be dead after its fault.
-pub fn refused(alloc: Global, given: Given<'_>, answer: &mut String) -> Result<()> {
+pub fn refused(alloc: Global, given: GivenRow<'_>, answer: &mut String) -> Result<()> {
     let mut decoder = Decoder::new(alloc);
     let block = block_of(alloc, given.words)?;
     push_read(alloc, &mut decoder, block.as_slice(), given.wanted, answer)?;
@@ -109,7 +109,7 @@ pub fn written(
     alloc: Global,
     encoder: &mut Encoder,
     decoder: &mut Decoder,
-    given: Given<'_>,
+    given: GivenRow<'_>,
     answer: &mut String,
 ) -> Result<()> {
     if let ["limit", limit] = given.words {

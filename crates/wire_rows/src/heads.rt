@@ -5,7 +5,7 @@ use crate::text::{fields_of, push_bytes};
 use anyhow::Result;
 use callhead::{CallHead, Encoding, HeadFault};
 use lists::Field;
-use rows::Given;
+use rows::GivenRow;
 use std::alloc::Global;
 
 /// Fields, and what the head of a call says that they are; or `plain = FIELDS`, which sets what a
@@ -13,7 +13,7 @@ use std::alloc::Global;
 pub fn read(
     alloc: Global,
     plain: &mut Vec<Field>,
-    given: Given<'_>,
+    given: GivenRow<'_>,
     answer: &mut String,
 ) -> Result<()> {
     if let Some(fields) = given.text.strip_prefix("plain = ") {

@@ -5,7 +5,7 @@ use anyhow::{Result, bail};
 use flow::{Book, Halves, SendWindows};
 use hpack_codec::{Decoder, Encoder};
 use lists::Field;
-use rows::{Given, Subject};
+use rows::{GivenRow, Subject};
 use std::alloc::Global;
 
 /// The rows of a file about frames, each of which stands alone.
@@ -17,7 +17,7 @@ pub struct OfFrames {
 impl Subject for OfFrames {
     fn restart(&mut self, _alloc: Global) {}
 
-    fn answer(&mut self, alloc: Global, given: Given<'_>, answer: &mut String) -> Result<()> {
+    fn answer(&mut self, alloc: Global, given: GivenRow<'_>, answer: &mut String) -> Result<()> {
         match self.file {
             "frames.rows" => frames::whole(alloc, given.text, answer),
             "faults.rows" => frames::first_bytes(alloc, given.text, answer),
@@ -55,7 +55,7 @@ impl Subject for OfFlow {
         *self = OfFlow::new(alloc, self.file);
     }
 
-    fn answer(&mut self, alloc: Global, given: Given<'_>, answer: &mut String) -> Result<()> {
+    fn answer(&mut self, alloc: Global, given: GivenRow<'_>, answer: &mut String) -> Result<()> {
         match self.file {
             "verdicts.rows" => verdicts::table(alloc, given.text, answer),
             "streams.rows" => verdicts::streams(&mut self.halves, given.words, answer),
@@ -95,7 +95,7 @@ impl Subject for OfHeaders {
         *self = OfHeaders::new(alloc, self.file);
     }
 
-    fn answer(&mut self, alloc: Global, given: Given<'_>, answer: &mut String) -> Result<()> {
+    fn answer(&mut self, alloc: Global, given: GivenRow<'_>, answer: &mut String) -> Result<()> {
         match self.file {
             "blocks-standard.rows" | "blocks-clients.rows" | "blocks-limits.rows" => {
                 blocks::read(alloc, &mut self.decoder, &mut self.blocks, given, answer)

@@ -4,7 +4,7 @@ use crate::answers::{text_of, values_of};
 use crate::text::{bytes_of, push_bytes};
 use anyhow::{Result, ensure};
 use callhead::{bin_value, percent_text, read_bin_values, read_percent_text, read_timeout};
-use rows::Given;
+use rows::GivenRow;
 use std::alloc::Global;
 
 /// A value of `grpc-timeout`, and its nanoseconds, or `none`.
@@ -18,7 +18,7 @@ pub fn timeout(alloc: Global, given: &str, answer: &mut String) -> Result<()> {
 
 /// `write TEXT`, and the value of `grpc-message`, which has to be read again as that text;
 /// `read VALUE`, and its text.
-pub fn status_text(alloc: Global, given: Given<'_>, answer: &mut String) -> Result<()> {
+pub fn status_text(alloc: Global, given: GivenRow<'_>, answer: &mut String) -> Result<()> {
     let (word, said) = given.text.split_once(' ').unwrap_or((given.text, ""));
     if word == "read" {
         let text = read_percent_text(alloc, bytes_of(alloc, said.trim())?.as_slice())?;
@@ -34,7 +34,7 @@ pub fn status_text(alloc: Global, given: Given<'_>, answer: &mut String) -> Resu
 
 /// `write BYTES`, and the value of a `-bin` field; `read VALUE`, and the values that it carries,
 /// with `|` after each, or `none`.
-pub fn binary(alloc: Global, given: Given<'_>, answer: &mut String) -> Result<()> {
+pub fn binary(alloc: Global, given: GivenRow<'_>, answer: &mut String) -> Result<()> {
     let (word, said) = given.text.split_once(' ').unwrap_or((given.text, ""));
     let bytes = bytes_of(alloc, said.trim())?;
     if word == "write" {

@@ -6,7 +6,7 @@ ghost use Rattle.std.specs.Prelude.{◌≡◌, ◌<◌, IfOk};
 ghost use Rattle.flow.specs.Halves.{IsJudged};
 
 use anyhow::{Context, Result, bail, ensure};
-use flow::{HalfVerdict, Halves};
+use flow::{FrameAction, Halves};
 use h2frame::{ErrorCode, Flags, FrameHead, FrameKind, StreamId};
 use rows::number;
 use std::alloc::Global;
@@ -46,26 +46,26 @@ fn head_of(frame: &str, stream: StreamId) -> Result<FrameHead>
 }
 
 /// The word of the files for a verdict.
-fn name_of(verdict: HalfVerdict) -> &'static str {
+fn name_of(verdict: FrameAction) -> &'static str {
     match verdict {
-        HalfVerdict::Open => "open",
-        HalfVerdict::Accept => "accept",
-        HalfVerdict::Discard => "discard",
-        HalfVerdict::ConnectionError(ErrorCode::ProtocolError) => "unlawful",
-        HalfVerdict::StreamError(ErrorCode::ProtocolError) => "bad-trailers",
-        HalfVerdict::StreamError(ErrorCode::StreamClosed) => "closed",
-        HalfVerdict::ConnectionError(_) => "another connection error",
-        HalfVerdict::StreamError(_) => "another stream error",
+        FrameAction::Open => "open",
+        FrameAction::Accept => "accept",
+        FrameAction::Discard => "discard",
+        FrameAction::ConnectionError(ErrorCode::ProtocolError) => "unlawful",
+        FrameAction::StreamError(ErrorCode::ProtocolError) => "bad-trailers",
+        FrameAction::StreamError(ErrorCode::StreamClosed) => "closed",
+        FrameAction::ConnectionError(_) => "another connection error",
+        FrameAction::StreamError(_) => "another stream error",
     }
 }
 
 /// Judges a frame, upon which the server may reset its stream.
-fn judge(halves: &mut Halves, frame: &str, stream: StreamId, resets: bool) -> Result<HalfVerdict> {
+fn judge(halves: &mut Halves, frame: &str, stream: StreamId, resets: bool) -> Result<FrameAction> {
     ensure!(stream > 0, "frames of stream 0 aren't judged");
     let verdict = halves.on(&head_of(frame, stream)?)?;
     if resets {
         match verdict {
-            HalfVerdict::Discard | HalfVerdict::ConnectionError(_) => {
+            FrameAction::Discard | FrameAction::ConnectionError(_) => {
                 bail!("stream {stream} can't be reset")
             }
             _ => halves.cut(stream),
@@ -76,7 +76,7 @@ fn judge(halves: &mut Halves, frame: &str, stream: StreamId, resets: bool) -> Re
 
 /// Takes a step of a connection: a frame on a stream, which the server may reset upon it, or on
 /// each stream from one to another in steps of two, which all have one verdict.
-fn step(halves: &mut Halves, words: &[&str]) -> Result<HalfVerdict> {
+fn step(halves: &mut Halves, words: &[&str]) -> Result<FrameAction> {
     let [frame, first, rest @ ..] = words else {
         bail!("that is no step");
     };
@@ -98,7 +98,7 @@ fn step(halves: &mut Halves, words: &[&str]) -> Result<HalfVerdict> {
 }
 
 /// The verdict on a frame after steps, which are listed with commas.
-fn verdict_after(alloc: Global, steps: &str, frame: &str, stream: StreamId) -> Result<HalfVerdict> {
+fn verdict_after(alloc: Global, steps: &str, frame: &str, stream: StreamId) -> Result<FrameAction> {
     let mut halves = Halves::new(alloc);
     for text in steps.split(',') {
         let words: Vec<&str> = text.split_whitespace().collect(alloc)?;

@@ -156,8 +156,8 @@ pub record Run : Type 0 where
   pub streams : Option ℕ
   pub patience : ℕ
   pub soak : Soak
-  pub tracing : tracing.Told
-  pub reporting : reporting.Told
+  pub tracing : tracing.TracePlaces
+  pub reporting : reporting.OutcomeReport
 
 pub data Trial : Type 0 where
   list : Trial
@@ -214,7 +214,7 @@ soak_of rows =
     (amount_of (codes "soak_iterations") rows)
 
 -- how the cases that these words choose are run and reported
-abbrev pub run_of : List Text → reporting.Told → List Row → Option Run
+abbrev pub run_of : List Text → reporting.OutcomeReport → List Row → Option Run
 run_of names told rows =
     option_and_then (λ host. option_and_then (λ port. option_and_then (λ times.
     option_and_then (λ patience.

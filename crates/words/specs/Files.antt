@@ -11,17 +11,17 @@ with_files app =
     with_rule (with_rule app (text_option (codes "port-file"))) (text_option (codes "ready-file"))
 
 -- the files that a server writes once it listens
-pub record Told : Type 0 where
+pub record ReadyFiles : Type 0 where
   pub port : Option Text
   pub ready : Option Text
 
-abbrev pub files : Files → Told
+abbrev pub files : Files → ReadyFiles
 files words = record {
   port = option_map (λ file. file.now) words.port;
   ready = option_map (λ file. file.now) words.ready;
 }
 
-abbrev pub files_of : List Row → Told
+abbrev pub files_of : List Row → ReadyFiles
 files_of rows = record {
   port = text_of (codes "port-file") rows;
   ready = text_of (codes "ready-file") rows;

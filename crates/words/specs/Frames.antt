@@ -30,12 +30,12 @@ frames_command =
     (flag (codes "full"))
 
 -- which bytes' frames are printed, and how
-pub record Told : Type 0 where
+pub record PrintedFrames : Type 0 where
   pub files : List Text
   pub side : Option Side
   pub is_full : Bool
 
-abbrev pub frames : FramesWords → Told
+abbrev pub frames : FramesWords → PrintedFrames
 frames words = record {
   files = map (λ file. file.now) words.files.items;
   side = words.side;
@@ -60,7 +60,7 @@ few (one ∷ []) = Some (one ∷ [])
 few (one ∷ other ∷ []) = Some (one ∷ other ∷ [])
 few (one ∷ other ∷ third ∷ files) = None
 
-abbrev pub frames_of : List Row → Option Told
+abbrev pub frames_of : List Row → Option PrintedFrames
 frames_of rows = option_and_then (λ side. option_map (λ files. record {
   files = files;
   side = side;

@@ -63,9 +63,9 @@ pub record Run : Type 0 where
   pub host : Text
   pub port : ℕ
   pub seconds : ℕ
-  pub files : files.Told
-  pub tracing : tracing.Told
-  pub reporting : reporting.Told
+  pub files : files.ReadyFiles
+  pub tracing : tracing.TracePlaces
+  pub reporting : reporting.OutcomeReport
 
 -- such a server, or whether more than names is listed
 pub data Misbehaving : Type 0 where
@@ -88,7 +88,7 @@ misbehaving (words.List is_verbose) = list is_verbose
 misbehaving (words.Play told) = play (run_told told)
 
 -- how a server misbehaves in the ways that these words choose, and how that is reported
-abbrev pub run_of : List Text → reporting.Told → List Row → Option Run
+abbrev pub run_of : List Text → reporting.OutcomeReport → List Row → Option Run
 run_of names told rows =
     option_and_then
     (λ host. option_and_then (λ port. option_and_then (λ seconds. option_map (λ traced. record {

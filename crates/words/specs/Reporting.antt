@@ -66,7 +66,7 @@ with_reporting app =
     (flag (codes "fail-fast"))
 
 -- how outcomes are reported, and which cases are left out
-pub record Told : Type 0 where
+pub record OutcomeReport : Type 0 where
   pub json : Option Text
   pub junit : Option Text
   pub has_tap : Bool
@@ -78,7 +78,7 @@ pub record Told : Type 0 where
   pub repeat : ℕ
   pub fails_fast : Bool
 
-abbrev pub reporting : Reporting → Told
+abbrev pub reporting : Reporting → OutcomeReport
 reporting words = record {
   json = option_map (λ file. file.now) words.json;
   junit = option_map (λ file. file.now) words.junit;
@@ -109,7 +109,7 @@ wants_output_twice rows =
     option_map_or (λ file. has_flag (codes "tap") rows && bytes_eq file (codes "-"))
     (text_of (codes "json") rows) false
 
-abbrev pub reporting_of : List Row → Option Told
+abbrev pub reporting_of : List Row → Option OutcomeReport
 reporting_of rows =
     option_and_then
     (λ level. option_and_then (λ repeat. if wants_output_twice rows then None else Some (record {

@@ -86,8 +86,8 @@ pub record Serving : Type 0 where
   pub time : Option TimeForm
   pub drains_on_eof : Bool
   pub patience : ℕ
-  pub files : files.Told
-  pub tracing : tracing.Told
+  pub files : files.ReadyFiles
+  pub tracing : tracing.TracePlaces
   pub record_in : Option Text
 
 abbrev pub serving : ServeWords → Serving

@@ -40,12 +40,12 @@ with_tracing app =
     (text_option (codes "pcap"))
 
 -- the places to which what passes on connections is written
-pub record Told : Type 0 where
+pub record TracePlaces : Type 0 where
   pub form : Option TraceForm
   pub lines : Option Text
   pub capture : Option Text
 
-abbrev pub tracing : Tracing → Told
+abbrev pub tracing : Tracing → TracePlaces
 tracing words = record {
   form = words.form;
   lines = option_map (λ file. file.now) words.lines;
@@ -71,7 +71,7 @@ trace_by None None = Some None
 abbrev pub trace_of : List Row → Option (Option TraceForm)
 trace_of rows = trace_by (text_of (codes "trace") rows) (text_of (codes "trace-file") rows)
 
-abbrev pub tracing_of : List Row → Option Told
+abbrev pub tracing_of : List Row → Option TracePlaces
 tracing_of rows = option_map (λ form. record {
   form = form;
   lines = text_of (codes "trace-file") rows;

@@ -72,12 +72,12 @@ pub record Run : Type 0 where
   pub limit : ℕ
   pub jobs : ℕ
   pub is_verbose : Bool
-  pub tracing : tracing.Told
-  pub reporting : reporting.Told
+  pub tracing : tracing.TracePlaces
+  pub reporting : reporting.OutcomeReport
 
-pub data Told : Type 0 where
-  list : Told
-  run : Run → Told
+pub data WireMeaning : Type 0 where
+  list : WireMeaning
+  run : Run → WireMeaning
 
 abbrev pub run_told : WireRun → Run
 run_told words = record {
@@ -92,12 +92,12 @@ run_told words = record {
   reporting = reporting.reporting words.reporting;
 }
 
-abbrev pub told : WireWords → Told
+abbrev pub told : WireWords → WireMeaning
 told wire_words.List = list
 told (wire_words.Run words) = run (run_told words)
 
 -- how the cases that these words choose are run and reported
-abbrev pub run_of : List Text → reporting.Told → List Row → Option Run
+abbrev pub run_of : List Text → reporting.OutcomeReport → List Row → Option Run
 run_of names told rows =
     option_and_then (λ port. option_and_then (λ host. option_and_then (λ silence.
     option_and_then (λ limit. option_and_then (λ jobs. option_map (λ traced. record {
@@ -118,7 +118,7 @@ run_of names told rows =
     (number_of (codes "port") 65535 rows)
 
 -- cases are listed or run, and not both
-abbrev pub told_of : List Row → Option Told
+abbrev pub told_of : List Row → Option WireMeaning
 told_of rows =
     if has_flag (codes "list") rows then then_some (is_none (text_of (codes "CASES") rows)) list
     else option_and_then (λ names.

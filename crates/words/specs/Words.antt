@@ -34,7 +34,7 @@ use Rattle.words.specs.Misbehave.{
 }
 use Rattle.words.specs.OwnServer.{own_command, own_port_of}
 use Rattle.words.specs.Serve.{Serving, IsServing, serve_command, serving, serving_of}
-use Rattle.words.specs.Wire.{Told, told, told_of, wire_command}
+use Rattle.words.specs.Wire.{WireMeaning, told, told_of, wire_command}
 use Rattle.words.specs.Wire as wire
 use Rattle.words.specs.declared.read.Words.{Words}
 use Rattle.words.specs.declared.read.Words.TheVariants as words
@@ -74,8 +74,8 @@ pub data Meaning : Type 0 where
   try_itself : ℕ → Meaning
   drain : ℕ → Meaning
   misbehave : Misbehaving → Meaning
-  try_wire : Told → Meaning
-  tell_frames : frames.Told → Meaning
+  try_wire : WireMeaning → Meaning
+  tell_frames : frames.PrintedFrames → Meaning
 
 abbrev pub meaning : Words → Meaning
 meaning (words.Body cut) = print_body cut

@@ -26,7 +26,7 @@ use Rattle.words.specs.declared.serve.LogForm.TheVariants.{Json, Text as Plain}
 use Rattle.words.specs.declared.serve.Port.TheVariants.{Any, Number}
 
 -- nothing is said of results
-abbrev pub no_reporting : reporting.Told
+abbrev pub no_reporting : reporting.OutcomeReport
 no_reporting = record {
   json = None;
   junit = None;
@@ -41,11 +41,11 @@ no_reporting = record {
 }
 
 -- no file is named
-abbrev pub no_files : files.Told
+abbrev pub no_files : files.ReadyFiles
 no_files = record { port = None; ready = None }
 
 -- nothing of what passes is written
-abbrev pub no_tracing : tracing.Told
+abbrev pub no_tracing : tracing.TracePlaces
 no_tracing = record { form = None; lines = None; capture = None }
 
 pub no_words : meaning_of [] ≡ Some (print_body 3)

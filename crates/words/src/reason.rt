@@ -56,6 +56,11 @@ pub enum Reason<'a> {
         command: &'a str,
         what: &'static str,
     },
+    /// It takes no more than this.
+    TooMany {
+        command: &'a str,
+        what: &'static str,
+    },
     /// These exclude each other.
     Excluding {
         both: &'static str,
@@ -138,6 +143,7 @@ impl<'a> fmt::Display for Reason<'a> {
                 "{other} and {option} are the same option"
             ),
             Reason::Missing { command, what } => write!(f, "{command} needs {what}"),
+            Reason::TooMany { command, what } => write!(f, "{command} takes {what}"),
             Reason::Excluding { both } => write!(f, "{both} exclude each other"),
         }
     }
@@ -158,7 +164,7 @@ pub(crate) fn reason_of<'a>(alloc: Global, words: &'a [String]) -> Result<Reason
 
 /// Why the words after a command are not those that it takes.
 fn reason_behind<'a>(name: &'a str, command: &Command<'a>, words: &'a [String]) -> Reason<'a> {
-    let mut waiting: Option<Given<'_, 'a>> = None;
+    let mut waiting: Option<GivenOption<'_, 'a>> = None;
     let has_place = command
         .get_arguments()
         .iter()
@@ -198,12 +204,12 @@ fn reason_behind<'a>(name: &'a str, command: &Command<'a>, words: &'a [String]) 
 
 /// An option that was given, as it was written.
 #[derive(Clone, Copy)]
-struct Given<'c, 'a> {
+struct GivenOption<'c, 'a> {
     option: &'a str,
     arg: &'c Arg<'a>,
 }
 
-impl<'c, 'a> Given<'c, 'a> {
+impl<'c, 'a> GivenOption<'c, 'a> {
     /// Whether it needs no value.
     fn may_be_bare(self) -> bool {
         match self.arg.get_num_args() {
@@ -283,7 +289,7 @@ fn given_by<'c, 'a>(
     command: &'c Command<'a>,
     before: &'a [String],
     word: &'a str,
-) -> Result<Option<Given<'c, 'a>>, Reason<'a>> {
+) -> Result<Option<GivenOption<'c, 'a>>, Reason<'a>> {
     let (option, value) = parts_of(word);
     let Some(arg) = arg_of(name, command, option) else {
         return Err(Reason::NoOption {
@@ -298,7 +304,7 @@ fn given_by<'c, 'a>(
     if let (Some(other), false) = (known, is_repeatable) {
         return Err(Reason::Repeated { option, other });
     }
-    let given = Given { option, arg };
+    let given = GivenOption { option, arg };
     let is_flag = matches!(arg.get_action(), ArgAction::SetTrue);
     match value {
         None if is_flag => Ok(None),
@@ -316,6 +322,10 @@ fn given_by<'c, 'a>(
 fn reason_of_whole<'a>(command: &'a str, words: &[String], is_placed: bool) -> Reason<'a> {
     match excluding(command, words, is_placed) {
         Some(both) => Reason::Excluding { both },
+        None if command == "frames" => Reason::TooMany {
+            command,
+            what: "two files at most",
+        },
         None => Reason::Missing {
             command,
             what: missing(command, words, is_placed),
@@ -349,7 +359,6 @@ fn missing(command: &str, words: &[String], is_placed: bool) -> &'static str {
         "misbehave" => "NAME.., or --list",
         "serve" => "--port P or --any-port",
         "wire" => "all, GROUP, GROUP/N or GROUP/N-M, or --list",
-        "frames" => "two files at most",
         _ => takes(command),
     }
 }

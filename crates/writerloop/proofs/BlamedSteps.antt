@@ -1,7 +1,7 @@
 -- What each step of a connection's writer does to the windows that would be too large.
 use Rattle.std.proofs.Common.{◌≡◌, ◌∙◌, ℕ, List, [], ◌∷◌, ◌++◌, ap, append_assoc, refl, sym}
-use Rattle.outwriter.specs.declared.control.Control.{Control}
-use Rattle.outwriter.specs.declared.control.Control.TheVariants as control
+use Rattle.outwriter.specs.declared.control.WriterOrder.{WriterOrder}
+use Rattle.outwriter.specs.declared.control.WriterOrder.TheVariants as control
 use Rattle.outwriter.specs.declared.control.OutFault.TheVariants.{PeerWindow}
 use Rattle.outwriter.specs.RunState.{Blames, Concerns}
 use Rattle.outwriter.specs.Steps.{Step, Taken, order_of}
@@ -23,7 +23,7 @@ overflow-later id steps run over = record {
 
 module _ {S : Type 0} where
   -- by an order that was taken
-  pub overflow-now : (one : Control S) (id : ℕ) (run : List Step) → Concerns (PeerWindow id) one
+  pub overflow-now : (one : WriterOrder S) (id : ℕ) (run : List Step) → Concerns (PeerWindow id) one
       → Blames (PeerWindow id) one run → WouldOverflow id (Taken (order_of one) ∷ run)
   overflow-now (control.Settings settings) id run concerns blames =
       record {

@@ -37,13 +37,13 @@ use Rattle.std.proofs.Math.Seq.{map-set_same}
 use Rattle.lane.specs.RingLane.{LaneName, got, out_name}
 use Rattle.outwriter.specs.Cores.{calls, lanes}
 use Rattle.outwriter.specs.Releases.{HasNoneBelow, Releases}
-use Rattle.callparts.specs.declared.order.Returning.{Returning}
-use Rattle.callparts.specs.declared.order.Sending.{Sending}
+use Rattle.callparts.specs.declared.order.ReturningCall.{ReturningCall}
+use Rattle.callparts.specs.declared.order.SendingEnd.{SendingEnd}
 use Rattle.callparts.specs.declared.register.CallNumber.{CallNumber}
 use Rattle.callparts.specs.declared.register.Naming.{Ghosts}
 use Rattle.callparts.specs.Lanes.{OutSender}
 use Rattle.callparts.specs.Numbers.{IsOfLane, out_lane_at}
-use Rattle.writerloop.specs.declared.sends.Sent.{Sent}
+use Rattle.writerloop.specs.declared.sends.SendingCall.{SendingCall}
 use Rattle.writerloop.specs.Sent as places
 use Rattle.writerloop.specs.Sent.{
   Adds,
@@ -104,14 +104,14 @@ keys-lanes core cores same =
     ∙ sym (by-lanes core))
 
 module _ {J : Type 0} {naming : Ghosts J} where
-  abbrev pub key : Sent J naming → ℕ × Option LaneName
+  abbrev pub key : SendingCall J naming → ℕ × Option LaneName
   key call = (call.id, lane_of call.sending.value)
 
-  abbrev pub number : Sent J naming → CallNumber J naming × ℕ
+  abbrev pub number : SendingCall J naming → CallNumber J naming × ℕ
   number call = numbered call.id call.sending.value
 
   -- and one of the calls
-  pub from-keys : (id : ℕ) (lane : Option LaneName) (sent : List (Sent J naming))
+  pub from-keys : (id : ℕ) (lane : Option LaneName) (sent : List (SendingCall J naming))
       → Contains (keys sent) (id, lane)
       → (n : CallNumber J naming) × Contains (numbers sent) (n, id)
   from-keys id lane [] (k, within, at) = absurd (omega (arith, within))
@@ -123,14 +123,15 @@ module _ {J : Type 0} {naming : Ghosts J} where
       let rest = from-keys id lane sent (k, omega (arith, within), at) in
       (rest.0, (suc rest.1.0, omega (arith, rest.1.1), rest.1.2))
 
-  pub same-length : (sent : List (Sent J naming)) (core : List (ℕ × OutSender))
+  pub same-length : (sent : List (SendingCall J naming)) (core : List (ℕ × OutSender))
       → keys sent ≡ core_keys core → length sent ≡ length core
   same-length sent core aligned =
       sym (length-map sent key)
       ∙ (ap (λ (all : List (ℕ × Option LaneName)). length all) aligned ∙ length-map core key-of)
 
   -- what stands at a place
-  same-key : (sent : List (Sent J naming)) (core : List (ℕ × OutSender)) (k : ℕ) (d : Sent J naming)
+  same-key : (sent : List (SendingCall J naming)) (core : List (ℕ × OutSender)) (k : ℕ)
+      (d : SendingCall J naming)
       (e : ℕ × OutSender)
       → keys sent ≡ core_keys core → k < length core
       → key (get_or sent k d) ≡ key-of (get_or core k e)
@@ -140,7 +141,7 @@ module _ {J : Type 0} {naming : Ghosts J} where
       ∙ get_or-map key-of core k e (key d) within)
 
   -- the first call of a stream is that of the sender that a core gives back
-  pub first-of : (id : ℕ) (sender : OutSender) (sent : List (Sent J naming))
+  pub first-of : (id : ℕ) (sender : OutSender) (sent : List (SendingCall J naming))
       (core cores : List (ℕ × OutSender))
       → keys sent ≡ core_keys core → Releases id sender core cores → IsFirstOf id sender sent
   first-of id sender sent core cores aligned releases = (
@@ -157,14 +158,15 @@ module _ {J : Type 0} {naming : Ghosts J} where
         ∙ is),
   )
     where
-      there : (d : Sent J naming) → key (get_or sent releases.0 d) ≡ (id, Some (out_name sender.rx))
+      there : (d : SendingCall J naming)
+          → key (get_or sent releases.0 d) ≡ (id, Some (out_name sender.rx))
       there d =
           same-key sent core releases.0 d (id, sender) aligned releases.1
           ∙ ap key-of (sym releases.2)
 
-  one-place : (id : ℕ) (sent : List (Sent J naming)) (a b : ℕ) → IsAt id a sent
+  one-place : (id : ℕ) (sent : List (SendingCall J naming)) (a b : ℕ) → IsAt id a sent
       → places.HasNoneBelow a id sent → IsAt id b sent → places.HasNoneBelow b id sent
-      → (d : Sent J naming) → a ≡ b
+      → (d : SendingCall J naming) → a ≡ b
   one-place id sent a b at_a below_a at_b below_b d = by (cases_order a b)
     where
       by : (a ≡ b) ⊎ ((a < b) ⊎ (b < a)) → a ≡ b
@@ -173,8 +175,8 @@ module _ {J : Type 0} {naming : Ghosts J} where
       by (inr (inr more)) = absurd (below_a b d more at_b.0 (at_b.1 d))
 
   -- they stand beside one another again once both have lost the first of a stream
-  pub aligned-out : (id : ℕ) (sender : OutSender) (sent after : List (Sent J naming))
-      (core cores : List (ℕ × OutSender)) (from to : List (Returning J naming))
+  pub aligned-out : (id : ℕ) (sender : OutSender) (sent after : List (SendingCall J naming))
+      (core cores : List (ℕ × OutSender)) (from to : List (ReturningCall J naming))
       → keys sent ≡ core_keys core
       → HandsHome id sender sent after from to → Releases id sender core cores
       → keys after ≡ core_keys cores
@@ -190,7 +192,7 @@ module _ {J : Type 0} {naming : Ghosts J} where
       ∙ (ap (λ n. key (get_or sent n hands.call)) place
       ∙ (same-key sent core releases.0 hands.call (id, sender) aligned releases.1
       ∙ ap key-of (sym releases.2))) in
-      ap (λ (all : List (Sent J naming)). keys all) hands.rest
+      ap (λ (all : List (SendingCall J naming)). keys all) hands.rest
       ∙ (map-removed key sent hands.place hands.call some
       ∙ (ap (λ n. swap_remove (keys sent) n (key hands.call)) place
       ∙ (ap (λ (all : List (ℕ × Option LaneName)).
@@ -200,49 +202,52 @@ module _ {J : Type 0} {naming : Ghosts J} where
       ∙ ap (λ (all : List (ℕ × OutSender)). core_keys all) (sym releases.3))))))
 
   -- a sender is handed back from there
-  pub hands-of : (id : ℕ) (sender : OutSender) (calls sent after : List (Sent J naming))
-      (put from to : List (Returning J naming))
+  pub hands-of : (id : ℕ) (sender : OutSender) (calls sent after : List (SendingCall J naming))
+      (put from to : List (ReturningCall J naming))
       → calls ≡ sent → put ≡ from → HandsHome id sender calls after put to
       → HandsHome id sender sent after from to
   hands-of id sender calls sent after put from to same way hands =
-      subst (λ (all : List (Sent J naming)). HandsHome id sender all after from to) same (subst
-      (λ (all : List (Returning J naming)). HandsHome id sender calls after all to) way hands)
+      subst (λ (all : List (SendingCall J naming)).
+      HandsHome id sender all after from to) same (subst
+      (λ (all : List (ReturningCall J naming)). HandsHome id sender calls after all to) way hands)
 
   -- a call stands behind the others
-  pub adds-pushed : (id : ℕ) (sending : Sending J naming) (call : Sent J naming)
-      (old new : List (Sent J naming))
+  pub adds-pushed : (id : ℕ) (sending : SendingEnd J naming) (call : SendingCall J naming)
+      (old new : List (SendingCall J naming))
       → call.id ≡ id → call.sending.value ≡ sending → new ≡ old ++ call ∷ []
       → Adds id sending old new
   adds-pushed id sending call old new same_id same_sending is = record {
     keys =
-        ap (λ (all : List (Sent J naming)). map key all) is
+        ap (λ (all : List (SendingCall J naming)). map key all) is
         ∙ (map-append key old (call ∷ [])
         ∙ (ap (λ n. map key old ++ (n, lane_of call.sending.value) ∷ []) same_id
         ∙ ap (λ one. map key old ++ (id, lane_of one) ∷ []) same_sending));
     numbers =
-        ap (λ (all : List (Sent J naming)). numbers all) is
+        ap (λ (all : List (SendingCall J naming)). numbers all) is
         ∙ (map-append number old (call ∷ [])
         ∙ (ap (λ n. map number old ++ numbered n call.sending.value ∷ []) same_id
         ∙ ap (λ one. map number old ++ numbered id one ∷ []) same_sending));
   }
 
   -- without its sender it is the same call
-  pub adds-from : (id : ℕ) (sending taken : Sending J naming) (old mid new : List (Sent J naming))
+  pub adds-from : (id : ℕ) (sending taken : SendingEnd J naming)
+      (old mid new : List (SendingCall J naming))
       → mid ≡ old → taken.number ≡ sending.number → Adds id taken mid new → Adds id sending old new
   adds-from id sending taken old mid new same number adds = record {
     keys =
         adds.keys
-        ∙ (ap (λ (all : List (Sent J naming)). keys all ++ (id, lane_of taken) ∷ []) same
+        ∙ (ap (λ (all : List (SendingCall J naming)). keys all ++ (id, lane_of taken) ∷ []) same
         ∙ ap (λ (n : CallNumber J naming). keys old ++ (id, out_lane_at n.seen.log n.value) ∷ [])
         number);
     numbers =
         adds.numbers
-        ∙ (ap (λ (all : List (Sent J naming)). numbers all ++ numbered id taken ∷ []) same
+        ∙ (ap (λ (all : List (SendingCall J naming)). numbers all ++ numbered id taken ∷ []) same
         ∙ ap (λ (n : CallNumber J naming). numbers old ++ (n, id) ∷ []) number);
   }
 
   -- of a call something is noted
-  pub same-noted : (calls : List (Sent J naming)) (place : ℕ) (call noted : Sent J naming)
+  pub same-noted : (calls : List (SendingCall J naming)) (place : ℕ)
+      (call noted : SendingCall J naming)
       → call ≡ get_or calls place call → noted.id ≡ call.id
       → noted.sending.value ≡ call.sending.value → SameCalls calls (set calls place noted)
   same-noted calls place call noted is same_id same_sending = record {
@@ -255,21 +260,22 @@ module _ {J : Type 0} {naming : Ghosts J} where
   }
 
   -- a call that is there is found
-  pub missing-first : (id : ℕ) (sender : OutSender) (calls : List (Sent J naming))
+  pub missing-first : (id : ℕ) (sender : OutSender) (calls : List (SendingCall J naming))
       → IsFirstOf id sender calls → HasNone id calls → ⊥
   missing-first id sender [] first none = omega (arith, first.1.0)
   missing-first id sender (call ∷ calls) first none = none first.0 call first.1.0 (first.1.1 call)
 
   -- the lane of a call whose sender is in its box is the sender's
-  pub lane-there : (sending : Sending J naming) (sender : OutSender) → sending.sender ≡ Some sender
+  pub lane-there : (sending : SendingEnd J naming) (sender : OutSender)
+      → sending.sender ≡ Some sender
       → lane_of sending ≡ Some (out_name sender.rx)
   lane-there sending sender is =
       subst (λ (one : Option OutSender).
       IsOfLane (lane_of sending) (option_map (λ s. out_name s.rx) one)) is sending.out_lane
 
   -- they stand beside one another still, once a call and its sender stand behind the others
-  pub aligned-more : (id : ℕ) (sending : Sending J naming) (sender : OutSender)
-      (old new : List (Sent J naming)) (core cores : List (ℕ × OutSender))
+  pub aligned-more : (id : ℕ) (sending : SendingEnd J naming) (sender : OutSender)
+      (old new : List (SendingCall J naming)) (core cores : List (ℕ × OutSender))
       → keys old ≡ core_keys core → Adds id sending old new
       → cores ≡ core ++ (id, sender) ∷ [] → lane_of sending ≡ Some (out_name sender.rx)
       → keys new ≡ core_keys cores

@@ -34,15 +34,15 @@ use Rattle.h2frame.specs.declared.error_code.ErrorCode.{ErrorCode}
 use Rattle.h2frame.specs.declared.error_code.ErrorCode.TheVariants.{FlowControlError}
 use Rattle.lane.specs.Ring.{put_in, taken}
 use Rattle.lane.specs.RingLane.{got}
-use Rattle.outwriter.specs.declared.control.Control.{Control}
-use Rattle.outwriter.specs.declared.control.Control.TheVariants as control
+use Rattle.outwriter.specs.declared.control.WriterOrder.{WriterOrder}
+use Rattle.outwriter.specs.declared.control.WriterOrder.TheVariants as control
 use Rattle.outwriter.specs.Calls.{TellFronts, TellOthers, TellReturned, is_fresh, is_served}
 use Rattle.outwriter.specs.Cores.{calls}
 use Rattle.outwriter.specs.Drains.{has_failed}
 use Rattle.outwriter.specs.Runs.{is_opened, opens_stream}
 use Rattle.outwriter.specs.Steps.{Order, Step, Taken, Granted, Returned, Written, frames_of}
-use Rattle.callparts.specs.declared.order.Opening.{Opening}
-use Rattle.callparts.specs.declared.order.Returning.{Returning}
+use Rattle.callparts.specs.declared.order.OpeningCall.{OpeningCall}
+use Rattle.callparts.specs.declared.order.ReturningCall.{ReturningCall}
 use Rattle.callparts.specs.declared.register.Naming.{Ghosts}
 use Rattle.device.specs.declared.conn.ConnWrite.{Ghosts as ConnGhosts}
 use Rattle.callparts.specs.declared.report.Ending.{Ending}
@@ -50,7 +50,7 @@ use Rattle.callparts.specs.declared.report.Ending.TheVariants as ending
 use Rattle.callparts.specs.Lanes.{OutSender}
 use Rattle.writerloop.specs.declared.sends.Sends.{Sends}
 use Rattle.writerloop.specs.declared.standing.Standing.TheVariants as stands
-use Rattle.writerloop.specs.declared.writing.Senders.{Senders}
+use Rattle.writerloop.specs.declared.senders.Senders.{Senders}
 use Rattle.writerloop.specs.declared.writing.Writing.{Writing}
 use Rattle.writerloop.specs.Blamed.{WouldOverflow, blames_in}
 use Rattle.writerloop.specs.Orders.{Obeys, order_in, orders_of}
@@ -91,8 +91,8 @@ told-back run id (Some sender) tells (inr never) = told-none run id (got sender.
 
 module _ {J : Type 0} {naming : Ghosts J} where
   -- of an order that was set aside
-  told-aside : (given : List (Control (Opening J naming)))
-      (aside : Option (Control (Opening J naming))) (run : List Step)
+  told-aside : (given : List (WriterOrder (OpeningCall J naming)))
+      (aside : Option (WriterOrder (OpeningCall J naming))) (run : List Step)
       → AreApart (given ++ order_in aside) → Obeys true (orders_of given) run
       → All (IsTold run) (map (λ call. (call.1, [])) (opens (order_in aside)))
   told-aside given None run apart obeys = All-nil (IsTold run)
@@ -170,7 +170,8 @@ module _ {J W : Type 0} {naming : Ghosts J} {conn : ConnGhosts W} (contents : W 
       let run : List Step = written.run in
       let are : taken writer.inbox.ring ≡ led.0 ++ order_in rest.aside =
       sym led.1
-      ∙ ap (λ (one : Option (Control (Opening J naming))). led.0 ++ order_in one) (sym aside) in
+      ∙ ap (λ (one : Option (WriterOrder (OpeningCall J naming))).
+      led.0 ++ order_in one) (sym aside) in
       let has : HasAll led.0 run rest.sends.calls.items rest.core.items (put_in rest.sends.home) =
       subst (λ (steps : List Step).
       HasAll led.0 steps rest.sends.calls.items rest.core.items (put_in rest.sends.home)) (sym same)
@@ -195,14 +196,15 @@ module _ {J W : Type 0} {naming : Ghosts J} {conn : ConnGhosts W} (contents : W 
         senders = has;
         told = λ apart.
             let parts : AreApart (led.0 ++ order_in rest.aside) =
-            subst (λ (orders : List (Control (Opening J naming))). AreApart orders) are apart in
+            subst (λ (orders : List (WriterOrder (OpeningCall J naming))).
+            AreApart orders) are apart in
             All-append (IsTold run) (rest_calls rest) (handed_calls has.handed)
             (All-append (IsTold run) (map (λ call. (call.1, [])) (opens (order_in rest.aside)))
             (calls got rest.core.items) (told-aside led.0 rest.aside run parts obeys) tells)
-            (All-map (IsTold run) (λ (one : ℕ × Returning J naming).
+            (All-map (IsTold run) (λ (one : ℕ × ReturningCall J naming).
             (one.0, got_of one.1.sending.value.sender)) has.handed
             (All-weaker
-            (λ (one : ℕ × Returning J naming). IsBack run one.0 one.1.sending.value.sender)
+            (λ (one : ℕ × ReturningCall J naming). IsBack run one.0 one.1.sending.value.sender)
             (λ one. IsTold run (one.0, got_of one.1.sending.value.sender))
             (λ one back. told-back run one.0 one.1.sending.value.sender gives back) has.handed
             (has.back (plain-front led.0 rest.aside parts))));

@@ -6,10 +6,10 @@ use Rattle.std.specs.Coded.{Unit-prop}
 use Rattle.std.specs.Option.{IsSome, option_map}
 use Rattle.account.specs.declared.call.OutItem.{OutItem}
 use Rattle.lane.specs.RingLane.{got, out_name}
-use Rattle.outwriter.specs.declared.control.Control.{Control}
-use Rattle.outwriter.specs.declared.control.Control.TheVariants as control
-use Rattle.callparts.specs.declared.order.Opening.{Opening}
-use Rattle.callparts.specs.declared.order.Sending.{Sending}
+use Rattle.outwriter.specs.declared.control.WriterOrder.{WriterOrder}
+use Rattle.outwriter.specs.declared.control.WriterOrder.TheVariants as control
+use Rattle.callparts.specs.declared.order.OpeningCall.{OpeningCall}
+use Rattle.callparts.specs.declared.order.SendingEnd.{SendingEnd}
 use Rattle.callparts.specs.declared.register.CallNumber.{CallNumber}
 use Rattle.callparts.specs.declared.register.Naming.{Ghosts}
 use Rattle.callparts.specs.Lanes.{OutSender}
@@ -87,7 +87,7 @@ module _ {J : Type 0} {naming : Ghosts J} where
       IsOfLane (out_lane_at number.seen.log number.value) (option_map (λ s. out_name s.rx) sender)
 
   abbrev made : (number : CallNumber J naming) (sender : Option OutSender) → IsLane number sender
-      → Sending J naming
+      → SendingEnd J naming
   made number sender lane = record { number = number; sender = sender; out_lane = lane }
 
   one-made : (number : CallNumber J naming) (sender : Option OutSender)
@@ -112,20 +112,20 @@ module _ {J : Type 0} {naming : Ghosts J} where
       numbers its
 
   -- of one number and with one sender it is the same
-  pub same-sending : (one other : Sending J naming) → one.number ≡ other.number
+  pub same-sending : (one other : SendingEnd J naming) → one.number ≡ other.number
       → one.sender ≡ other.sender → one ≡ other
   same-sending one other number sender =
       same-made one.number other.number one.sender other.sender one.out_lane
       other.out_lane number sender
 
   -- an order that is put together again is the same
-  pub same-opening : (opening : Opening J naming) (sending : Sending J naming)
+  pub same-opening : (opening : OpeningCall J naming) (sending : SendingEnd J naming)
       (fresh : got-by sending.sender ≡ Some [])
       → opening.sending.value ≡ sending
       → opening
       ≡ record opening { sending = record opening.sending { value = sending }; fresh = fresh }
   same-opening opening sending fresh same =
-      path_j (λ (one : Sending J naming) (p : opening.sending.value ≡ one).
+      path_j (λ (one : SendingEnd J naming) (p : opening.sending.value ≡ one).
       (its : got-by one.sender ≡ Some [])
       → opening ≡ record opening { sending = record opening.sending { value = one }; fresh = its })
       (λ its.
@@ -135,7 +135,7 @@ module _ {J : Type 0} {naming : Ghosts J} where
       same fresh
 
   -- the lane of a call is that of its sender still
-  pub lane-again : (sending other : Sending J naming) (sender : OutSender)
+  pub lane-again : (sending other : SendingEnd J naming) (sender : OutSender)
       → other.number ≡ sending.number → sending.sender ≡ Some sender
       → IsLane other.number (Some sender)
   lane-again sending other sender number is =

@@ -35,14 +35,19 @@ use Rattle.lane.specs.Ring.{taken}
 use Rattle.h2frame.specs.declared.error_code.ErrorCode.TheVariants.{FlowControlError, InternalError}
 use Rattle.h2frame.specs.declared.frame.Frame.{Frame}
 use Rattle.account.specs.declared.call.OutItem.{OutItem}
-use Rattle.outwriter.specs.declared.control.Control.{Control}
-use Rattle.outwriter.specs.declared.control.Control.TheVariants as control
+use Rattle.outwriter.specs.declared.control.WriterOrder.{WriterOrder}
+use Rattle.outwriter.specs.declared.control.WriterOrder.TheVariants as control
 use Rattle.outwriter.specs.declared.control.OutFault.TheVariants.{PeerWindow}
 use Rattle.outwriter.specs.RunState.{Blames, Concerns, HasRoom}
 use Rattle.outwriter.specs.Runs.{is_opened, opens_stream}
 use Rattle.outwriter.specs.Steps.{Order, Step, Taken, Granted, Written, Returned, order_of}
-use Rattle.writerloop.specs.declared.taking.Taking.{Taking}
-use Rattle.writerloop.specs.declared.taking.Taking.TheVariants.{Done, Ended, Unanswered, HandedBack}
+use Rattle.writerloop.specs.declared.order_outcome.OrderOutcome.{OrderOutcome}
+use Rattle.writerloop.specs.declared.order_outcome.OrderOutcome.TheVariants.{
+  Done,
+  Ended,
+  Unanswered,
+  HandedBack,
+}
 use Rattle.writerloop.specs.OwnOrders.{Blamed, own_order, parting, steps_of}
 use Rattle.writerloop.specs.declared.inbox.Inbox.{Inbox}
 use Rattle.writerloop.specs.Orders.{
@@ -202,7 +207,8 @@ ends-fit true last id run = tt
 ends-fit false last id run = tt
 
 module _ {S : Type 0} where
-  answer-of : (taken : Control S) (last id : ℕ) (run : List Step) → Concerns (PeerWindow id) taken
+  answer-of : (taken : WriterOrder S) (last id : ℕ) (run : List Step)
+      → Concerns (PeerWindow id) taken
       → Blames (PeerWindow id) taken run
       → IsAnswer (own_order last id) (Taken (order_of taken) ∷ run)
   answer-of (control.Settings settings) last id run concerns blames =
@@ -218,7 +224,8 @@ module _ {S : Type 0} where
   answer-of control.InputEnded last id run concerns blames = absurd concerns
   answer-of control.Close last id run concerns blames = absurd concerns
 
-  room-of : (taken : Control S) (run : List Step) → HasRoom taken run → HasRoom (order_of taken) run
+  room-of : (taken : WriterOrder S) (run : List Step) → HasRoom taken run
+      → HasRoom (order_of taken) run
   room-of (control.Settings settings) run room = room
   room-of (control.Window stream n) run room = room
   room-of (control.Ping bytes) run room = tt
@@ -231,7 +238,7 @@ module _ {S : Type 0} where
   room-of control.Close run room = tt
 
   -- an order that the core was given, where none was lost
-  pub obeys-taking : (taken : Control S) (last : ℕ) (taking : Taking S)
+  pub obeys-taking : (taken : WriterOrder S) (last : ℕ) (taking : OrderOutcome S)
       (orders : List Order) (run : List Step)
       → Blamed taking taken run → Obeys false orders run
       → Obeys (loses_by taking) (orders ++ order_of taken ∷ [])
@@ -266,7 +273,7 @@ module _ {S : Type 0} where
       obeys-more orders (order_of taken ∷ []) run (obeys-lost false orders run obeys)
 
   -- a reset of the writer's own
-  pub obeys-reset : (id last : ℕ) (taking : Taking S) (orders : List Order) (run : List Step)
+  pub obeys-reset : (id last : ℕ) (taking : OrderOutcome S) (orders : List Order) (run : List Step)
       → Blamed taking (control.Reset id InternalError true) run
       → IsAmong (control.Open id tt) orders → list_any ends_input orders ≡ false
       → Obeys false orders run
@@ -280,7 +287,7 @@ module _ {S : Type 0} where
   obeys-reset id last (HandedBack back) orders run blamed among goes_on obeys = obeys
 
   -- a warning of the writer's own
-  pub obeys-warning : (one : Control S) (last : ℕ) (taking : Taking S)
+  pub obeys-warning : (one : WriterOrder S) (last : ℕ) (taking : OrderOutcome S)
       (orders : List Order) (run : List Step)
       → Blamed taking one run → ((id : ℕ) → Concerns (PeerWindow id) one → ⊥)
       → HasRoom (order_of one) run → Warns (order_of one) run → Obeys false orders run
@@ -294,7 +301,7 @@ module _ {S : Type 0} where
   obeys-warning one last (HandedBack back) orders run blamed spares room warns obeys = obeys
 
   -- a GOAWAY of the writer's own
-  pub obeys-parting : (last : ℕ) (taking : Taking S) (orders : List Order) (run : List Step)
+  pub obeys-parting : (last : ℕ) (taking : OrderOutcome S) (orders : List Order) (run : List Step)
       → Blamed taking (control.Goaway last reason.Memory) run → Obeys true orders run
       → Obeys true orders (steps_of (control.Goaway last reason.Memory) last taking ++ run)
   obeys-parting last Done orders run blamed obeys =
@@ -305,7 +312,7 @@ module _ {S : Type 0} where
   obeys-parting last (HandedBack back) orders run blamed obeys = obeys
 
   -- a Close behind orders that were lost
-  pub obeys-closing : (last : ℕ) (taking : Taking S) (orders : List Order) (run : List Step)
+  pub obeys-closing : (last : ℕ) (taking : OrderOutcome S) (orders : List Order) (run : List Step)
       → Blamed taking control.Close run → Obeys true orders run
       → Obeys true (orders ++ control.Close ∷ []) (steps_of control.Close last taking ++ run)
   obeys-closing last Done orders run blamed obeys = record {
@@ -340,19 +347,20 @@ obeys-last-word last lost orders run obeys =
 
 module _ {S : Type 0} where
   -- all that were given, and the next one
-  pub given-all : (given : List (Control S)) (inbox : Inbox S) → HasGiven given inbox
+  pub given-all : (given : List (WriterOrder S)) (inbox : Inbox S) → HasGiven given inbox
       → orders_of (taken inbox.ring) ≡ orders_of given ++ orders_of (order_in inbox.set_aside)
   given-all given inbox has =
-      ap (λ (os : List (Control S)). orders_of os) (sym has)
-      ∙ map-append (λ (one : Control S). order_of one) given (order_in inbox.set_aside)
+      ap (λ (os : List (WriterOrder S)). orders_of os) (sym has)
+      ∙ map-append (λ (one : WriterOrder S). order_of one) given (order_in inbox.set_aside)
 
-  pub given-next : (given : List (Control S)) (next : Control S)
+  pub given-next : (given : List (WriterOrder S)) (next : WriterOrder S)
       → orders_of (given ++ next ∷ []) ≡ orders_of given ++ order_of next ∷ []
-  given-next given next = map-append (λ (one : Control S). order_of one) given (next ∷ [])
+  given-next given next = map-append (λ (one : WriterOrder S). order_of one) given (next ∷ [])
 
   pub all-given : (inbox : Inbox S) → inbox.set_aside ≡ None → taken inbox.ring ≡ []
       → HasGiven [] inbox
-  all-given inbox none empty = ap (λ (aside : Option (Control S)). order_in aside) none ∙ sym empty
+  all-given inbox none empty =
+      ap (λ (aside : Option (WriterOrder S)). order_in aside) none ∙ sym empty
 
 -- an order that opens a call takes its turn
 pub obeys-opening : (id : ℕ) (orders : List Order) (run : List Step) → Obeys false orders run

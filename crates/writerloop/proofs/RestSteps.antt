@@ -30,17 +30,17 @@ use Rattle.account.specs.declared.call.OutItem.{OutItem}
 use Rattle.lane.specs.Lawful.{last_of}
 use Rattle.lane.specs.RingLane.{LaneName, got, out_name}
 use Rattle.lane.proofs.KnownItems.{last_of_push}
-use Rattle.outwriter.specs.declared.control.Control.{Control}
-use Rattle.outwriter.specs.declared.control.Control.TheVariants as control
+use Rattle.outwriter.specs.declared.control.WriterOrder.{WriterOrder}
+use Rattle.outwriter.specs.declared.control.WriterOrder.TheVariants as control
 use Rattle.outwriter.specs.Cores.{calls}
-use Rattle.callparts.specs.declared.order.Opening.{Opening}
-use Rattle.callparts.specs.declared.order.Returning.{Returning}
+use Rattle.callparts.specs.declared.order.OpeningCall.{OpeningCall}
+use Rattle.callparts.specs.declared.order.ReturningCall.{ReturningCall}
 use Rattle.callparts.specs.declared.register.CallNumber.{CallNumber}
 use Rattle.callparts.specs.declared.register.Naming.{Ghosts}
 use Rattle.callparts.specs.Lanes.{OutSender}
 use Rattle.writerloop.specs.declared.sends.Sends.{Sends}
-use Rattle.writerloop.specs.declared.sends.Sent.{Sent}
-use Rattle.writerloop.specs.declared.writing.Senders.{Senders}
+use Rattle.writerloop.specs.declared.sends.SendingCall.{SendingCall}
+use Rattle.writerloop.specs.declared.senders.Senders.{Senders}
 use Rattle.writerloop.specs.Orders.{order_in}
 use Rattle.writerloop.specs.Rest.{HandsOver, rest_calls, rest_numbers}
 use Rattle.writerloop.specs.Sent.{
@@ -87,7 +87,7 @@ none-there one none some = true≢false (sym some ∙ ap is_some none)
 
 module _ {J : Type 0} {naming : Ghosts J} where
   -- the last call is that of the last sender
-  pub last-of : (id : ℕ) (sender : OutSender) (sent : List (Sent J naming))
+  pub last-of : (id : ℕ) (sender : OutSender) (sent : List (SendingCall J naming))
       (core cores : List (ℕ × OutSender))
       → keys sent ≡ core_keys core → core ≡ cores ++ (id, sender) ∷ [] → IsLastOf sender sent
   last-of id sender sent core cores aligned is = (
@@ -99,7 +99,7 @@ module _ {J : Type 0} {naming : Ghosts J} where
   )
 
   -- there is a last call
-  pub some-last : (sender : OutSender) (sent : List (Sent J naming))
+  pub some-last : (sender : OutSender) (sent : List (SendingCall J naming))
       → IsLastOf sender sent → 0 < length sent
   some-last sender sent last =
       omega (
@@ -110,30 +110,31 @@ module _ {J : Type 0} {naming : Ghosts J} where
       )
 
   -- its lane is the sender's
-  pub last-lane : (sender : OutSender) (sent rest : List (Sent J naming)) (call : Sent J naming)
+  pub last-lane : (sender : OutSender) (sent rest : List (SendingCall J naming))
+      (call : SendingCall J naming)
       → IsLastOf sender sent → sent ≡ rest ++ call ∷ []
       → lane_of call.sending.value ≡ Some (out_name sender.rx)
   last-lane sender sent rest call last is =
       ap (λ (one : ℕ × Option LaneName). one.1)
       (same-last (keys rest) last.0 (key call) (last.1, Some (out_name sender.rx))
       (sym (map-append key rest (call ∷ []))
-      ∙ (sym (ap (λ (all : List (Sent J naming)). keys all) is) ∙ last.2)))
+      ∙ (sym (ap (λ (all : List (SendingCall J naming)). keys all) is) ∙ last.2)))
 
-  last-keys : (id : ℕ) (sender : OutSender) (sent after : List (Sent J naming))
-      (call : Sent J naming) (core cores : List (ℕ × OutSender))
+  last-keys : (id : ℕ) (sender : OutSender) (sent after : List (SendingCall J naming))
+      (call : SendingCall J naming) (core cores : List (ℕ × OutSender))
       → keys sent ≡ core_keys core → core ≡ cores ++ (id, sender) ∷ []
       → sent ≡ after ++ call ∷ []
       → keys after ++ key call ∷ [] ≡ core_keys cores ++ key-of (id, sender) ∷ []
   last-keys id sender sent after call core cores aligned is rest =
       sym (map-append key after (call ∷ []))
-      ∙ (sym (ap (λ (all : List (Sent J naming)). keys all) rest)
+      ∙ (sym (ap (λ (all : List (SendingCall J naming)). keys all) rest)
       ∙ (aligned
       ∙ (ap (λ (all : List (ℕ × OutSender)). core_keys all) is
       ∙ map-append key-of cores ((id, sender) ∷ []))))
 
   -- without them the calls stand beside the senders still
-  pub aligned-last : (id : ℕ) (sender : OutSender) (sent after : List (Sent J naming))
-      (returning : Returning J naming) (core cores : List (ℕ × OutSender))
+  pub aligned-last : (id : ℕ) (sender : OutSender) (sent after : List (SendingCall J naming))
+      (returning : ReturningCall J naming) (core cores : List (ℕ × OutSender))
       → keys sent ≡ core_keys core
       → core ≡ cores ++ (id, sender) ∷ [] → TakesLast sender sent after returning
       → keys after ≡ core_keys cores
@@ -142,7 +143,7 @@ module _ {J : Type 0} {naming : Ghosts J} where
       (last-keys id sender sent after takes.call core cores aligned is takes.rest)
 
   -- the call of an order that was set aside is handed over
-  pub hands-aside : (id : ℕ) (opening : Opening J naming) (returning : Returning J naming)
+  pub hands-aside : (id : ℕ) (opening : OpeningCall J naming) (returning : ReturningCall J naming)
       (old new : Senders J naming)
       → old.aside ≡ Some (control.Open id opening) → returning.sending ≡ opening.sending
       → new.aside ≡ None → new.sends ≡ old.sends → new.core.items ≡ old.core.items
@@ -179,22 +180,23 @@ module _ {J : Type 0} {naming : Ghosts J} where
 
       all_numbers : rest_numbers old ≡ numbered id opening.sending.value ∷ sent
       all_numbers =
-          ap (λ (aside : Option (Control (Opening J naming))). opens (order_in aside) ++ sent) is
+          ap (λ (aside : Option (WriterOrder (OpeningCall J naming))).
+          opens (order_in aside) ++ sent) is
 
       rest_sent : rest_numbers new ≡ sent
       rest_sent =
-          ap (λ (aside : Option (Control (Opening J naming))).
+          ap (λ (aside : Option (WriterOrder (OpeningCall J naming))).
           opens (order_in aside) ++ numbers new.sends.calls.items) none
           ∙ ap (λ (all : Sends J naming). numbers all.calls.items) sends
 
       all_calls : rest_calls old ≡ (id, []) ∷ gave
       all_calls =
-          ap (λ (aside : Option (Control (Opening J naming))).
+          ap (λ (aside : Option (WriterOrder (OpeningCall J naming))).
           map (λ call. (call.1, [])) (opens (order_in aside)) ++ gave) is
 
       rest_gave : rest_calls new ≡ gave
       rest_gave =
-          ap (λ (aside : Option (Control (Opening J naming))).
+          ap (λ (aside : Option (WriterOrder (OpeningCall J naming))).
           map (λ call. (call.1, [])) (opens (order_in aside)) ++ calls got new.core.items) none
           ∙ ap (λ (senders : List (ℕ × OutSender)). calls got senders) core
 
@@ -204,7 +206,7 @@ module _ {J : Type 0} {naming : Ghosts J} where
           ∙ unsent opening.sending.value.sender opening.fresh
 
   -- the call of the last sender that the core had is
-  pub hands-last : (id : ℕ) (sender : OutSender) (returning : Returning J naming)
+  pub hands-last : (id : ℕ) (sender : OutSender) (returning : ReturningCall J naming)
       (old new : Senders J naming)
       → old.aside ≡ None → new.aside ≡ None
       → old.core.items ≡ new.core.items ++ (id, sender) ∷ []
@@ -235,7 +237,7 @@ module _ {J : Type 0} {naming : Ghosts J} where
         (IsPermutation-append_comm gave ((id, got sender.rx) ∷ []))));
   }
     where
-      after : List (Sent J naming)
+      after : List (SendingCall J naming)
       after = new.sends.calls.items
 
       gave : List (ℕ × List OutItem)
@@ -255,19 +257,19 @@ module _ {J : Type 0} {naming : Ghosts J} where
 
       all_numbers : rest_numbers old ≡ numbers after ++ number takes.call ∷ []
       all_numbers =
-          ap (λ (aside : Option (Control (Opening J naming))).
+          ap (λ (aside : Option (WriterOrder (OpeningCall J naming))).
           opens (order_in aside) ++ numbers old.sends.calls.items) empty
-          ∙ (ap (λ (sent : List (Sent J naming)). numbers sent) takes.rest
+          ∙ (ap (λ (sent : List (SendingCall J naming)). numbers sent) takes.rest
           ∙ map-append number after (takes.call ∷ []))
 
       rest_sent : rest_numbers new ≡ numbers after
       rest_sent =
-          ap (λ (aside : Option (Control (Opening J naming))).
+          ap (λ (aside : Option (WriterOrder (OpeningCall J naming))).
           opens (order_in aside) ++ numbers after) none
 
       all_calls : rest_calls old ≡ gave ++ (id, got sender.rx) ∷ []
       all_calls =
-          ap (λ (aside : Option (Control (Opening J naming))).
+          ap (λ (aside : Option (WriterOrder (OpeningCall J naming))).
           map (λ call. (call.1, [])) (opens (order_in aside)) ++ calls got old.core.items) empty
           ∙ (ap (λ (senders : List (ℕ × OutSender)). calls got senders) is
           ∙ map-append (λ (call : ℕ × OutSender). (call.0, got call.1.rx)) new.core.items
@@ -275,14 +277,14 @@ module _ {J : Type 0} {naming : Ghosts J} where
 
       rest_gave : rest_calls new ≡ gave
       rest_gave =
-          ap (λ (aside : Option (Control (Opening J naming))).
+          ap (λ (aside : Option (WriterOrder (OpeningCall J naming))).
           map (λ call. (call.1, [])) (opens (order_in aside)) ++ gave) none
 
   -- an order that opens no call is no more among them
   same-numbers : (old mid : Senders J naming) → opens (order_in old.aside) ≡ [] → mid.aside ≡ None
       → mid.sends ≡ old.sends → rest_numbers mid ≡ rest_numbers old
   same-numbers old mid plain none sends =
-      ap (λ (aside : Option (Control (Opening J naming))).
+      ap (λ (aside : Option (WriterOrder (OpeningCall J naming))).
       opens (order_in aside) ++ numbers mid.sends.calls.items) none
       ∙ (ap (λ (all : Sends J naming). numbers all.calls.items) sends
       ∙ sym (ap (λ (opened : List (CallNumber J naming × ℕ)).
@@ -291,13 +293,13 @@ module _ {J : Type 0} {naming : Ghosts J} where
   same-calls : (old mid : Senders J naming) → opens (order_in old.aside) ≡ [] → mid.aside ≡ None
       → mid.core ≡ old.core → rest_calls mid ≡ rest_calls old
   same-calls old mid plain none core =
-      ap (λ (aside : Option (Control (Opening J naming))).
+      ap (λ (aside : Option (WriterOrder (OpeningCall J naming))).
       map (λ call. (call.1, [])) (opens (order_in aside)) ++ calls got mid.core.items) none
       ∙ (ap (λ senders. calls got senders.items) core
       ∙ sym (ap (λ (opened : List (CallNumber J naming × ℕ)).
       map (λ call. (call.1, [])) opened ++ calls got old.core.items) plain))
 
-  hands-from : (old mid new : Senders J naming) (returning : Returning J naming)
+  hands-from : (old mid new : Senders J naming) (returning : ReturningCall J naming)
       → opens (order_in old.aside) ≡ [] → mid.aside ≡ None → mid.sends ≡ old.sends
       → mid.core ≡ old.core
       → HandsOver mid new returning → HandsOver old new returning
@@ -313,7 +315,7 @@ module _ {J : Type 0} {naming : Ghosts J} where
         (same-calls old mid plain none core) hands.call;
   }
 
-  pub some-from : (result : Option (Returning J naming)) (old mid new : Senders J naming)
+  pub some-from : (result : Option (ReturningCall J naming)) (old mid new : Senders J naming)
       → opens (order_in old.aside) ≡ [] → mid.aside ≡ None → mid.sends ≡ old.sends
       → mid.core ≡ old.core
       → IfSome result (λ returning. HandsOver mid new returning)
@@ -322,14 +324,14 @@ module _ {J : Type 0} {naming : Ghosts J} where
   some-from (Some returning) old mid new plain none sends core hands =
       hands-from old mid new returning plain none sends core hands
 
-  pub none-from : (result : Option (Returning J naming)) (old mid : Senders J naming)
+  pub none-from : (result : Option (ReturningCall J naming)) (old mid : Senders J naming)
       → opens (order_in old.aside) ≡ [] → mid.aside ≡ None → mid.sends ≡ old.sends
       → mid.core ≡ old.core
       → IfNone result (rest_numbers mid ≡ []) → IfNone result (rest_numbers old ≡ [])
   none-from None old mid plain none sends core is = sym (same-numbers old mid plain none sends) ∙ is
   none-from (Some returning) old mid plain none sends core is = tt
 
-  numbers-none : (sent : List (Sent J naming)) (core : List (ℕ × OutSender))
+  numbers-none : (sent : List (SendingCall J naming)) (core : List (ℕ × OutSender))
       → keys sent ≡ core_keys core → length core ≡ 0 → numbers sent ≡ []
   numbers-none [] core aligned none = refl
   numbers-none (call ∷ sent) core aligned none =
@@ -338,6 +340,6 @@ module _ {J : Type 0} {naming : Ghosts J} where
   pub nothing-left : (senders : Senders J naming) → senders.aside ≡ None
       → length senders.core.items ≡ 0 → rest_numbers senders ≡ []
   nothing-left senders none empty =
-      ap (λ (aside : Option (Control (Opening J naming))).
+      ap (λ (aside : Option (WriterOrder (OpeningCall J naming))).
       opens (order_in aside) ++ numbers senders.sends.calls.items) none
       ∙ numbers-none senders.sends.calls.items senders.core.items senders.aligned empty

@@ -67,20 +67,20 @@ use Rattle.std.proofs.lemmas.List.Sorted.{
 use Rattle.account.specs.declared.call.OutItem.{OutItem}
 use Rattle.lane.specs.RingLane.{got}
 use Rattle.h2frame.specs.declared.frame.Frame.{Frame}
-use Rattle.outwriter.specs.declared.control.Control.{Control}
-use Rattle.outwriter.specs.declared.control.Control.TheVariants as control
+use Rattle.outwriter.specs.declared.control.WriterOrder.{WriterOrder}
+use Rattle.outwriter.specs.declared.control.WriterOrder.TheVariants as control
 use Rattle.outwriter.specs.Calls.{IsReturned}
 use Rattle.outwriter.specs.Cores.{calls}
 use Rattle.outwriter.specs.LeftCalls.{GaveLeft}
 use Rattle.outwriter.specs.Releases.{Releases}
 use Rattle.outwriter.specs.Runs.{is_opened, opens_stream}
 use Rattle.outwriter.specs.Steps.{Order, Step, Taken, Granted, Written, Returned, order_of}
-use Rattle.callparts.specs.declared.order.Opening.{Opening}
-use Rattle.callparts.specs.declared.order.Returning.{Returning}
+use Rattle.callparts.specs.declared.order.OpeningCall.{OpeningCall}
+use Rattle.callparts.specs.declared.order.ReturningCall.{ReturningCall}
 use Rattle.callparts.specs.declared.register.CallNumber.{CallNumber}
 use Rattle.callparts.specs.declared.register.Naming.{Ghosts}
 use Rattle.callparts.specs.Lanes.{OutSender}
-use Rattle.writerloop.specs.declared.sends.Sent.{Sent}
+use Rattle.writerloop.specs.declared.sends.SendingCall.{SendingCall}
 use Rattle.writerloop.specs.Left.{left_by, left_in}
 use Rattle.writerloop.specs.Orders.{IsAmong, OpensNone, order_in, orders_of}
 use Rattle.writerloop.specs.Sent.{
@@ -201,7 +201,7 @@ gave-more id core handed more (items, there, left) = (
 -- ---- orders that open calls
 
 module _ {J : Type 0} {naming : Ghosts J} where
-  opens-append : (xs ys : List (Control (Opening J naming)))
+  opens-append : (xs ys : List (WriterOrder (OpeningCall J naming)))
       → opens (xs ++ ys) ≡ opens xs ++ opens ys
   opens-append [] ys = refl
   opens-append (control.Open id opening ∷ xs) ys =
@@ -217,7 +217,8 @@ module _ {J : Type 0} {naming : Ghosts J} where
   opens-append (control.InputEnded ∷ xs) ys = opens-append xs ys
   opens-append (control.Close ∷ xs) ys = opens-append xs ys
 
-  pub opens-none : (order : Control (Opening J naming)) → OpensNone order → opens (order ∷ []) ≡ []
+  pub opens-none : (order : WriterOrder (OpeningCall J naming)) → OpensNone order
+      → opens (order ∷ []) ≡ []
   opens-none (control.Open id opening) none = absurd none
   opens-none (control.Settings settings) none = refl
   opens-none (control.Ping bytes) none = refl
@@ -230,14 +231,16 @@ module _ {J : Type 0} {naming : Ghosts J} where
   opens-none control.Close none = refl
 
   -- a further order that opens none
-  opens-plain : (orders : List (Control (Opening J naming))) (order : Control (Opening J naming))
+  opens-plain : (orders : List (WriterOrder (OpeningCall J naming)))
+      (order : WriterOrder (OpeningCall J naming))
       → OpensNone order → opens (orders ++ order ∷ []) ≡ opens orders
   opens-plain orders order none =
       opens-append orders (order ∷ [])
       ∙ (ap (λ (all : List (CallNumber J naming × ℕ)). opens orders ++ all) (opens-none order none)
       ∙ append-nil (opens orders))
 
-  streams-open : (orders : List (Control (Opening J naming))) (id : ℕ) (opening : Opening J naming)
+  streams-open : (orders : List (WriterOrder (OpeningCall J naming))) (id : ℕ)
+      (opening : OpeningCall J naming)
       → map (λ call. call.1) (opens (orders ++ control.Open id opening ∷ []))
       ≡ map (λ call. call.1) (opens orders) ++ id ∷ []
   streams-open orders id opening =
@@ -246,15 +249,16 @@ module _ {J : Type 0} {naming : Ghosts J} where
       ∙ map-append (λ (call : CallNumber J naming × ℕ). call.1) (opens orders)
       (numbered id opening.sending.value ∷ [])
 
-  apart-front : (orders : List (Control (Opening J naming))) (id : ℕ) (opening : Opening J naming)
+  apart-front : (orders : List (WriterOrder (OpeningCall J naming))) (id : ℕ)
+      (opening : OpeningCall J naming)
       → AreApart (orders ++ control.Open id opening ∷ []) → AreApart orders
   apart-front orders id opening apart =
       distinct-front (map (λ call. call.1) (opens orders)) id
       (subst (λ (ids : List ℕ). IsDistinct nat_eq ids) (streams-open orders id opening) apart)
 
   -- the stream that an order opens is none of those before
-  pub apart-last : (orders : List (Control (Opening J naming))) (id : ℕ)
-      (opening : Opening J naming)
+  pub apart-last : (orders : List (WriterOrder (OpeningCall J naming))) (id : ℕ)
+      (opening : OpeningCall J naming)
       → AreApart (orders ++ control.Open id opening ∷ [])
       → (number : CallNumber J naming) → Contains (opens orders) (number, id) → ⊥
   apart-last orders id opening apart number there =
@@ -264,18 +268,20 @@ module _ {J : Type 0} {naming : Ghosts J} where
       last-new ids id (subst (λ (all : List ℕ). IsDistinct nat_eq all)
       (streams-open orders id opening) apart) found.0 found.1 found.2
 
-  plain-apart : (orders : List (Control (Opening J naming))) (order : Control (Opening J naming))
+  plain-apart : (orders : List (WriterOrder (OpeningCall J naming)))
+      (order : WriterOrder (OpeningCall J naming))
       → OpensNone order → AreApart (orders ++ order ∷ []) → AreApart orders
   plain-apart orders order none apart =
       subst (λ (all : List (CallNumber J naming × ℕ)). IsDistinct nat_eq (map (λ call. call.1) all))
       (opens-plain orders order none) apart
 
   -- those before an order that was set aside
-  pub plain-front : (orders : List (Control (Opening J naming)))
-      (aside : Option (Control (Opening J naming)))
+  pub plain-front : (orders : List (WriterOrder (OpeningCall J naming)))
+      (aside : Option (WriterOrder (OpeningCall J naming)))
       → AreApart (orders ++ order_in aside) → AreApart orders
   plain-front orders None apart =
-      subst (λ (all : List (Control (Opening J naming))). AreApart all) (append-nil orders) apart
+      subst (λ (all : List (WriterOrder (OpeningCall J naming))). AreApart all)
+      (append-nil orders) apart
   plain-front orders (Some (control.Open id opening)) apart = apart-front orders id opening apart
   plain-front orders (Some (control.Settings settings)) apart =
       plain-apart orders (control.Settings settings) tt apart
@@ -295,40 +301,43 @@ module _ {J : Type 0} {naming : Ghosts J} where
       plain-apart orders control.InputEnded tt apart
   plain-front orders (Some control.Close) apart = plain-apart orders control.Close tt apart
 
-  resets-front : (orders more : List (Control (Opening J naming)))
+  resets-front : (orders more : List (WriterOrder (OpeningCall J naming)))
       → ResetsNone (orders_of (orders ++ more)) → ResetsNone (orders_of orders)
   resets-front orders more none order among =
       none order (subst (λ (all : List Order). IsAmong order all)
-      (sym (map-append (λ (one : Control (Opening J naming)). order_of one) orders more))
+      (sym (map-append (λ (one : WriterOrder (OpeningCall J naming)). order_of one) orders more))
       (among-more order (orders_of orders) (orders_of more) among))
 
-  resets-last : (orders : List (Control (Opening J naming))) (order : Control (Opening J naming))
+  resets-last : (orders : List (WriterOrder (OpeningCall J naming)))
+      (order : WriterOrder (OpeningCall J naming))
       → ResetsNone (orders_of (orders ++ order ∷ [])) → left_by (order_of order) ≡ []
   resets-last orders order none =
       none (order_of order) (subst (λ (all : List Order). IsAmong (order_of order) all)
-      (sym (map-append (λ (one : Control (Opening J naming)). order_of one) orders (order ∷ [])))
+      (sym
+      (map-append (λ (one : WriterOrder (OpeningCall J naming)). order_of one) orders (order ∷ [])))
       (among-last (order_of order) (orders_of orders)))
 
   -- ---- the steps
 
-  pub has-none : (sent : List (Sent J naming)) (core : List (ℕ × OutSender))
-      (home : List (Returning J naming))
+  pub has-none : (sent : List (SendingCall J naming)) (core : List (ℕ × OutSender))
+      (home : List (ReturningCall J naming))
       → sent ≡ [] → home ≡ [] → HasAll [] [] sent core home
   has-none sent core home none empty = record {
     handed = [];
     are = sym empty;
     all =
-        subst (λ (calls : List (Sent J naming)). IsPermutation [] (numbers calls ++ [])) (sym none)
+        subst (λ (calls : List (SendingCall J naming)).
+        IsPermutation [] (numbers calls ++ [])) (sym none)
         (IsPermutation-refl []);
     back = λ apart.
-        All-nil (λ (one : ℕ × Returning J naming). IsBack [] one.0 one.1.sending.value.sender);
+        All-nil (λ (one : ℕ × ReturningCall J naming). IsBack [] one.0 one.1.sending.value.sender);
     left = λ spared id there. absurd (omega (arith, there.1));
   }
 
   -- the run goes on, and takes no order of these; the calls are the same
-  pub has-still : (orders : List (Control (Opening J naming))) (run new : List Step)
-      (sent after : List (Sent J naming)) (core cores : List (ℕ × OutSender))
-      (home homes : List (Returning J naming))
+  pub has-still : (orders : List (WriterOrder (OpeningCall J naming))) (run new : List Step)
+      (sent after : List (SendingCall J naming)) (core cores : List (ℕ × OutSender))
+      (home homes : List (ReturningCall J naming))
       → numbers after ≡ numbers sent → homes ≡ home → ((id : ℕ) → On run new id)
       → ((id : ℕ) → Contains (left_in new) id → Contains (left_in run) id)
       → ((id : ℕ) → GaveLeft id (calls got core) → GaveLeft id (calls got cores))
@@ -340,7 +349,8 @@ module _ {J : Type 0} {naming : Ghosts J} where
         subst (λ (calls : List (CallNumber J naming × ℕ)).
         IsPermutation (opens orders) (calls ++ handed_numbers has.handed)) (sym same) has.all;
     back = λ apart.
-        All-weaker (λ (one : ℕ × Returning J naming). IsBack run one.0 one.1.sending.value.sender)
+        All-weaker
+        (λ (one : ℕ × ReturningCall J naming). IsBack run one.0 one.1.sending.value.sender)
         (λ one. IsBack new one.0 one.1.sending.value.sender)
         (λ one back. back-on run new one.0 one.1.sending.value.sender (on one.0) back)
         has.handed (has.back apart);
@@ -350,9 +360,11 @@ module _ {J : Type 0} {naming : Ghosts J} where
   }
 
   -- a further order that opens no call, whether it was taken or lost
-  pub has-plain : (order : Control (Opening J naming)) (orders : List (Control (Opening J naming)))
-      (run new : List Step) (sent after : List (Sent J naming)) (core cores : List (ℕ × OutSender))
-      (home homes : List (Returning J naming))
+  pub has-plain : (order : WriterOrder (OpeningCall J naming))
+      (orders : List (WriterOrder (OpeningCall J naming)))
+      (run new : List Step) (sent after : List (SendingCall J naming))
+      (core cores : List (ℕ × OutSender))
+      (home homes : List (ReturningCall J naming))
       → OpensNone order → numbers after ≡ numbers sent → homes ≡ home → ((id : ℕ) → On run new id)
       → (left_by (order_of order) ≡ [] → (id : ℕ) → Contains (left_in new) id
       → Contains (left_in run) id)
@@ -370,7 +382,7 @@ module _ {J : Type 0} {naming : Ghosts J} where
             IsPermutation (opens orders) (calls ++ handed_numbers has.handed)) (sym same) has.all);
         back = λ apart.
             All-weaker
-            (λ (one : ℕ × Returning J naming). IsBack run one.0 one.1.sending.value.sender)
+            (λ (one : ℕ × ReturningCall J naming). IsBack run one.0 one.1.sending.value.sender)
             (λ one. IsBack new one.0 one.1.sending.value.sender)
             (λ one back.
             back-on run new one.0 one.1.sending.value.sender (on one.0) back) has.handed
@@ -382,9 +394,10 @@ module _ {J : Type 0} {naming : Ghosts J} where
       }
 
   -- a reset of a call that was left
-  pub has-reset : (id : ℕ) (orders : List (Control (Opening J naming))) (run new : List Step)
-      (sent after : List (Sent J naming)) (core cores : List (ℕ × OutSender))
-      (home homes : List (Returning J naming))
+  pub has-reset : (id : ℕ) (orders : List (WriterOrder (OpeningCall J naming)))
+      (run new : List Step)
+      (sent after : List (SendingCall J naming)) (core cores : List (ℕ × OutSender))
+      (home homes : List (ReturningCall J naming))
       → numbers after ≡ numbers sent → homes ≡ home → ((k : ℕ) → On run new k)
       → ((k : ℕ) → Contains (left_in new) k → (k ≡ id) ⊎ Contains (left_in run) k)
       → cores ≡ core → GaveLeft id (calls got core) → HasAll orders run sent core home
@@ -398,7 +411,7 @@ module _ {J : Type 0} {naming : Ghosts J} where
             IsPermutation (opens orders) (calls ++ handed_numbers has.handed)) (sym same) has.all;
         back = λ apart.
             All-weaker
-            (λ (one : ℕ × Returning J naming). IsBack run one.0 one.1.sending.value.sender)
+            (λ (one : ℕ × ReturningCall J naming). IsBack run one.0 one.1.sending.value.sender)
             (λ one. IsBack new one.0 one.1.sending.value.sender)
             (λ one back. back-on run new one.0 one.1.sending.value.sender (on one.0) back)
             has.handed (has.back apart);
@@ -421,10 +434,10 @@ module _ {J : Type 0} {naming : Ghosts J} where
           (has.left spared k before)
 
   -- a call begins
-  pub has-opened : (id : ℕ) (opening : Opening J naming) (sender : OutSender)
-      (orders : List (Control (Opening J naming))) (run : List Step)
-      (sent after : List (Sent J naming)) (core cores : List (ℕ × OutSender))
-      (home homes : List (Returning J naming))
+  pub has-opened : (id : ℕ) (opening : OpeningCall J naming) (sender : OutSender)
+      (orders : List (WriterOrder (OpeningCall J naming))) (run : List Step)
+      (sent after : List (SendingCall J naming)) (core cores : List (ℕ × OutSender))
+      (home homes : List (ReturningCall J naming))
       → numbers after ≡ numbers sent ++ numbered id opening.sending.value ∷ [] → homes ≡ home
       → cores ≡ core ++ (id, sender) ∷ [] → HasAll orders run sent core home
       → HasAll (orders ++ control.Open id opening ∷ [])
@@ -453,7 +466,7 @@ module _ {J : Type 0} {naming : Ghosts J} where
             (IsPermutation-append_right (numbers sent) (handed ++ one ∷ []) (one ∷ handed)
             (IsPermutation-append_comm handed (one ∷ [])))))));
         back = λ apart k d within.
-            let call : ℕ × Returning J naming = get_or has.handed k d in
+            let call : ℕ × ReturningCall J naming = get_or has.handed k d in
             back-on run (Taken (control.Open id tt) ∷ run) call.0 call.1.sending.value.sender
             (on-open id run call.0 (λ is.
             apart-last orders id opening apart call.1.sending.value.number (subst
@@ -465,7 +478,7 @@ module _ {J : Type 0} {naming : Ghosts J} where
             (has.left (resets-front orders (control.Open id opening ∷ []) spared) k there);
       }
     where
-      opened : (call : ℕ × Returning J naming) → Contains has.handed call
+      opened : (call : ℕ × ReturningCall J naming) → Contains has.handed call
           → Contains (opens orders) (call.1.sending.value.number, call.0)
       opened call there =
           Contains-permutation (numbers sent ++ handed_numbers has.handed) (opens orders)
@@ -473,7 +486,7 @@ module _ {J : Type 0} {naming : Ghosts J} where
           (IsPermutation-sym (opens orders) (numbers sent ++ handed_numbers has.handed) has.all)
           (Contains-append_right (numbers sent) (handed_numbers has.handed)
           (call.1.sending.value.number, call.0)
-          (contains-map (λ (one : ℕ × Returning J naming). numbered one.0 one.1.sending.value)
+          (contains-map (λ (one : ℕ × ReturningCall J naming). numbered one.0 one.1.sending.value)
           has.handed call there))
 
       kept : (k : ℕ) → GaveLeft k (calls got core) → GaveLeft k (calls got cores)
@@ -489,10 +502,10 @@ module _ {J : Type 0} {naming : Ghosts J} where
       )
 
   -- the sender of a call whose order isn't taken is handed back
-  pub has-passed : (id : ℕ) (opening : Opening J naming) (returning : Returning J naming)
-      (orders : List (Control (Opening J naming))) (run : List Step)
-      (sent after : List (Sent J naming)) (core cores : List (ℕ × OutSender))
-      (home homes : List (Returning J naming))
+  pub has-passed : (id : ℕ) (opening : OpeningCall J naming) (returning : ReturningCall J naming)
+      (orders : List (WriterOrder (OpeningCall J naming))) (run : List Step)
+      (sent after : List (SendingCall J naming)) (core cores : List (ℕ × OutSender))
+      (home homes : List (ReturningCall J naming))
       → returning.sending ≡ opening.sending
       → (AreApart (orders ++ control.Open id opening ∷ [])
       → IsBack run id opening.sending.value.sender)
@@ -504,14 +517,16 @@ module _ {J : Type 0} {naming : Ghosts J} where
       let one : CallNumber J naming × ℕ = numbered id opening.sending.value in
       let handed : List (CallNumber J naming × ℕ) = handed_numbers has.handed in
       let all_handed : handed_numbers (has.handed ++ (id, returning) ∷ []) ≡ handed ++ one ∷ [] =
-      map-append (λ (call : ℕ × Returning J naming). numbered call.0 call.1.sending.value)
+      map-append (λ (call : ℕ × ReturningCall J naming). numbered call.0 call.1.sending.value)
       has.handed ((id, returning) ∷ [])
       ∙ ap (λ sending. handed ++ numbered id sending.value ∷ []) is in
       record {
         handed = has.handed ++ (id, returning) ∷ [];
         are =
-            map-append (λ (call : ℕ × Returning J naming). call.1) has.handed ((id, returning) ∷ [])
-            ∙ (ap (λ (all : List (Returning J naming)). all ++ returning ∷ []) has.are ∙ sym way);
+            map-append (λ (call : ℕ × ReturningCall J naming). call.1) has.handed
+            ((id, returning) ∷ [])
+            ∙ (ap (λ (all : List (ReturningCall J naming)). all ++ returning ∷ []) has.are
+            ∙ sym way);
         all =
             subst (λ (opened : List (CallNumber J naming × ℕ)).
             IsPermutation opened
@@ -528,7 +543,7 @@ module _ {J : Type 0} {naming : Ghosts J} where
             (numbers sent ++ handed) has.all))));
         back = λ apart.
             All-push
-            (λ (call : ℕ × Returning J naming). IsBack run call.0 call.1.sending.value.sender)
+            (λ (call : ℕ × ReturningCall J naming). IsBack run call.0 call.1.sending.value.sender)
             has.handed (id, returning) (has.back (apart-front orders id opening apart))
             (subst (λ sending. IsBack run id sending.value.sender) (sym is) (back apart));
         left = λ spared k there.
@@ -536,7 +551,7 @@ module _ {J : Type 0} {naming : Ghosts J} where
             GaveLeft k (calls got senders
             ++ handed_calls (has.handed ++ (id, returning) ∷ []))) (sym still)
             (subst (λ (all : List (ℕ × List OutItem)). GaveLeft k (calls got core ++ all))
-            (sym (map-append (λ (call : ℕ × Returning J naming).
+            (sym (map-append (λ (call : ℕ × ReturningCall J naming).
             (call.0, got_of call.1.sending.value.sender)) has.handed
             ((id, returning) ∷ [])))
             (gave-more k (calls got core) (handed_calls has.handed)
@@ -545,39 +560,41 @@ module _ {J : Type 0} {naming : Ghosts J} where
       }
 
   -- the sender of a call that is through is handed back
-  pub has-returned : (id : ℕ) (sender : OutSender) (orders : List (Control (Opening J naming)))
-      (run : List Step) (sent after : List (Sent J naming)) (core cores : List (ℕ × OutSender))
-      (home homes : List (Returning J naming))
+  pub has-returned : (id : ℕ) (sender : OutSender)
+      (orders : List (WriterOrder (OpeningCall J naming)))
+      (run : List Step) (sent after : List (SendingCall J naming))
+      (core cores : List (ℕ × OutSender))
+      (home homes : List (ReturningCall J naming))
       → HandsHome id sender sent after home homes → Releases id sender core cores
       → HasAll orders run sent core home
       → HasAll orders (Returned id (got sender.rx) ∷ run) after cores homes
   has-returned id sender orders run sent after core cores home homes hands releases has =
       let handed : List (CallNumber J naming × ℕ) = handed_numbers has.handed in
-      let f : Sent J naming → CallNumber J naming × ℕ = λ call.
+      let f : SendingCall J naming → CallNumber J naming × ℕ = λ call.
       numbered call.id call.sending.value in
       let one : CallNumber J naming × ℕ = numbered id hands.returning.sending.value in
       let same_id : hands.call.id ≡ id =
-      ap (λ (call : Sent J naming). call.id) hands.is ∙ hands.at.1 hands.call in
+      ap (λ (call : SendingCall J naming). call.id) hands.is ∙ hands.at.1 hands.call in
       let same : f hands.call ≡ one =
       ap (λ (n : ℕ). (hands.call.sending.value.number, n)) same_id
       ∙ ap (λ (number : CallNumber J naming). (number, id)) (sym hands.number_is) in
       let out : IsPermutation (numbers sent) (one ∷ numbers after) =
       subst (λ (first : CallNumber J naming × ℕ).
       IsPermutation (numbers sent) (first ∷ numbers after)) same
-      (subst (λ (calls : List (Sent J naming)).
+      (subst (λ (calls : List (SendingCall J naming)).
       IsPermutation (numbers sent) (f hands.call ∷ numbers calls)) (sym hands.rest)
       (IsPermutation-map f sent (hands.call ∷ swap_remove sent hands.place hands.call)
       (IsPermutation-swap_remove sent hands.place hands.call within hands.is))) in
       let all_handed : handed_numbers (has.handed ++ (id, hands.returning) ∷ [])
       ≡ handed ++ one ∷ [] =
-      map-append (λ (call : ℕ × Returning J naming). numbered call.0 call.1.sending.value)
+      map-append (λ (call : ℕ × ReturningCall J naming). numbered call.0 call.1.sending.value)
       has.handed ((id, hands.returning) ∷ []) in
       record {
         handed = has.handed ++ (id, hands.returning) ∷ [];
         are =
-            map-append (λ (call : ℕ × Returning J naming). call.1) has.handed
+            map-append (λ (call : ℕ × ReturningCall J naming). call.1) has.handed
             ((id, hands.returning) ∷ [])
-            ∙ (ap (λ (all : List (Returning J naming)). all ++ hands.returning ∷ []) has.are
+            ∙ (ap (λ (all : List (ReturningCall J naming)). all ++ hands.returning ∷ []) has.are
             ∙ sym hands.put);
         all =
             subst (λ (all : List (CallNumber J naming × ℕ)).
@@ -592,11 +609,11 @@ module _ {J : Type 0} {naming : Ghosts J} where
             (append_assoc (numbers after) handed (one ∷ []))
             (IsPermutation-append_comm (one ∷ []) (numbers after ++ handed)))));
         back = λ apart.
-            All-push (λ (call : ℕ × Returning J naming).
+            All-push (λ (call : ℕ × ReturningCall J naming).
             IsBack (Returned id (got sender.rx) ∷ run) call.0 call.1.sending.value.sender)
             has.handed (id, hands.returning)
             (All-weaker
-            (λ (call : ℕ × Returning J naming). IsBack run call.0 call.1.sending.value.sender)
+            (λ (call : ℕ × ReturningCall J naming). IsBack run call.0 call.1.sending.value.sender)
             (λ call. IsBack (Returned id (got sender.rx) ∷ run) call.0 call.1.sending.value.sender)
             (λ call back.
             back-on run (Returned id (got sender.rx) ∷ run) call.0 call.1.sending.value.sender
@@ -621,7 +638,7 @@ module _ {J : Type 0} {naming : Ghosts J} where
           ≡ handed_calls has.handed ++ (id, got sender.rx) ∷ []
       last =
           map-append
-          (λ (call : ℕ × Returning J naming). (call.0, got_of call.1.sending.value.sender))
+          (λ (call : ℕ × ReturningCall J naming). (call.0, got_of call.1.sending.value.sender))
           has.handed ((id, hands.returning) ∷ [])
           ∙ ap (λ (one : Option OutSender).
           handed_calls has.handed ++ (id, got_of one) ∷ []) hands.sender_is

@@ -50,7 +50,7 @@ use Rattle.std.specs.Prelude.{if◌then◌else◌}
 use Rattle.outwriter.specs.Frames.{ends_stream}
 use Rattle.writerloop.specs.declared.standing.Standing.{Standing}
 use Rattle.writerloop.specs.declared.standing.Standing.TheVariants.{Going, OutOfMemory, Broken}
-use Rattle.writerloop.specs.Spelled.{spelled_all, ended_by, Parted, IsFront, IsAll, Holds}
+use Rattle.writerloop.specs.Spelled.{spelled_all, ended_by, IsParted, IsFront, IsAll, Holds}
 
 -- the earlier frames are spelled first
 pub spelled-append : (later earlier : List Frame)
@@ -78,8 +78,9 @@ ended-more frame frames =
 -- a frame comes behind those in the buffer
 pub parted-more : (frame : Frame) (frames : List Frame) (before now : Option (List ℕ))
     (buffer ended : List ℕ)
-    → Parted frames before now buffer ended
-    → Parted (frame ∷ frames) before now (buffer ++ spelled frame) (ended ++ ended_by (frame ∷ []))
+    → IsParted frames before now buffer ended
+    → IsParted (frame ∷ frames) before now (buffer ++ spelled frame)
+    (ended ++ ended_by (frame ∷ []))
 parted-more frame frames before now buffer ended p = record {
   waiting = frame ∷ p.waiting;
   written = p.written;
@@ -94,7 +95,7 @@ parted-more frame frames before now buffer ended p = record {
 
 -- what was written and what is in the buffer is all that the frames spell
 pub parted-spelled : (frames : List Frame) (before now : Option (List ℕ)) (buffer ended : List ℕ)
-    (p : Parted frames before now buffer ended)
+    (p : IsParted frames before now buffer ended)
     → spelled_all frames ≡ spelled_all p.written ++ buffer
 parted-spelled frames before now buffer ended p =
     ap (λ (all : List Frame). spelled_all all) p.all
@@ -104,8 +105,8 @@ parted-spelled frames before now buffer ended p =
 -- the buffer is written
 pub parted-flushed : (frames : List Frame) (before old new : Option (List ℕ))
     (buffer ended : List ℕ)
-    → Parted frames before old buffer ended → Appends old new buffer
-    → Parted frames before new [] []
+    → IsParted frames before old buffer ended → Appends old new buffer
+    → IsParted frames before new [] []
 parted-flushed frames before old new buffer ended p appends = record {
   waiting = [];
   written = frames;
@@ -119,13 +120,13 @@ parted-flushed frames before old new buffer ended p appends = record {
 }
 
 pub parted-front : (frames : List Frame) (before now : Option (List ℕ)) (buffer ended : List ℕ)
-    → Parted frames before now buffer ended → IsFront frames before now
+    → IsParted frames before now buffer ended → IsFront frames before now
 parted-front frames before now buffer ended p =
     (spelled_all p.written, (buffer, parted-spelled frames before now buffer ended p), p.device)
 
 -- some of the buffer is written
 pub parted-cut : (frames : List Frame) (before old new : Option (List ℕ)) (buffer ended : List ℕ)
-    → Parted frames before old buffer ended → AppendsPrefix old new buffer
+    → IsParted frames before old buffer ended → AppendsPrefix old new buffer
     → IsFront frames before new
 parted-cut frames before old new buffer ended p cut = (
   spelled_all p.written ++ cut.0,
@@ -173,7 +174,7 @@ holds-front Broken frames before now buffer ended h = h
 
 -- nothing is left in the buffer
 parted-all : (frames : List Frame) (before now : Option (List ℕ)) (buffer ended : List ℕ)
-    → Parted frames before now buffer ended → buffer ≡ []
+    → IsParted frames before now buffer ended → buffer ≡ []
     → Appends before now (spelled_all frames)
 parted-all frames before now buffer ended p empty =
     subst (λ (bytes : List ℕ). Appends before now bytes)

@@ -47,8 +47,8 @@ use Rattle.h2frame.specs.declared.error_code.ErrorCode.TheVariants.{FlowControlE
 use Rattle.h2frame.specs.declared.frame.Frame.{Frame}
 use Rattle.lane.specs.Ring.{in_name, out_name, put_in, taken}
 use Rattle.lane.specs.RingLane.{LaneName, ahead, got}
-use Rattle.outwriter.specs.declared.control.Control.{Control}
-use Rattle.outwriter.specs.declared.control.Control.TheVariants as control
+use Rattle.outwriter.specs.declared.control.WriterOrder.{WriterOrder}
+use Rattle.outwriter.specs.declared.control.WriterOrder.TheVariants as control
 use Rattle.outwriter.specs.declared.control.OutFault.TheVariants.{PeerWindow}
 use Rattle.outwriter.specs.Cores.{IsUnused, calls}
 use Rattle.outwriter.specs.Credit.{granted, granted_by}
@@ -69,20 +69,25 @@ use Rattle.outwriter.specs.Steps.{
   frames_of,
   order_of,
 }
-use Rattle.callparts.specs.declared.order.Opening.{Opening}
-use Rattle.callparts.specs.declared.order.Returning.{Returning}
+use Rattle.callparts.specs.declared.order.OpeningCall.{OpeningCall}
+use Rattle.callparts.specs.declared.order.ReturningCall.{ReturningCall}
 use Rattle.callparts.specs.declared.register.CallNumber.{CallNumber}
 use Rattle.callparts.specs.declared.register.Naming.{Ghosts}
 use Rattle.device.specs.declared.conn.ConnWrite.{Ghosts as ConnGhosts}
 use Rattle.callparts.specs.Lanes.{OutSender}
-use Rattle.writerloop.specs.declared.filled.Filled.{Filled}
-use Rattle.writerloop.specs.declared.filled.Filled.TheVariants.{Over, Stopped}
+use Rattle.writerloop.specs.declared.fill_end.FillEnd.{FillEnd}
+use Rattle.writerloop.specs.declared.fill_end.FillEnd.TheVariants.{Over, Stopped}
 use Rattle.writerloop.specs.declared.inbox.Inbox.{Inbox}
 use Rattle.writerloop.specs.declared.standing.Standing.TheVariants as stands
-use Rattle.writerloop.specs.declared.steps.Took.{Took}
-use Rattle.writerloop.specs.declared.steps.Took.TheVariants as took
-use Rattle.writerloop.specs.declared.taking.Taking.{Taking}
-use Rattle.writerloop.specs.declared.taking.Taking.TheVariants.{Done, Ended, Unanswered, HandedBack}
+use Rattle.writerloop.specs.declared.steps.OrderStep.{OrderStep}
+use Rattle.writerloop.specs.declared.steps.OrderStep.TheVariants as took
+use Rattle.writerloop.specs.declared.order_outcome.OrderOutcome.{OrderOutcome}
+use Rattle.writerloop.specs.declared.order_outcome.OrderOutcome.TheVariants.{
+  Done,
+  Ended,
+  Unanswered,
+  HandedBack,
+}
 use Rattle.writerloop.specs.declared.writing.Writing.{Writing}
 use Rattle.writerloop.specs.Blamed.{WouldOverflow, blames_by, blames_in}
 use Rattle.writerloop.specs.Keys.{Keys_set}
@@ -199,7 +204,8 @@ any-more is (one ∷ orders) order =
 
 module _ {S : Type 0} where
   -- an order that opens no call opens no stream
-  plain-opens : (one : Control S) (id : ℕ) → OpensNone one → opens_stream id (order_of one) ≡ false
+  plain-opens : (one : WriterOrder S) (id : ℕ) → OpensNone one
+      → opens_stream id (order_of one) ≡ false
   plain-opens (control.Open stream opening) id none = absurd none
   plain-opens (control.Settings settings) id none = refl
   plain-opens (control.Ping bytes) id none = refl
@@ -211,7 +217,8 @@ module _ {S : Type 0} where
   plain-opens control.InputEnded id none = refl
   plain-opens control.Close id none = refl
 
-  plain-as : (one : Control S) → ((id : ℕ) → opens_stream id (order_of one) ≡ false) → OpensNone one
+  plain-as : (one : WriterOrder S)
+      → ((id : ℕ) → opens_stream id (order_of one) ≡ false) → OpensNone one
   plain-as (control.Open stream opening) none =
       true≢false (sym (nat_eq_equiv.refl stream) ∙ none stream)
   plain-as (control.Settings settings) none = tt
@@ -225,7 +232,7 @@ module _ {S : Type 0} where
   plain-as control.Close none = tt
 
   -- an order that isn't an Open opens no call
-  pub plain-other : (one : Control S)
+  pub plain-other : (one : WriterOrder S)
       → ((id : ℕ) (opening : S) → one ≡ control.Open id opening → ⊥) → OpensNone one
   plain-other (control.Open id opening) other = absurd (other id opening refl)
   plain-other (control.Settings settings) other = tt
@@ -239,7 +246,7 @@ module _ {S : Type 0} where
   plain-other control.Close other = tt
 
   -- behind one that isn't a Close as many orders come as before
-  pub closes-other : (one : Control S) (closed : Bool) → (one ≡ control.Close → ⊥)
+  pub closes-other : (one : WriterOrder S) (closed : Bool) → (one ≡ control.Close → ⊥)
       → closed ≡ (closes (order_of one) || closed)
   closes-other (control.Open id opening) closed other = refl
   closes-other (control.Settings settings) closed other = refl
@@ -253,7 +260,8 @@ module _ {S : Type 0} where
   closes-other control.Close closed other = absurd (other refl)
 
 -- the same order without a sender
-pub as-plain : {S T : Type 0} (one : Control S) (other : Control T) → order_of one ≡ order_of other
+pub as-plain : {S T : Type 0} (one : WriterOrder S) (other : WriterOrder T)
+    → order_of one ≡ order_of other
     → OpensNone other → OpensNone one
 as-plain one other is none =
     plain-as one (λ id.
@@ -281,7 +289,7 @@ own-leaves last id = own-leaves-by (id == 0) last id
 
 module _ {S : Type 0} where
   -- an order, and the writer's own behind it, open no stream
-  on-steps : (order : Order) (last : ℕ) (taking : Taking S) (run : List Step) (k : ℕ)
+  on-steps : (order : Order) (last : ℕ) (taking : OrderOutcome S) (run : List Step) (k : ℕ)
       → opens_stream k order ≡ false → On run (steps_of order last taking ++ run) k
   on-steps order last Done run k plain = on-taken order run k plain
   on-steps order last (Ended id) run k plain =
@@ -292,7 +300,8 @@ module _ {S : Type 0} where
   on-steps order last (HandedBack back) run k plain = on-same run k
 
   -- and reset no call that was left
-  left-steps : (order : Order) (last : ℕ) (taking : Taking S) (run : List Step) → left_by order ≡ []
+  left-steps : (order : Order) (last : ℕ) (taking : OrderOutcome S) (run : List Step)
+      → left_by order ≡ []
       → left_in (steps_of order last taking ++ run) ≡ left_in run
   left-steps order last Done run none = ap (λ (ids : List ℕ). ids ++ left_in run) none
   left-steps order last (Ended id) run none =
@@ -302,19 +311,22 @@ module _ {S : Type 0} where
   left-steps order last (HandedBack back) run none = refl
 
   -- the core ended the connection
-  abbrev pub EndsAll : Taking S → Type 0
+  abbrev pub EndsAll : OrderOutcome S → Type 0
   EndsAll (Ended id) = id ≡ 0
   EndsAll _ = ⊥
 
-  pub ends-by : (taking one : Taking S) → taking ≡ one → (EndsAll one → ⊥) → EndsAll taking → ⊥
-  ends-by taking one is other ends = other (subst (λ (found : Taking S). EndsAll found) is ends)
+  pub ends-by : (taking one : OrderOutcome S) → taking ≡ one → (EndsAll one → ⊥)
+      → EndsAll taking → ⊥
+  ends-by taking one is other ends =
+      other (subst (λ (found : OrderOutcome S). EndsAll found) is ends)
 
-  pub ended-by : {B : Type 0} (taking : Taking S) (id : ℕ) → taking ≡ Ended id → (id ≡ 0) ⊎ B
+  pub ended-by : {B : Type 0} (taking : OrderOutcome S) (id : ℕ) → taking ≡ Ended id → (id ≡ 0) ⊎ B
       → EndsAll taking ⊎ B
-  ended-by taking id is (inl none) = inl (subst (λ (one : Taking S). EndsAll one) (sym is) none)
+  ended-by taking id is (inl none) =
+      inl (subst (λ (one : OrderOutcome S). EndsAll one) (sym is) none)
   ended-by taking id is (inr other) = inr other
 
-  overflow-taking : (one : Control S) (last : ℕ) (taking : Taking S) (run : List Step)
+  overflow-taking : (one : WriterOrder S) (last : ℕ) (taking : OrderOutcome S) (run : List Step)
       → Blamed taking one run → EndsAll taking
       → WouldOverflow 0 (steps_of (order_of one) last taking ++ run)
   overflow-taking one last Done run why ends = absurd ends
@@ -326,7 +338,7 @@ module _ {S : Type 0} where
   overflow-taking one last (HandedBack back) run why ends = absurd ends
 
 -- the core's senders stay, but for an Open
-pub brings-plain : (taking : Taking OutSender) (one : Control OutSender)
+pub brings-plain : (taking : OrderOutcome OutSender) (one : WriterOrder OutSender)
     (core cores : List (ℕ × OutSender))
     → OpensNone one → BringsBy taking one core cores → cores ≡ core
 brings-plain Done (control.Open id sender) core cores plain is = absurd plain
@@ -344,7 +356,7 @@ brings-plain (Unanswered id) one core cores plain is = is
 brings-plain (HandedBack back) one core cores plain is = is
 
 -- of an order that opens no call no sender's items matter
-pub unused-plain : (one : Control OutSender) → OpensNone one → IsUnused got one
+pub unused-plain : (one : WriterOrder OutSender) → OpensNone one → IsUnused got one
 unused-plain (control.Open id sender) plain = absurd plain
 unused-plain (control.Settings settings) plain = tt
 unused-plain (control.Ping bytes) plain = tt
@@ -388,7 +400,7 @@ blames-frames (frame ∷ frames) run = blames-frames frames run
 
 module _ {S : Type 0} where
   -- the core doesn't end the connection by an order that concerns no window
-  ends-none : (one : Control S) (taking : Taking S) (run : List Step)
+  ends-none : (one : WriterOrder S) (taking : OrderOutcome S) (run : List Step)
       → ((id : ℕ) → Concerns (PeerWindow id) one → ⊥) → Blamed taking one run → EndsAll taking → ⊥
   ends-none one Done run spares why ends = ends
   ends-none one (Ended id) run spares why ends = spares id why.0
@@ -396,7 +408,7 @@ module _ {S : Type 0} where
   ends-none one (HandedBack back) run spares why ends = ends
 
   -- by an order of the writer's own, and what comes behind it
-  blames-own : (order : Order) (last : ℕ) (taking : Taking S) (run : List Step)
+  blames-own : (order : Order) (last : ℕ) (taking : OrderOutcome S) (run : List Step)
       → blames_by order ≡ false → (EndsAll taking → ⊥)
       → blames_in (steps_of order last taking ++ run) ≡ blames_in run
   blames-own order last Done run none other = ap (λ (b : Bool). b || blames_in run) none
@@ -407,7 +419,7 @@ module _ {S : Type 0} where
   blames-own order last (HandedBack back) run none other = refl
 
   -- by the next order, and what comes behind it
-  blames-steps : (order : Order) (last : ℕ) (taking : Taking S) (run : List Step)
+  blames-steps : (order : Order) (last : ℕ) (taking : OrderOutcome S) (run : List Step)
       (orders : List Order)
       → (EndsAll taking → ⊥) → (blames_in run ≡ true → list_any blames_by orders ≡ true)
       → blames_in (steps_of order last taking ++ run) ≡ true
@@ -427,7 +439,7 @@ module _ {S : Type 0} where
       sym (any-more blames_by orders order)
       ∙ or-right (blames_by order) (list_any blames_by orders) (was is)
 
-  blames-more : (orders : List (Control S)) (order : Control S)
+  blames-more : (orders : List (WriterOrder S)) (order : WriterOrder S)
       → list_any blames_by (orders_of orders) ≡ true
       → list_any blames_by (orders_of (orders ++ order ∷ [])) ≡ true
   blames-more orders order is =
@@ -449,7 +461,7 @@ granted-frames (frame ∷ frames) run credit is =
     granted-none (Written frame) (map Written frames ++ run) credit refl
     (granted-frames frames run credit is)
 
-granted-steps : {S : Type 0} (order : Order) (last : ℕ) (taking : Taking S)
+granted-steps : {S : Type 0} (order : Order) (last : ℕ) (taking : OrderOutcome S)
     (run : List Step) (credit : ℕ)
     → granted 0 run ≡ credit → granted 0 (steps_of order last taking ++ run) ≡ credit
 granted-steps order last Done run credit is = granted-none (Taken order) run credit refl is
@@ -474,13 +486,13 @@ granted-more id n run credit is = omega (arith, sum_by-cons (granted_by 0) (Gran
 -- ---- a warning
 
 -- it opens no stream, and concerns no window
-pub record IsMild (one : Control OutSender) : Type 0 where
+pub record IsMild (one : WriterOrder OutSender) : Type 0 where
   pub plain : OpensNone one
   pub spares : (id : ℕ) → Concerns (PeerWindow id) one → ⊥
   pub room : (run : List Step) → HasRoom (order_of one) run
   pub leaves : left_by (order_of one) ≡ []
 
-pub mild : (one : Control OutSender) → IsWarning one → IsMild one
+pub mild : (one : WriterOrder OutSender) → IsWarning one → IsMild one
 mild (control.Goaway last cause) own =
     record { plain = tt; spares = λ id concerns. concerns; room = λ run. tt; leaves = refl }
 mild (control.Probe bytes) own =
@@ -518,7 +530,7 @@ opens-it (control.Open n sender) = true
 opens-it _ = false
 
 module _ {J : Type 0} {naming : Ghosts J} where
-  pub among-opens : (orders : List (Control (Opening J naming))) (id : ℕ)
+  pub among-opens : (orders : List (WriterOrder (OpeningCall J naming))) (id : ℕ)
       → IsAmong (control.Open id tt) (orders_of orders)
       → (number : CallNumber J naming) × Contains (opens orders) (number, id)
   among-opens [] id among = absurd among
@@ -555,13 +567,14 @@ module _ {J : Type 0} {naming : Ghosts J} where
   among-opens (control.Close ∷ orders) id (inr among) = among-opens orders id among
 
   -- the next order is among those that were taken
-  aside-given : (next : Control (Opening J naming)) (given : List (Control (Opening J naming)))
-      (mid : Inbox (Opening J naming))
+  aside-given : (next : WriterOrder (OpeningCall J naming))
+      (given : List (WriterOrder (OpeningCall J naming)))
+      (mid : Inbox (OpeningCall J naming))
       → mid.set_aside ≡ None → HasGiven (given ++ next ∷ []) mid
       → given ++ next ∷ [] ≡ taken mid.ring
   aside-given next given mid none has =
       sym (append-nil (given ++ next ∷ []))
-      ∙ (ap (λ (one : Option (Control (Opening J naming))).
+      ∙ (ap (λ (one : Option (WriterOrder (OpeningCall J naming))).
       (given ++ next ∷ []) ++ order_in one) (sym none)
       ∙ has)
 
@@ -601,7 +614,7 @@ module _ {J W : Type 0} {naming : Ghosts J} {conn : ConnGhosts W} where
   -- by these steps no sender is lost
   abbrev pub GoesOn : List Step → Writing J W naming conn → Writing J W naming conn → Type 0
   GoesOn steps old new =
-      (orders : List (Control (Opening J naming))) (run : List Step) → Holds orders run old
+      (orders : List (WriterOrder (OpeningCall J naming))) (run : List Step) → Holds orders run old
       → Holds orders (steps ++ run) new
 
   pub goes-by : (steps : List Step) (old new : Writing J W naming conn) → SameSent old new
@@ -646,7 +659,7 @@ module _ {J W : Type 0} {naming : Ghosts J} {conn : ConnGhosts W} where
       (blames-frames frames) gave
 
   -- an order that opens no call and resets none that was left
-  goes-plain : {S : Type 0} (order : Order) (last : ℕ) (taking : Taking S)
+  goes-plain : {S : Type 0} (order : Order) (last : ℕ) (taking : OrderOutcome S)
       (old new : Writing J W naming conn)
       → ((k : ℕ) → opens_stream k order ≡ false) → left_by order ≡ [] → blames_by order ≡ false
       → (EndsAll taking → ⊥)
@@ -690,10 +703,10 @@ module _ {J W : Type 0} {naming : Ghosts J} {conn : ConnGhosts W} (contents : W 
   -- ---- frames
 
   -- frames are put into the buffer
-  pub fills-on : (filled : Option Filled) (old new : Writing J W naming conn)
+  pub fills-on : (filled : Option FillEnd) (old new : Writing J W naming conn)
       → Fills got (coming got ahead) contents failed filled old.frames new.frames
       → ((frames : List Frame) → GoesOn (map Written frames) old new)
-      → (lost : Bool) (orders : List (Control (Opening J naming)))
+      → (lost : Bool) (orders : List (WriterOrder (OpeningCall J naming)))
       (before : Option (List ℕ)) (credit : ℕ)
       → Runs contents failed lost orders before credit old
       → Runs contents failed lost orders before credit new
@@ -736,22 +749,22 @@ module _ {J W : Type 0} {naming : Ghosts J} {conn : ConnGhosts W} (contents : W 
       )
 
   -- so many that nothing is left to be written
-  pub fills-over : (filled : Filled) (old new : Writing J W naming conn)
+  pub fills-over : (filled : FillEnd) (old new : Writing J W naming conn)
       → Fills got (coming got ahead) contents failed (Some filled) old.frames new.frames
       → ((frames : List Frame) → GoesOn (map Written frames) old new) → filled ≡ Over
       → RunsOut contents failed old new
   fills-over filled old new fills goes over =
-      over-filled old new (subst (λ (found : Filled).
+      over-filled old new (subst (λ (found : FillEnd).
       Fills got (coming got ahead) contents failed (Some found) old.frames
       new.frames) over fills) goes
 
   -- the writer makes no more
-  pub fills-stopped : (filled : Filled) (old new : Writing J W naming conn)
+  pub fills-stopped : (filled : FillEnd) (old new : Writing J W naming conn)
       → Fills got (coming got ahead) contents failed (Some filled) old.frames new.frames
       → ((frames : List Frame) → GoesOn (map Written frames) old new) → filled ≡ Stopped
       → RunsOut contents failed old new
   fills-stopped filled old new fills goes stopped =
-      stopped-filled old new (subst (λ (found : Filled).
+      stopped-filled old new (subst (λ (found : FillEnd).
       Fills got (coming got ahead) contents failed (Some found) old.frames new.frames)
       stopped fills) goes
 
@@ -759,7 +772,7 @@ module _ {J W : Type 0} {naming : Ghosts J} {conn : ConnGhosts W} (contents : W 
   pub grants-on : (id n : ℕ) (old new : Writing J W naming conn)
       → WritesOn got contents failed (Granted id n ∷ []) old.frames new.frames
       → GoesOn (Granted id n ∷ []) old new
-      → (credit : ℕ) (lost : Bool) (orders : List (Control (Opening J naming)))
+      → (credit : ℕ) (lost : Bool) (orders : List (WriterOrder (OpeningCall J naming)))
       (before : Option (List ℕ))
       → Runs contents failed lost orders before credit old
       → Runs contents failed lost orders before (credit + granted_by 0 (Granted id n)) new
@@ -774,7 +787,7 @@ module _ {J W : Type 0} {naming : Ghosts J} {conn : ConnGhosts W} (contents : W 
   -- no step
   pub runs-same : (lost : Bool) (old new : Writing J W naming conn)
       → WritesOn got contents failed [] old.frames new.frames → GoesOn [] old new
-      → (orders : List (Control (Opening J naming))) (before : Option (List ℕ)) (credit : ℕ)
+      → (orders : List (WriterOrder (OpeningCall J naming))) (before : Option (List ℕ)) (credit : ℕ)
       → Runs contents failed lost orders before credit old
       → Runs contents failed lost orders before credit new
   runs-same lost old new on goes orders before credit runs =
@@ -866,7 +879,7 @@ module _ {J W : Type 0} {naming : Ghosts J} {conn : ConnGhosts W} (contents : W 
   -- between writers of the same frames
   runs-between : (lost : Bool) (old new : Writing J W naming conn) → new.frames ≡ old.frames
       → SameSent old new → new.blames ≡ old.blames
-      → (orders : List (Control (Opening J naming))) (before : Option (List ℕ)) (credit : ℕ)
+      → (orders : List (WriterOrder (OpeningCall J naming))) (before : Option (List ℕ)) (credit : ℕ)
       → Runs contents failed lost orders before credit old
       → Runs contents failed lost orders before credit new
   runs-between lost old new frames same blames orders before credit runs = (
@@ -882,7 +895,7 @@ module _ {J W : Type 0} {naming : Ghosts J} {conn : ConnGhosts W} (contents : W 
 
   ends-between : (lost : Bool) (old new : Writing J W naming conn) → new.frames ≡ old.frames
       → SameSent old new → new.blames ≡ old.blames
-      → (orders : List (Control (Opening J naming))) (before : Option (List ℕ)) (credit : ℕ)
+      → (orders : List (WriterOrder (OpeningCall J naming))) (before : Option (List ℕ)) (credit : ℕ)
       → Ends contents failed lost orders before credit old
       → Ends contents failed lost orders before credit new
   ends-between lost old new frames same blames orders before credit ends = (
@@ -900,7 +913,7 @@ module _ {J W : Type 0} {naming : Ghosts J} {conn : ConnGhosts W} (contents : W 
   -- ---- orders
 
   -- the core was given an order that opens no call, and none was lost before
-  pub given-on : (one : Control OutSender) (last : ℕ) (taking : Taking OutSender)
+  pub given-on : (one : WriterOrder OutSender) (last : ℕ) (taking : OrderOutcome OutSender)
       (old new : Writing J W naming conn)
       → OpensNone one
       → WritesOn got contents failed (steps_of (order_of one) last taking) old.frames new.frames
@@ -958,7 +971,8 @@ module _ {J W : Type 0} {naming : Ghosts J} {conn : ConnGhosts W} (contents : W 
       takes orders one before credit is
       (runs-between false old mid frames same blames orders before credit runs)
 
-  pub begins-from : (order : Control (Opening J naming)) (old mid new : Writing J W naming conn)
+  pub begins-from : (order : WriterOrder (OpeningCall J naming))
+      (old mid new : Writing J W naming conn)
       → mid.frames ≡ old.frames → SameSent old mid → mid.blames ≡ old.blames
       → Begins contents failed order mid new
       → Begins contents failed order old new
@@ -973,7 +987,8 @@ module _ {J W : Type 0} {naming : Ghosts J} {conn : ConnGhosts W} (contents : W 
       parts orders before credit
       (runs-between true old mid frames same blames orders before credit runs)
 
-  pub passes-from : (order : Control (Opening J naming)) (old mid new : Writing J W naming conn)
+  pub passes-from : (order : WriterOrder (OpeningCall J naming))
+      (old mid new : Writing J W naming conn)
       → mid.frames ≡ old.frames → SameSent old mid → mid.blames ≡ old.blames
       → PassesOver contents failed order mid new
       → PassesOver contents failed order old new
@@ -982,7 +997,7 @@ module _ {J W : Type 0} {naming : Ghosts J} {conn : ConnGhosts W} (contents : W 
       (runs-between true old mid frames same blames orders before credit runs)
 
   -- a call begins
-  pub begins-on : (id : ℕ) (opening : Opening J naming) (sender : OutSender)
+  pub begins-on : (id : ℕ) (opening : OpeningCall J naming) (sender : OutSender)
       (old new : Writing J W naming conn)
       → WritesOn got contents failed (Taken (control.Open id tt) ∷ []) old.frames new.frames
       → numbers new.sends.calls.items
@@ -1011,7 +1026,7 @@ module _ {J W : Type 0} {naming : Ghosts J} {conn : ConnGhosts W} (contents : W 
   )
 
   -- a GOAWAY of the writer's own
-  pub parting-on : (last : ℕ) (taking : Taking OutSender) (old new : Writing J W naming conn)
+  pub parting-on : (last : ℕ) (taking : OrderOutcome OutSender) (old new : Writing J W naming conn)
       → WritesOn got contents failed (steps_of (control.Goaway last reason.Memory) last taking)
       old.frames new.frames
       → ((before : Option (List ℕ)) (run : List Step)
@@ -1030,7 +1045,7 @@ module _ {J W : Type 0} {naming : Ghosts J} {conn : ConnGhosts W} (contents : W 
   )
 
   -- a Close where orders were lost
-  pub closing-on : (last : ℕ) (taking : Taking OutSender) (old new : Writing J W naming conn)
+  pub closing-on : (last : ℕ) (taking : OrderOutcome OutSender) (old new : Writing J W naming conn)
       → WritesOn got contents failed (steps_of control.Close last taking) old.frames new.frames
       → ((before : Option (List ℕ)) (run : List Step)
       → Wrote got contents failed before run old.frames → Blamed taking control.Close run)
@@ -1065,7 +1080,7 @@ module _ {J W : Type 0} {naming : Ghosts J} {conn : ConnGhosts W} (contents : W 
       )
 
   -- another order there, which opens no call
-  pub passes-by : (order : Control (Opening J naming)) (old new : Writing J W naming conn)
+  pub passes-by : (order : WriterOrder (OpeningCall J naming)) (old new : Writing J W naming conn)
       → OpensNone order → new.frames ≡ old.frames → SameSent old new → new.blames ≡ old.blames
       → PassesOver contents failed order old new
   passes-by order old new plain frames same blames orders before credit runs = (
@@ -1088,10 +1103,10 @@ module _ {J W : Type 0} {naming : Ghosts J} {conn : ConnGhosts W} (contents : W 
   )
 
   -- and one that opens a call: its sender is handed back
-  pub passes-open : (id : ℕ) (opening : Opening J naming) (old new : Writing J W naming conn)
+  pub passes-open : (id : ℕ) (opening : OpeningCall J naming) (old new : Writing J W naming conn)
       → new.frames ≡ old.frames → numbers new.sends.calls.items ≡ numbers old.sends.calls.items
       → new.blames ≡ old.blames
-      → ((returning : Returning J naming) × (returning.sending ≡ opening.sending)
+      → ((returning : ReturningCall J naming) × (returning.sending ≡ opening.sending)
       × (put_in new.sends.home ≡ put_in old.sends.home ++ returning ∷ []))
       → PassesOver contents failed (control.Open id opening) old new
   passes-open id opening old new frames same blames home orders before credit runs = (
@@ -1121,7 +1136,8 @@ module _ {J W : Type 0} {naming : Ghosts J} {conn : ConnGhosts W} (contents : W 
   )
 
   -- a reset of the writer's own
-  pub resetting-on : (id last : ℕ) (taking : Taking OutSender) (old new : Writing J W naming conn)
+  pub resetting-on : (id last : ℕ) (taking : OrderOutcome OutSender)
+      (old new : Writing J W naming conn)
       → WritesOn got contents failed (steps_of (control.Reset id InternalError true) last taking)
       old.frames new.frames
       → ((before : Option (List ℕ)) (run : List Step)
@@ -1129,7 +1145,7 @@ module _ {J W : Type 0} {naming : Ghosts J} {conn : ConnGhosts W} (contents : W 
       → Blamed taking (control.Reset id InternalError true) run)
       → core_of new ≡ core_of old → SameSent old new → new.blames ≡ old.blames
       → GaveLeft id (calls got (core_of old))
-      → (orders : List (Control (Opening J naming))) (before : Option (List ℕ)) (credit : ℕ)
+      → (orders : List (WriterOrder (OpeningCall J naming))) (before : Option (List ℕ)) (credit : ℕ)
       → IsAmong (control.Open id tt) (orders_of orders)
       → list_any ends_input (orders_of orders) ≡ false
       → Runs contents failed false orders before credit old
@@ -1164,7 +1180,7 @@ module _ {J W : Type 0} {naming : Ghosts J} {conn : ConnGhosts W} (contents : W 
       one-more k ids (zero, within, at) = inl (sym at)
       one-more k ids (suc n, within, at) = inr (n, omega (arith, within), at)
 
-      lefts : (taking : Taking OutSender) (k : ℕ) (run : List Step)
+      lefts : (taking : OrderOutcome OutSender) (k : ℕ) (run : List Step)
           → Blamed taking (control.Reset id InternalError true) run
           → Contains (left_in (steps_of (control.Reset id InternalError true) last taking ++ run)) k
           → (k ≡ id) ⊎ Contains (left_in run) k
@@ -1174,7 +1190,7 @@ module _ {J W : Type 0} {naming : Ghosts J} {conn : ConnGhosts W} (contents : W 
       lefts (HandedBack back) k run why there = inr there
 
   -- a warning of the writer's own
-  warning-on : (one : Control OutSender) (last : ℕ) (taking : Taking OutSender)
+  warning-on : (one : WriterOrder OutSender) (last : ℕ) (taking : OrderOutcome OutSender)
       (old new : Writing J W naming conn)
       → IsWarning one
       → WritesOn got contents failed (steps_of (order_of one) last taking) old.frames new.frames
@@ -1183,7 +1199,7 @@ module _ {J W : Type 0} {naming : Ghosts J} {conn : ConnGhosts W} (contents : W 
       → ((before : Option (List ℕ)) (run : List Step)
       → Wrote got contents failed before run old.frames → Warns (order_of one) run)
       → core_of new ≡ core_of old → SameSent old new → new.blames ≡ old.blames
-      → (orders : List (Control (Opening J naming))) (before : Option (List ℕ)) (credit : ℕ)
+      → (orders : List (WriterOrder (OpeningCall J naming))) (before : Option (List ℕ)) (credit : ℕ)
       → Runs contents failed false orders before credit old
       → Runs contents failed false orders before credit new
   warning-on one last taking old new own on blamed warns core same blames orders
@@ -1276,33 +1292,34 @@ module _ {J W : Type 0} {naming : Ghosts J} {conn : ConnGhosts W} (contents : W 
   -- no order is taken
   pub leads-to : (had has : ℕ) (old new : Writing J W naming conn) → new.inbox ≡ old.inbox
       → SameKnown old new
-      → ((lost : Bool) (orders : List (Control (Opening J naming))) (before : Option (List ℕ))
+      → ((lost : Bool) (orders : List (WriterOrder (OpeningCall J naming)))
+      (before : Option (List ℕ))
       → Runs contents failed lost orders before had old
       → Runs contents failed lost orders before has new)
       → LeadsTo contents failed had old has new
   leads-to had has old new same known on = record {
-    name = ap (λ (inbox : Inbox (Opening J naming)). out_name inbox.ring) same;
+    name = ap (λ (inbox : Inbox (OpeningCall J naming)). out_name inbox.ring) same;
     way = known.way;
     on = λ before led. (
       led.0,
-      subst (λ (inbox : Inbox (Opening J naming)). HasGiven led.0 inbox) (sym same) led.1,
-      subst (λ (inbox : Inbox (Opening J naming)).
+      subst (λ (inbox : Inbox (OpeningCall J naming)). HasGiven led.0 inbox) (sym same) led.1,
+      subst (λ (inbox : Inbox (OpeningCall J naming)).
           Runs contents failed inbox.has_lost led.0 before has new) (sym same)
           (on old.inbox.has_lost led.0 before led.2),
       knows-same (orders_of led.0) old new (λ kept.
-          sym (ap (λ (inbox : Inbox (Opening J naming)). inbox.has_lost) same)
+          sym (ap (λ (inbox : Inbox (OpeningCall J naming)). inbox.has_lost) same)
           ∙ kept) known led.3,
     );
   }
 
   pub leads-still : (old new : Writing J W naming conn) → new.inbox ≡ old.inbox → SameKnown old new
-      → ((lost : Bool) (orders : List (Control (Opening J naming)))
+      → ((lost : Bool) (orders : List (WriterOrder (OpeningCall J naming)))
       (before : Option (List ℕ)) (credit : ℕ)
       → Runs contents failed lost orders before credit old
       → Runs contents failed lost orders before credit new)
       → LeadsOn contents failed old new
   leads-still old new same known on = record {
-    name = ap (λ (inbox : Inbox (Opening J naming)). out_name inbox.ring) same;
+    name = ap (λ (inbox : Inbox (OpeningCall J naming)). out_name inbox.ring) same;
     way = known.way;
     on = λ before credit.
         (leads-to credit credit old new same known
@@ -1313,12 +1330,12 @@ module _ {J W : Type 0} {naming : Ghosts J} {conn : ConnGhosts W} (contents : W 
       → RunsOut contents failed old new → LeadsOut contents failed old new
   leads-out old new same known out before credit led = (
     led.0,
-    subst (λ (inbox : Inbox (Opening J naming)). HasGiven led.0 inbox) (sym same) led.1,
-    subst (λ (inbox : Inbox (Opening J naming)).
+    subst (λ (inbox : Inbox (OpeningCall J naming)). HasGiven led.0 inbox) (sym same) led.1,
+    subst (λ (inbox : Inbox (OpeningCall J naming)).
         Ends contents failed inbox.has_lost led.0 before credit new) (sym same)
         (out old.inbox.has_lost led.0 before credit led.2),
     knows-same (orders_of led.0) old new (λ kept.
-        sym (ap (λ (inbox : Inbox (Opening J naming)). inbox.has_lost) same)
+        sym (ap (λ (inbox : Inbox (OpeningCall J naming)). inbox.has_lost) same)
         ∙ kept) known led.3,
   )
 
@@ -1330,7 +1347,7 @@ module _ {J W : Type 0} {naming : Ghosts J} {conn : ConnGhosts W} (contents : W 
       → Stays contents failed old new
   stays-by old new same kept_too known on = record {
     leads = record {
-      name = ap (λ (inbox : Inbox (Opening J naming)). out_name inbox.ring) same;
+      name = ap (λ (inbox : Inbox (OpeningCall J naming)). out_name inbox.ring) same;
       way = known.way;
       on = λ before credit led. (
         led.0,
@@ -1347,10 +1364,10 @@ module _ {J W : Type 0} {naming : Ghosts J} {conn : ConnGhosts W} (contents : W 
     );
   }
     where
-      given-on-to : (given : List (Control (Opening J naming))) → HasGiven given old.inbox
+      given-on-to : (given : List (WriterOrder (OpeningCall J naming))) → HasGiven given old.inbox
           → HasGiven given new.inbox
       given-on-to given has =
-          subst (λ (inbox : Inbox (Opening J naming)). HasGiven given inbox) (sym same) has
+          subst (λ (inbox : Inbox (OpeningCall J naming)). HasGiven given inbox) (sym same) has
 
   -- an order is looked at
   pub stays-with : (old new : Writing J W naming conn) → Keeps old.inbox new.inbox
@@ -1383,10 +1400,10 @@ module _ {J W : Type 0} {naming : Ghosts J} {conn : ConnGhosts W} (contents : W 
       → Stays contents failed old new
   stays-same old new inbox known same frames blames =
       stays-with old new (record {
-        name = ap (λ (i : Inbox (Opening J naming)). out_name i.ring) inbox;
-        lost = ap (λ (i : Inbox (Opening J naming)). i.has_lost) inbox;
+        name = ap (λ (i : Inbox (OpeningCall J naming)). out_name i.ring) inbox;
+        lost = ap (λ (i : Inbox (OpeningCall J naming)). i.has_lost) inbox;
         given = λ given has.
-            subst (λ (i : Inbox (Opening J naming)). HasGiven given i) (sym inbox) has;
+            subst (λ (i : Inbox (OpeningCall J naming)). HasGiven given i) (sym inbox) has;
       }) known same frames blames
 
   -- ---- an order is looked for
@@ -1399,17 +1416,18 @@ module _ {J W : Type 0} {naming : Ghosts J} {conn : ConnGhosts W} (contents : W 
     name = gives.name;
     lost = gives.lost;
     given = λ given has.
-        subst (λ (all : List (Control (Opening J naming))). HasGiven all new.inbox)
+        subst (λ (all : List (WriterOrder (OpeningCall J naming))). HasGiven all new.inbox)
         (append-nil given) (gives.given given has);
   }) known same frames blames).leads
 
   -- what is given comes back, and may be set aside as lost
-  pub leads-back : (next : Control (Opening J naming)) (old new : Writing J W naming conn)
-      (mid : Inbox (Opening J naming))
+  pub leads-back : (next : WriterOrder (OpeningCall J naming)) (old new : Writing J W naming conn)
+      (mid : Inbox (OpeningCall J naming))
       → Gives (Some next) old.inbox mid → new.inbox.ring ≡ mid.ring
       → new.inbox.set_aside ≡ Some next
       → (new.inbox.has_lost ≡ false → old.inbox.has_lost ≡ false) → SameKnown old new
-      → ((orders : List (Control (Opening J naming))) (before : Option (List ℕ)) (credit : ℕ)
+      → ((orders : List (WriterOrder (OpeningCall J naming)))
+      (before : Option (List ℕ)) (credit : ℕ)
       → Runs contents failed old.inbox.has_lost orders before credit old
       → Runs contents failed new.inbox.has_lost orders before credit new)
       → LeadsOn contents failed old new
@@ -1418,7 +1436,7 @@ module _ {J W : Type 0} {naming : Ghosts J} {conn : ConnGhosts W} (contents : W 
     way = known.way;
     on = λ before credit led. (
       led.0,
-      ap (λ (one : Option (Control (Opening J naming))). led.0 ++ order_in one) aside
+      ap (λ (one : Option (WriterOrder (OpeningCall J naming))). led.0 ++ order_in one) aside
           ∙ (aside-given next led.0 mid gives.none_aside (gives.given led.0 led.1)
           ∙ ap (λ r. taken r) (sym ring)),
       on led.0 before credit led.2,
@@ -1426,8 +1444,8 @@ module _ {J W : Type 0} {naming : Ghosts J} {conn : ConnGhosts W} (contents : W 
     );
   }
 
-  led-next : (next : Control (Opening J naming)) (old new : Writing J W naming conn)
-      (mid : Inbox (Opening J naming)) (before : Option (List ℕ)) (credit : ℕ)
+  led-next : (next : WriterOrder (OpeningCall J naming)) (old new : Writing J W naming conn)
+      (mid : Inbox (OpeningCall J naming)) (before : Option (List ℕ)) (credit : ℕ)
       → Gives (Some next) old.inbox mid
       → new.inbox ≡ record mid { has_lost = new.inbox.has_lost }
       → (led : Led contents failed before credit old)
@@ -1435,24 +1453,25 @@ module _ {J W : Type 0} {naming : Ghosts J} {conn : ConnGhosts W} (contents : W 
       → Knows (orders_of led.0 ++ order_of next ∷ []) new → Led contents failed before credit new
   led-next next old new mid before credit gives same led runs knows = (
     led.0 ++ next ∷ [],
-    subst (λ (inbox : Inbox (Opening J naming)). HasGiven (led.0 ++ next ∷ []) inbox) (sym same)
+    subst (λ (inbox : Inbox (OpeningCall J naming)). HasGiven (led.0 ++ next ∷ []) inbox) (sym same)
         (gives.given led.0 led.1),
     runs,
     subst (λ (orders : List Order). Knows orders new) (sym (given-next led.0 next)) knows,
   )
 
   -- the next order is taken
-  pub leads-taken : (next : Control (Opening J naming)) (old new : Writing J W naming conn)
-      (mid : Inbox (Opening J naming))
+  pub leads-taken : (next : WriterOrder (OpeningCall J naming)) (old new : Writing J W naming conn)
+      (mid : Inbox (OpeningCall J naming))
       → Gives (Some next) old.inbox mid → mid.has_lost ≡ false
       → new.inbox ≡ record mid { has_lost = new.inbox.has_lost }
-      → ((orders : List (Control (Opening J naming))) (before : Option (List ℕ)) (credit : ℕ)
+      → ((orders : List (WriterOrder (OpeningCall J naming)))
+      (before : Option (List ℕ)) (credit : ℕ)
       → Runs contents failed false orders before credit old
       → Runs contents failed new.inbox.has_lost (orders ++ next ∷ []) before credit new)
       → Heeds (order_of next) old new → in_name new.sends.home ≡ in_name old.sends.home
       → LeadsOn contents failed old new
   leads-taken next old new mid gives kept same takes heeds way = record {
-    name = ap (λ (inbox : Inbox (Opening J naming)). out_name inbox.ring) same ∙ gives.name;
+    name = ap (λ (inbox : Inbox (OpeningCall J naming)). out_name inbox.ring) same ∙ gives.name;
     way = way;
     on = λ before credit led.
         led-next next old new mid before credit gives same led
@@ -1464,14 +1483,14 @@ module _ {J W : Type 0} {naming : Ghosts J} {conn : ConnGhosts W} (contents : W 
   }
 
   -- it is passed over
-  pub leads-passed : (next : Control (Opening J naming)) (old new : Writing J W naming conn)
-      (mid : Inbox (Opening J naming))
+  pub leads-passed : (next : WriterOrder (OpeningCall J naming)) (old new : Writing J W naming conn)
+      (mid : Inbox (OpeningCall J naming))
       → Gives (Some next) old.inbox mid → mid.has_lost ≡ true → new.inbox ≡ mid
       → PassesOver contents failed next old new
       → new.closed ≡ (closes (order_of next) || old.closed)
       → in_name new.sends.home ≡ in_name old.sends.home → LeadsOn contents failed old new
   leads-passed next old new mid gives lost same passes heeds way = record {
-    name = ap (λ (inbox : Inbox (Opening J naming)). out_name inbox.ring) same ∙ gives.name;
+    name = ap (λ (inbox : Inbox (OpeningCall J naming)). out_name inbox.ring) same ∙ gives.name;
     way = way;
     on = λ before credit led.
         let runs =
@@ -1480,13 +1499,14 @@ module _ {J W : Type 0} {naming : Ghosts J} {conn : ConnGhosts W} (contents : W 
         (sym gives.lost ∙ lost) led.2) in
         led-next next old new mid before credit gives (same
         ∙ ap (λ (was : Bool). record mid { has_lost = was })
-        (sym (ap (λ (inbox : Inbox (Opening J naming)). inbox.has_lost) same))) led
+        (sym (ap (λ (inbox : Inbox (OpeningCall J naming)). inbox.has_lost) same))) led
         (subst (λ (was : Bool). Runs contents failed was (led.0 ++ next ∷ []) before credit new)
-        (sym (ap (λ (inbox : Inbox (Opening J naming)). inbox.has_lost) same ∙ lost)) runs)
+        (sym (ap (λ (inbox : Inbox (OpeningCall J naming)). inbox.has_lost) same ∙ lost)) runs)
         (record {
           input = λ kept.
               absurd (true≢false
-              (sym (ap (λ (inbox : Inbox (Opening J naming)). inbox.has_lost) same ∙ lost) ∙ kept));
+              (sym (ap (λ (inbox : Inbox (OpeningCall J naming)). inbox.has_lost) same ∙ lost)
+              ∙ kept));
           closed = closed-more (order_of next) (orders_of led.0) old new heeds led.3.closed;
         });
   }
@@ -1496,23 +1516,23 @@ module _ {J W : Type 0} {naming : Ghosts J} {conn : ConnGhosts W} (contents : W 
       → new.inbox ≡ old.inbox → SameKnown old new → Parts contents failed old new
       → LeadsOn contents failed old new
   leads-parting old new lost same known parts = record {
-    name = ap (λ (inbox : Inbox (Opening J naming)). out_name inbox.ring) same;
+    name = ap (λ (inbox : Inbox (OpeningCall J naming)). out_name inbox.ring) same;
     way = known.way;
     on = λ before credit led. (
       led.0,
-      subst (λ (inbox : Inbox (Opening J naming)). HasGiven led.0 inbox) (sym same) led.1,
+      subst (λ (inbox : Inbox (OpeningCall J naming)). HasGiven led.0 inbox) (sym same) led.1,
       subst (λ (was : Bool). Runs contents failed was led.0 before credit new)
-          (sym (ap (λ (inbox : Inbox (Opening J naming)). inbox.has_lost) same ∙ lost))
+          (sym (ap (λ (inbox : Inbox (OpeningCall J naming)). inbox.has_lost) same ∙ lost))
           (parts led.0 before credit
           (subst (λ (was : Bool). Runs contents failed was led.0 before credit old) lost led.2)),
       knows-same (orders_of led.0) old new (λ kept.
-          sym (ap (λ (inbox : Inbox (Opening J naming)). inbox.has_lost) same)
+          sym (ap (λ (inbox : Inbox (OpeningCall J naming)). inbox.has_lost) same)
           ∙ kept) known led.3,
     );
   }
 
   -- a warning of the writer's own
-  pub leads-warning : (one : Control OutSender) (last : ℕ) (taking : Taking OutSender)
+  pub leads-warning : (one : WriterOrder OutSender) (last : ℕ) (taking : OrderOutcome OutSender)
       (old new : Writing J W naming conn)
       → IsWarning one → old.inbox.has_lost ≡ false → new.inbox ≡ old.inbox → SameKnown old new
       → WritesOn got contents failed (steps_of (order_of one) last taking) old.frames new.frames
@@ -1524,13 +1544,13 @@ module _ {J W : Type 0} {naming : Ghosts J} {conn : ConnGhosts W} (contents : W 
       → LeadsOn contents failed old new
   leads-warning one last taking old new own kept same known on blamed warns core
       sent blames = record {
-        name = ap (λ (inbox : Inbox (Opening J naming)). out_name inbox.ring) same;
+        name = ap (λ (inbox : Inbox (OpeningCall J naming)). out_name inbox.ring) same;
         way = known.way;
         on = λ before credit led. (
           led.0,
-          subst (λ (inbox : Inbox (Opening J naming)). HasGiven led.0 inbox) (sym same) led.1,
+          subst (λ (inbox : Inbox (OpeningCall J naming)). HasGiven led.0 inbox) (sym same) led.1,
           subst (λ (was : Bool). Runs contents failed was led.0 before credit new)
-              (sym (ap (λ (inbox : Inbox (Opening J naming)). inbox.has_lost) same ∙ kept))
+              (sym (ap (λ (inbox : Inbox (OpeningCall J naming)). inbox.has_lost) same ∙ kept))
               (warning-on one last taking old new own on blamed warns core sent blames
               led.0 before credit
               (subst (λ (was : Bool). Runs contents failed was led.0 before credit old) kept
@@ -1606,7 +1626,8 @@ module _ {J W : Type 0} {naming : Ghosts J} {conn : ConnGhosts W} where
 
 module _ {J W : Type 0} {naming : Ghosts J} {conn : ConnGhosts W} (contents : W → Option (List ℕ))
     (failed : W → Bool) where
-  runs-lost : (writer : Writing J W naming conn) (orders : List (Control (Opening J naming)))
+  runs-lost : (writer : Writing J W naming conn)
+      (orders : List (WriterOrder (OpeningCall J naming)))
       (before : Option (List ℕ)) (credit : ℕ)
       → Runs contents failed false orders before credit writer
       → Runs contents failed true orders before credit writer
@@ -1614,8 +1635,8 @@ module _ {J W : Type 0} {naming : Ghosts J} {conn : ConnGhosts W} (contents : W 
       (runs.0, runs.1, obeys-lost false (orders_of orders) runs.0 runs.2, runs.3, runs.4)
 
   -- a call begins, or its order is set aside as lost
-  pub leads-begun : (lost : Bool) (id : ℕ) (opening : Opening J naming)
-      (old new : Writing J W naming conn) (mid : Inbox (Opening J naming))
+  pub leads-begun : (lost : Bool) (id : ℕ) (opening : OpeningCall J naming)
+      (old new : Writing J W naming conn) (mid : Inbox (OpeningCall J naming))
       → new.inbox.has_lost ≡ lost → Gives (Some (control.Open id opening)) old.inbox mid
       → mid.has_lost ≡ false → new.inbox.ring ≡ mid.ring
       → (new.inbox.has_lost ≡ false → new.inbox ≡ mid)
@@ -1626,7 +1647,7 @@ module _ {J W : Type 0} {naming : Ghosts J} {conn : ConnGhosts W} (contents : W 
   leads-begun false id opening old new mid is gives kept ring whole aside begins parts known =
       leads-taken contents failed (control.Open id opening) old new mid gives kept (whole is
       ∙ ap (λ (was : Bool). record mid { has_lost = was })
-      (sym (ap (λ (i : Inbox (Opening J naming)). i.has_lost) (whole is))))
+      (sym (ap (λ (i : Inbox (OpeningCall J naming)). i.has_lost) (whole is))))
       (λ orders before credit runs.
       subst (λ (lost : Bool).
       Runs contents failed lost (orders ++ control.Open id opening ∷ []) before credit new) (sym is)
@@ -1643,8 +1664,8 @@ module _ {J W : Type 0} {naming : Ghosts J} {conn : ConnGhosts W} (contents : W 
       (sym gives.lost ∙ kept) runs))))
 
   -- an order is passed over, or it is set aside until there is a place for its sender
-  pub leads-over : (result : Took) (next : Control (Opening J naming))
-      (old new : Writing J W naming conn) (mid : Inbox (Opening J naming))
+  pub leads-over : (result : OrderStep) (next : WriterOrder (OpeningCall J naming))
+      (old new : Writing J W naming conn) (mid : Inbox (OpeningCall J naming))
       → Gives (Some next) old.inbox mid → mid.has_lost ≡ true
       → (result ≡ took.One → PassesOver contents failed next old new)
       → (result ≡ took.One → new.inbox ≡ mid)
@@ -1660,11 +1681,11 @@ module _ {J W : Type 0} {naming : Ghosts J} {conn : ConnGhosts W} (contents : W 
   leads-over took.Early next old new mid gives lost passes whole early either heeds way =
       let parts = early refl in
       leads-back contents failed next old new mid gives
-      (ap (λ (i : Inbox (Opening J naming)). i.ring) parts.0)
-      (ap (λ (i : Inbox (Opening J naming)). i.set_aside) parts.0)
+      (ap (λ (i : Inbox (OpeningCall J naming)). i.ring) parts.0)
+      (ap (λ (i : Inbox (OpeningCall J naming)). i.set_aside) parts.0)
       (λ still.
       absurd (true≢false
-      (sym (ap (λ (i : Inbox (Opening J naming)). i.has_lost) parts.0 ∙ lost) ∙ still))) parts.4
+      (sym (ap (λ (i : Inbox (OpeningCall J naming)). i.has_lost) parts.0 ∙ lost) ∙ still))) parts.4
       (λ orders before credit runs.
       subst (λ (was : Bool). Runs contents failed was orders before credit new) (gives-lost parts.0)
       (runs-between contents failed old.inbox.has_lost old new parts.1 parts.2 parts.3 orders
@@ -1672,7 +1693,8 @@ module _ {J W : Type 0} {naming : Ghosts J} {conn : ConnGhosts W} (contents : W 
     where
       gives-lost : new.inbox ≡ record mid { set_aside = Some next }
           → old.inbox.has_lost ≡ new.inbox.has_lost
-      gives-lost is = sym gives.lost ∙ sym (ap (λ (i : Inbox (Opening J naming)). i.has_lost) is)
+      gives-lost is =
+          sym gives.lost ∙ sym (ap (λ (i : Inbox (OpeningCall J naming)). i.has_lost) is)
   leads-over took.Nothing next old new mid gives lost passes whole early either heeds way =
       absurd (no (either (λ e. cc)))
     where
@@ -1695,7 +1717,8 @@ module _ {J W : Type 0} {naming : Ghosts J} {conn : ConnGhosts W} (contents : W 
       no e = cc
 
 module _ {J : Type 0} {naming : Ghosts J} where
-  opens-among : (orders : List (Control (Opening J naming))) (n : CallNumber J naming) (id : ℕ)
+  opens-among : (orders : List (WriterOrder (OpeningCall J naming)))
+      (n : CallNumber J naming) (id : ℕ)
       → Contains (opens orders) (n, id) → IsAmong (control.Open id tt) (orders_of orders)
   opens-among [] n id (k, within, at) = absurd (omega (arith, within))
   opens-among (control.Open stream opening ∷ orders) n id (zero, within, at) =
@@ -1717,7 +1740,7 @@ module _ {J : Type 0} {naming : Ghosts J} where
 module _ {J W : Type 0} {naming : Ghosts J} {conn : ConnGhosts W} (contents : W → Option (List ℕ))
     (failed : W → Bool) where
   -- an order opened the stream of each sender that the core has
-  opened-core : (orders : List (Control (Opening J naming))) (run : List Step)
+  opened-core : (orders : List (WriterOrder (OpeningCall J naming))) (run : List Step)
       (writer : Writing J W naming conn) (id : ℕ)
       → Holds orders run writer → GaveLeft id (calls got (core_of writer))
       → IsAmong (control.Open id tt) (orders_of orders)
@@ -1735,7 +1758,8 @@ module _ {J W : Type 0} {naming : Ghosts J} {conn : ConnGhosts W} (contents : W 
       (Contains-append_left (numbers writer.sends.calls.items) handed (call.0, id) call.1))
 
   -- a reset of a call that was left, where no order was lost and the input goes on
-  pub leads-reset : (id last : ℕ) (taking : Taking OutSender) (old new : Writing J W naming conn)
+  pub leads-reset : (id last : ℕ) (taking : OrderOutcome OutSender)
+      (old new : Writing J W naming conn)
       → old.inbox.has_lost ≡ false → old.input_ended ≡ false → new.inbox ≡ old.inbox
       → SameKnown old new
       → WritesOn got contents failed (steps_of (control.Reset id InternalError true) last taking)
@@ -1747,13 +1771,13 @@ module _ {J W : Type 0} {naming : Ghosts J} {conn : ConnGhosts W} (contents : W 
       → GaveLeft id (calls got (core_of old)) → LeadsOn contents failed old new
   leads-reset id last taking old new kept going same known on blamed core sent
       blames gave = record {
-        name = ap (λ (inbox : Inbox (Opening J naming)). out_name inbox.ring) same;
+        name = ap (λ (inbox : Inbox (OpeningCall J naming)). out_name inbox.ring) same;
         way = known.way;
         on = λ before credit led. (
           led.0,
-          subst (λ (inbox : Inbox (Opening J naming)). HasGiven led.0 inbox) (sym same) led.1,
+          subst (λ (inbox : Inbox (OpeningCall J naming)). HasGiven led.0 inbox) (sym same) led.1,
           subst (λ (was : Bool). Runs contents failed was led.0 before credit new)
-              (sym (ap (λ (inbox : Inbox (Opening J naming)). inbox.has_lost) same ∙ kept))
+              (sym (ap (λ (inbox : Inbox (OpeningCall J naming)). inbox.has_lost) same ∙ kept))
               (resetting-on contents failed id last taking old new on blamed core
               sent blames gave led.0
               before credit (opened-core led.0 led.2.0 old id led.2.3 gave)

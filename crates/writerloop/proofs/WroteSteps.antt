@@ -31,8 +31,8 @@ use Rattle.device.specs.Bytes.{AppendsPrefix}
 use Rattle.h2frame.specs.declared.error_code.ErrorCode.TheVariants.{FlowControlError}
 use Rattle.h2frame.specs.declared.frame.Frame.{Frame}
 use Rattle.h2frame.specs.Spelling.{spelled}
-use Rattle.outwriter.specs.declared.control.Control.{Control}
-use Rattle.outwriter.specs.declared.control.Control.TheVariants.{Reset, Goaway}
+use Rattle.outwriter.specs.declared.control.WriterOrder.{WriterOrder}
+use Rattle.outwriter.specs.declared.control.WriterOrder.TheVariants.{Reset, Goaway}
 use Rattle.outwriter.specs.declared.control.OutFault.{OutFault}
 use Rattle.outwriter.specs.declared.control.OutFault.TheVariants as out_fault
 use Rattle.outwriter.specs.declared.control.OutFault.TheVariants.{PeerWindow}
@@ -41,12 +41,12 @@ use Rattle.outwriter.specs.Cores.{IsUnused, Leads, LeadsControl, LeadsOn, LeadsS
 use Rattle.outwriter.specs.Frames.{goaway_frame}
 use Rattle.outwriter.specs.RunState.{Concerns}
 use Rattle.outwriter.specs.Steps.{Step, Order, Taken, Written, Returned, frames_of, order_of}
-use Rattle.writerloop.specs.declared.filled.Filled.{Filled}
+use Rattle.writerloop.specs.declared.fill_end.FillEnd.{FillEnd}
 use Rattle.writerloop.specs.declared.standing.Standing.{Standing}
 use Rattle.writerloop.specs.declared.standing.Standing.TheVariants.{Going, OutOfMemory, Broken}
 use Rattle.writerloop.specs.declared.frames.Frames.{Frames}
 use Rattle.writerloop.specs.OwnOrders.{own_control, own_order, parting}
-use Rattle.writerloop.specs.Spelled.{Holds, IsFront, IsAll, Parted, ended_by}
+use Rattle.writerloop.specs.Spelled.{Holds, IsFront, IsAll, IsParted, ended_by}
 use Rattle.writerloop.specs.Wrote.{Wrote, WritesOn, Fills, Puts, RestsIf}
 use Rattle.writerloop.proofs.SpelledLemmas.{
   parted-more,
@@ -72,38 +72,40 @@ not-broken-2 e = cc
 -- ---- what a core answers
 
 module _ {L In Out Shut : Type 0} (got : Out → List OutItem) where
-  own-unused-by : (is_zero : Bool) (last id : ℕ) (control : Control (Sender L In Out Shut))
+  own-unused-by : (is_zero : Bool) (last id : ℕ) (control : WriterOrder (Sender L In Out Shut))
       → control ≡ (if is_zero then Goaway last reason.Window else Reset id FlowControlError true)
       → IsUnused got control
   own-unused-by true last id control is =
-      subst (λ (c : Control (Sender L In Out Shut)). IsUnused got c) (sym is) tt
+      subst (λ (c : WriterOrder (Sender L In Out Shut)). IsUnused got c) (sym is) tt
   own-unused-by false last id control is =
-      subst (λ (c : Control (Sender L In Out Shut)). IsUnused got c) (sym is) tt
+      subst (λ (c : WriterOrder (Sender L In Out Shut)). IsUnused got c) (sym is) tt
 
-  own-order-by : (is_zero : Bool) (last id : ℕ) (control : Control (Sender L In Out Shut))
+  own-order-by : (is_zero : Bool) (last id : ℕ) (control : WriterOrder (Sender L In Out Shut))
       → control ≡ (if is_zero then Goaway last reason.Window else Reset id FlowControlError true)
       → order_of control
       ≡ (if is_zero then Goaway last reason.Window else Reset id FlowControlError true)
-  own-order-by true last id control is = ap (λ (c : Control (Sender L In Out Shut)). order_of c) is
-  own-order-by false last id control is = ap (λ (c : Control (Sender L In Out Shut)). order_of c) is
+  own-order-by true last id control is =
+      ap (λ (c : WriterOrder (Sender L In Out Shut)). order_of c) is
+  own-order-by false last id control is =
+      ap (λ (c : WriterOrder (Sender L In Out Shut)). order_of c) is
 
   own-blameless-by : (is_zero : Bool) (last id stream : ℕ)
-      (control : Control (Sender L In Out Shut))
+      (control : WriterOrder (Sender L In Out Shut))
       → control ≡ (if is_zero then Goaway last reason.Window else Reset id FlowControlError true)
       → Concerns (PeerWindow stream) control → ⊥
   own-blameless-by true last id stream control is h =
-      subst (λ (c : Control (Sender L In Out Shut)). Concerns (PeerWindow stream) c) is h
+      subst (λ (c : WriterOrder (Sender L In Out Shut)). Concerns (PeerWindow stream) c) is h
   own-blameless-by false last id stream control is h =
-      subst (λ (c : Control (Sender L In Out Shut)). Concerns (PeerWindow stream) c) is h
+      subst (λ (c : WriterOrder (Sender L In Out Shut)). Concerns (PeerWindow stream) c) is h
 
   -- the peer's window doesn't overflow by an order of the writer's own
-  pub own-blameless : (last id stream : ℕ) (control : Control (Sender L In Out Shut))
+  pub own-blameless : (last id stream : ℕ) (control : WriterOrder (Sender L In Out Shut))
       → control ≡ own_control last id
       → Concerns (PeerWindow stream) control → ⊥
   own-blameless last id stream control is = own-blameless-by (id == 0) last id stream control is
 
   -- what the core answers to an order of the writer's own
-  pub own-leads : (last id : ℕ) (control : Control (Sender L In Out Shut))
+  pub own-leads : (last id : ℕ) (control : WriterOrder (Sender L In Out Shut))
       (old core : OutCore L In Out Shut)
       → control ≡ own_control last id
       → (IsUnused got control → LeadsOn got (Taken (order_of control)) old core)
@@ -115,7 +117,8 @@ module _ {L In Out Shut : Type 0} (got : Out → List OutItem) where
 
   -- out of memory
   pub handed-leads : (fault : OutFault (Sender L In Out Shut))
-      (back : Option (Control (Sender L In Out Shut))) (control : Control (Sender L In Out Shut))
+      (back : Option (WriterOrder (Sender L In Out Shut)))
+      (control : WriterOrder (Sender L In Out Shut))
       (old core : OutCore L In Out Shut)
       → fault ≡ out_fault.OutOfMemory back → LeadsControl got (Err fault) control old core
       → LeadsStill got old core
@@ -123,15 +126,15 @@ module _ {L In Out Shut : Type 0} (got : Out → List OutItem) where
       (subst (λ (f : OutFault (Sender L In Out Shut)).
       LeadsControl got (Err f) control old core) is leads).1
 
-  abbrev some-of : Control (Sender L In Out Shut) → Option (Control (Sender L In Out Shut))
-      → Control (Sender L In Out Shut)
+  abbrev some-of : WriterOrder (Sender L In Out Shut) → Option (WriterOrder (Sender L In Out Shut))
+      → WriterOrder (Sender L In Out Shut)
   some-of other None = other
   some-of other (Some found) = found
 
   -- what is handed back is the order
   pub handed-back : (fault : OutFault (Sender L In Out Shut))
-      (back : Option (Control (Sender L In Out Shut)))
-      (one control : Control (Sender L In Out Shut)) (old core : OutCore L In Out Shut)
+      (back : Option (WriterOrder (Sender L In Out Shut)))
+      (one control : WriterOrder (Sender L In Out Shut)) (old core : OutCore L In Out Shut)
       → fault ≡ out_fault.OutOfMemory back → back ≡ Some one
       → LeadsControl got (Err fault) control old core → one ≡ control
   handed-back fault back one control old core is some leads =
@@ -141,14 +144,14 @@ module _ {L In Out Shut : Type 0} (got : Out → List OutItem) where
 
   -- a fault of the peer's is that of the order
   pub overflow-whose : (fault : OutFault (Sender L In Out Shut)) (id : ℕ)
-      (control : Control (Sender L In Out Shut))
+      (control : WriterOrder (Sender L In Out Shut))
       → fault ≡ PeerWindow id → Concerns fault control → Concerns (PeerWindow id) control
   overflow-whose fault id control is concerns =
       subst (λ (f : OutFault (Sender L In Out Shut)). Concerns f control) is concerns
 
   -- the peer's window overflows
   pub overflow-leads : (fault : OutFault (Sender L In Out Shut)) (id : ℕ)
-      (control : Control (Sender L In Out Shut)) (old core : OutCore L In Out Shut)
+      (control : WriterOrder (Sender L In Out Shut)) (old core : OutCore L In Out Shut)
       → fault ≡ PeerWindow id → LeadsControl got (Err fault) control old core
       → LeadsOn got (Taken (order_of control)) old core
   overflow-leads fault id control old core is leads =
@@ -233,7 +236,7 @@ module _ {L In Out Shut W : Type 0} (got : Out → List OutItem) (contents : W �
   )
 
   -- frames, and then frames
-  pub fills-then : (ahead : Out → List OutItem) (filled : Option Filled)
+  pub fills-then : (ahead : Out → List OutItem) (filled : Option FillEnd)
       (old mid new : Frames L W In Out Shut)
       → Fills got ahead contents failed None old mid
       → Fills got ahead contents failed filled mid new
@@ -273,7 +276,7 @@ module _ {L In Out Shut W : Type 0} (got : Out → List OutItem) (contents : W �
         leads = leads run w.leads;
         bytes = rw (standing, memory, device, buffer, ended)
             (subst (λ (ids : List ℕ).
-            Parted (frame ∷ frames_of run) before (contents old.device)
+            IsParted (frame ∷ frames_of run) before (contents old.device)
             (old.buffer.items ++ spelled frame) ids)
             (ap (λ (f : Frame). old.ended.items ++ ended_by (f ∷ [])) is
             ∙ append-nil old.ended.items)

@@ -3,7 +3,7 @@
 -- A run has the latest first.
 use Rattle.reasons.specs.declared.Reason.TheVariants as reason
 use Rattle.std.specs.Prelude.{◌≡◌, ◌||◌, ℕ, Bool, true, false, List, [], ◌∷◌, ◌++◌}
-use Rattle.outwriter.specs.declared.control.Control.TheVariants.{Goaway}
+use Rattle.outwriter.specs.declared.control.WriterOrder.TheVariants.{Goaway}
 use Rattle.outwriter.specs.declared.control.OutFault.TheVariants.{PeerWindow}
 use Rattle.outwriter.specs.RunState.{Blames, Concerns}
 use Rattle.outwriter.specs.Steps.{Order, Step, Taken, Granted, Written, Returned}

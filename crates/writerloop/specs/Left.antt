@@ -2,7 +2,7 @@
 -- 9113, section 7). A run has the latest first.
 use Rattle.std.specs.Prelude.{ℕ, true, List, [], ◌∷◌, ◌++◌}
 use Rattle.h2frame.specs.declared.error_code.ErrorCode.TheVariants.{InternalError}
-use Rattle.outwriter.specs.declared.control.Control.TheVariants.{Reset}
+use Rattle.outwriter.specs.declared.control.WriterOrder.TheVariants.{Reset}
 use Rattle.outwriter.specs.Steps.{Order, Step, Taken, Granted, Written, Returned}
 
 -- the stream that the order resets for that, if it does

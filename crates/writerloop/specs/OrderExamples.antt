@@ -7,7 +7,7 @@ use Rattle.std.specs.Option.{is_some}
 use Rattle.flow.specs.WindowHistory.{CanCredit}
 use Rattle.flow.specs.WindowHistory.{Step as WindowStep}
 use Rattle.h2frame.specs.declared.error_code.ErrorCode.TheVariants.{NoError, InternalError}
-use Rattle.outwriter.specs.declared.control.Control.TheVariants.{
+use Rattle.outwriter.specs.declared.control.WriterOrder.TheVariants.{
   Ping,
   Probe,
   Window,

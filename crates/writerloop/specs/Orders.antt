@@ -22,8 +22,8 @@ use Rattle.std.specs.Prelude.{
 use Rattle.std.specs.List.{list_any}
 use Rattle.lane.specs.Ring.{taken, out_name}
 use Rattle.h2frame.specs.declared.error_code.ErrorCode.TheVariants.{InternalError}
-use Rattle.outwriter.specs.declared.control.Control.{Control}
-use Rattle.outwriter.specs.declared.control.Control.TheVariants.{
+use Rattle.outwriter.specs.declared.control.WriterOrder.{WriterOrder}
+use Rattle.outwriter.specs.declared.control.WriterOrder.TheVariants.{
   Probe,
   Open,
   Settings,
@@ -37,13 +37,18 @@ use Rattle.outwriter.specs.declared.control.OutFault.TheVariants.{PeerWindow}
 use Rattle.outwriter.specs.Drains.{draining, is_going_away, warning, was_probed}
 use Rattle.outwriter.specs.RunState.{Blames, Concerns, HasRoom}
 use Rattle.outwriter.specs.Steps.{Order, Step, Taken, Granted, Written, Returned, order_of}
-use Rattle.writerloop.specs.declared.taking.Taking.{Taking}
-use Rattle.writerloop.specs.declared.taking.Taking.TheVariants.{Done, Ended, Unanswered, HandedBack}
+use Rattle.writerloop.specs.declared.order_outcome.OrderOutcome.{OrderOutcome}
+use Rattle.writerloop.specs.declared.order_outcome.OrderOutcome.TheVariants.{
+  Done,
+  Ended,
+  Unanswered,
+  HandedBack,
+}
 use Rattle.writerloop.specs.OwnOrders.{own_order}
 use Rattle.writerloop.specs.declared.inbox.Inbox.{Inbox}
-use Rattle.writerloop.specs.declared.steps.Waiting.{Waiting}
-use Rattle.writerloop.specs.declared.steps.Waiting.TheVariants.{Nothing, Other}
-use Rattle.writerloop.specs.declared.steps.Waiting.TheVariants as waiting
+use Rattle.writerloop.specs.declared.steps.WaitingOrder.{WaitingOrder}
+use Rattle.writerloop.specs.declared.steps.WaitingOrder.TheVariants.{Nothing, Other}
+use Rattle.writerloop.specs.declared.steps.WaitingOrder.TheVariants as waiting
 
 -- ---- what a run obeys
 
@@ -146,44 +151,44 @@ Obeys true orders run = HasParted orders run
 -- ---- the ring of orders
 
 module _ {S : Type 0} where
-  abbrev pub orders_of : List (Control S) → List Order
+  abbrev pub orders_of : List (WriterOrder S) → List Order
   orders_of controls = map (λ control. order_of control) controls
 
   -- a GOAWAY, or a PING of this side's own
-  abbrev pub IsWarning : Control S → Type 0
+  abbrev pub IsWarning : WriterOrder S → Type 0
   IsWarning (Goaway last cause) = Unit {0}
   IsWarning (Probe bytes) = Unit {0}
   IsWarning _ = ⊥
 
   -- the order opens no call
-  abbrev pub OpensNone : Control S → Type 0
+  abbrev pub OpensNone : WriterOrder S → Type 0
   OpensNone (Open id opening) = ⊥
   OpensNone _ = Unit {0}
 
-  abbrev pub order_in : Option (Control S) → List (Control S)
+  abbrev pub order_in : Option (WriterOrder S) → List (WriterOrder S)
   order_in None = []
   order_in (Some control) = control ∷ []
 
   -- an inbox has given these orders, and may have set the next one aside
-  abbrev pub HasGiven : List (Control S) → Inbox S → Type 0
+  abbrev pub HasGiven : List (WriterOrder S) → Inbox S → Type 0
   HasGiven given inbox = given ++ order_in inbox.set_aside ≡ taken inbox.ring
 
   -- an inbox gives the next order, if there is one, and none is set aside
-  pub record Gives (next : Option (Control S)) (old new : Inbox S) : Type 0 where
+  pub record Gives (next : Option (WriterOrder S)) (old new : Inbox S) : Type 0 where
     pub name : out_name new.ring ≡ out_name old.ring
     pub lost : new.has_lost ≡ old.has_lost
     pub none_aside : new.set_aside ≡ None
-    pub given : (given : List (Control S)) → HasGiven given old
+    pub given : (given : List (WriterOrder S)) → HasGiven given old
         → HasGiven (given ++ order_in next) new
 
   -- an inbox gives no order
   pub record Keeps (old new : Inbox S) : Type 0 where
     pub name : out_name new.ring ≡ out_name old.ring
     pub lost : new.has_lost ≡ old.has_lost
-    pub given : (given : List (Control S)) → HasGiven given old → HasGiven given new
+    pub given : (given : List (WriterOrder S)) → HasGiven given old → HasGiven given new
 
   -- whether an order waits, and whether it may make a window of the peer's overflow, or is a GOAWAY
-  abbrev pub waiting_of : Option (Control S) → Waiting
+  abbrev pub waiting_of : Option (WriterOrder S) → WaitingOrder
   waiting_of None = Nothing
   waiting_of (Some (Settings settings)) = waiting.Window
   waiting_of (Some (Window id n)) = waiting.Window
@@ -191,11 +196,11 @@ module _ {S : Type 0} where
   waiting_of (Some _) = Other
 
   -- the order can't make a window of the peer's overflow
-  abbrev pub TakesNoWindow : Control S → Type 0
+  abbrev pub TakesNoWindow : WriterOrder S → Type 0
   TakesNoWindow order = (id : ℕ) → Concerns (PeerWindow id) order → ⊥
 
 -- whether an order is lost, or the answer to it
-abbrev pub loses_by : {S : Type 0} → Taking S → Bool
+abbrev pub loses_by : {S : Type 0} → OrderOutcome S → Bool
 loses_by Done = false
 loses_by (Ended id) = false
 loses_by (Unanswered id) = true

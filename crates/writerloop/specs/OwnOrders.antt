@@ -3,19 +3,24 @@
 use Rattle.reasons.specs.declared.Reason.TheVariants as reason
 use Rattle.std.specs.Prelude.{◌≡◌, ◌≢◌, ℕ, ◌==◌, Bool, true, false, List, [], ◌∷◌, if◌then◌else◌}
 use Rattle.h2frame.specs.declared.error_code.ErrorCode.TheVariants.{FlowControlError}
-use Rattle.outwriter.specs.declared.control.Control.{Control}
-use Rattle.outwriter.specs.declared.control.Control.TheVariants.{Reset, Goaway}
+use Rattle.outwriter.specs.declared.control.WriterOrder.{WriterOrder}
+use Rattle.outwriter.specs.declared.control.WriterOrder.TheVariants.{Reset, Goaway}
 use Rattle.outwriter.specs.declared.control.OutFault.TheVariants.{PeerWindow}
 use Rattle.outwriter.specs.Frames.{goaway_frame}
 use Rattle.outwriter.specs.RunState.{Blames, Concerns, HasRoom}
 use Rattle.outwriter.specs.Steps.{Order, Step, Taken, Written}
 use Rattle.writerloop.specs.declared.standing.Standing.{Standing}
 use Rattle.writerloop.specs.declared.standing.Standing.TheVariants.{Going}
-use Rattle.writerloop.specs.declared.taking.Taking.{Taking}
-use Rattle.writerloop.specs.declared.taking.Taking.TheVariants.{Done, Ended, Unanswered, HandedBack}
+use Rattle.writerloop.specs.declared.order_outcome.OrderOutcome.{OrderOutcome}
+use Rattle.writerloop.specs.declared.order_outcome.OrderOutcome.TheVariants.{
+  Done,
+  Ended,
+  Unanswered,
+  HandedBack,
+}
 
 -- the order that ends a stream, or the connection as stream 0, with FLOW_CONTROL_ERROR
-abbrev pub own_control : {S : Type 0} → ℕ → ℕ → Control S
+abbrev pub own_control : {S : Type 0} → ℕ → ℕ → WriterOrder S
 own_control last id = if id == 0 then Goaway last reason.Window else Reset id FlowControlError true
 
 abbrev pub own_order : ℕ → ℕ → Order
@@ -30,7 +35,7 @@ parting last false = []
 
 module _ {S : Type 0} where
   -- the steps that an order leads to, the latest first
-  abbrev pub steps_of : Order → ℕ → Taking S → List Step
+  abbrev pub steps_of : Order → ℕ → OrderOutcome S → List Step
   steps_of order last Done = Taken order ∷ []
   steps_of order last (Ended id) = Taken (own_order last id) ∷ Taken order ∷ []
   steps_of order last (Unanswered id) = Taken order ∷ []
@@ -38,7 +43,7 @@ module _ {S : Type 0} where
 
   -- why the writer answered so, after this run: the order would make a window larger than 2^31 - 1
   -- bytes, or there is room for its credit
-  abbrev pub Blamed : Taking S → Control S → List Step → Type 0
+  abbrev pub Blamed : OrderOutcome S → WriterOrder S → List Step → Type 0
   Blamed Done control run = HasRoom control run
   Blamed (Ended id) control run =
       Concerns (PeerWindow id) control × Blames (PeerWindow id) control run
@@ -47,13 +52,13 @@ module _ {S : Type 0} where
   Blamed (HandedBack back) control run = back ≡ control
 
   -- only an order that gives credit has a fault of the peer's, and what is handed back is the order
-  abbrev pub IsOfOrder : Taking S → Control S → Type 0
+  abbrev pub IsOfOrder : OrderOutcome S → WriterOrder S → Type 0
   IsOfOrder Done control = Unit {0}
   IsOfOrder (Ended id) control = Concerns (PeerWindow id) control
   IsOfOrder (Unanswered id) control = Concerns (PeerWindow id) control
   IsOfOrder (HandedBack back) control = back ≡ control
 
   -- a writer that had no memory for its own order stops
-  abbrev pub Stops : Taking S → Standing → Standing → Type 0
+  abbrev pub Stops : OrderOutcome S → Standing → Standing → Type 0
   Stops (Unanswered id) old new = new ≢ Going
   Stops _ old new = new ≡ old

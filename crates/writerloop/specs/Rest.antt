@@ -4,10 +4,10 @@ use Rattle.std.specs.List.Sorted.{IsPermutation}
 use Rattle.account.specs.declared.call.OutItem.{OutItem}
 use Rattle.lane.specs.RingLane.{got}
 use Rattle.outwriter.specs.Cores.{calls}
-use Rattle.callparts.specs.declared.order.Returning.{Returning}
+use Rattle.callparts.specs.declared.order.ReturningCall.{ReturningCall}
 use Rattle.callparts.specs.declared.register.CallNumber.{CallNumber}
 use Rattle.callparts.specs.declared.register.Naming.{Ghosts}
-use Rattle.writerloop.specs.declared.writing.Senders.{Senders}
+use Rattle.writerloop.specs.declared.senders.Senders.{Senders}
 use Rattle.writerloop.specs.Orders.{order_in}
 use Rattle.writerloop.specs.Sent.{got_of, numbered, numbers, opens}
 
@@ -23,7 +23,8 @@ module _ {J : Type 0} {naming : Ghosts J} where
       map (λ call. (call.1, [])) (opens (order_in senders.aside)) ++ calls got senders.core.items
 
   -- one of the senders is handed over
-  pub record HandsOver (old new : Senders J naming) (returning : Returning J naming) : Type 0 where
+  pub record HandsOver (old new : Senders J naming)
+      (returning : ReturningCall J naming) : Type 0 where
     pub id : ℕ
     pub number :
         IsPermutation (rest_numbers old) (numbered id returning.sending.value ∷ rest_numbers new)

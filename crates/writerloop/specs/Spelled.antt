@@ -19,7 +19,7 @@ ended_by frames = map (λ frame. frame.head.stream) (filter ends_stream (reverse
 
 -- The device has all frames but the last ones, after what it had before. The last ones are in the
 -- buffer, with the streams that they end.
-pub record Parted (frames : List Frame) (before now : Option (List ℕ))
+pub record IsParted (frames : List Frame) (before now : Option (List ℕ))
     (buffer ended : List ℕ) : Type 0 where
   pub waiting : List Frame
   pub written : List Frame
@@ -40,6 +40,6 @@ IsFront frames before now =
 -- No frame is lost, even out of memory. Where a write failed, one may be cut.
 abbrev pub Holds : Standing → List Frame → Option (List ℕ) → Option (List ℕ)
     → List ℕ → List ℕ → Type 0
-Holds Going frames before now buffer ended = Parted frames before now buffer ended
-Holds OutOfMemory frames before now buffer ended = Parted frames before now buffer ended
+Holds Going frames before now buffer ended = IsParted frames before now buffer ended
+Holds OutOfMemory frames before now buffer ended = IsParted frames before now buffer ended
 Holds Broken frames before now buffer ended = IsFront frames before now

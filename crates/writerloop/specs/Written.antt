@@ -28,7 +28,7 @@ use Rattle.lane.specs.Ring.{in_name, out_name, put_in}
 use Rattle.lane.specs.RingLane.{got}
 use Rattle.h2frame.specs.declared.error_code.ErrorCode.{ErrorCode}
 use Rattle.h2frame.specs.declared.error_code.ErrorCode.TheVariants.{FlowControlError}
-use Rattle.outwriter.specs.declared.control.Control.{Control}
+use Rattle.outwriter.specs.declared.control.WriterOrder.{WriterOrder}
 use Rattle.outwriter.specs.Calls.{TellOthers, is_closed}
 use Rattle.outwriter.specs.Cores.{calls}
 use Rattle.outwriter.specs.Credit.{granted}
@@ -36,8 +36,8 @@ use Rattle.outwriter.specs.Drains.{has_failed}
 use Rattle.outwriter.specs.Runs.{IsLawful}
 use Rattle.outwriter.specs.RunState.{IsAnswered}
 use Rattle.outwriter.specs.Steps.{Step, Order, frames_of, order_of}
-use Rattle.callparts.specs.declared.order.Opening.{Opening}
-use Rattle.callparts.specs.declared.order.Returning.{Returning}
+use Rattle.callparts.specs.declared.order.OpeningCall.{OpeningCall}
+use Rattle.callparts.specs.declared.order.ReturningCall.{ReturningCall}
 use Rattle.callparts.specs.declared.register.Naming.{Ghosts}
 use Rattle.device.specs.declared.conn.ConnWrite.{Ghosts as ConnGhosts}
 use Rattle.callparts.specs.declared.report.Ending.{Ending}
@@ -47,13 +47,13 @@ use Rattle.callparts.specs.declared.report.Ending.TheVariants.{
   WriteFailed,
 }
 use Rattle.callparts.specs.Lanes.{OutSender}
-use Rattle.writerloop.specs.declared.filled.Filled.{Filled}
-use Rattle.writerloop.specs.declared.filled.Filled.TheVariants.{Full, Idle, Over, Stopped}
+use Rattle.writerloop.specs.declared.fill_end.FillEnd.{FillEnd}
+use Rattle.writerloop.specs.declared.fill_end.FillEnd.TheVariants.{Full, Idle, Over, Stopped}
 use Rattle.writerloop.specs.declared.frames.Frames.{Frames}
 use Rattle.writerloop.specs.declared.standing.Standing.TheVariants.{Going, Broken}
-use Rattle.writerloop.specs.declared.steps.Rest.{Rest}
-use Rattle.writerloop.specs.declared.steps.Rest.TheVariants as rests
-use Rattle.writerloop.specs.declared.writing.Senders.{Senders}
+use Rattle.writerloop.specs.declared.steps.AfterWrite.{AfterWrite}
+use Rattle.writerloop.specs.declared.steps.AfterWrite.TheVariants as rests
+use Rattle.writerloop.specs.declared.senders.Senders.{Senders}
 use Rattle.writerloop.specs.declared.writing.Writing.{Writing}
 use Rattle.writerloop.specs.Blamed.{WouldOverflow, blames_by, blames_in}
 use Rattle.writerloop.specs.Orders.{HasGiven, Obeys, closes, ends_input, order_in, orders_of}
@@ -84,7 +84,7 @@ module _ {J W : Type 0} {naming : Ghosts J} {conn : ConnGhosts W} where
 
   -- No sender of these orders' calls is lost. The writer blames its peer for none but by its run;
   -- and where it blames it for none, no GOAWAY for that was taken, unless one was ordered.
-  pub record Holds (orders : List (Control (Opening J naming))) (run : List Step)
+  pub record Holds (orders : List (WriterOrder (OpeningCall J naming))) (run : List Step)
       (writer : Writing J W naming conn) : Type 0 where
     pub senders :
         HasAll orders run writer.sends.calls.items (core_of writer) (put_in writer.sends.home)
@@ -106,7 +106,7 @@ module _ {J W : Type 0} {naming : Ghosts J} {conn : ConnGhosts W} (contents : W 
     (failed : W → Bool) where
   -- Some run led to the writer, whose device had something before, and granted this much credit on
   -- the connection. It obeyed these orders, unless some were lost, and no call's sender is lost.
-  abbrev pub Runs : Bool → List (Control (Opening J naming)) → Option (List ℕ) → ℕ
+  abbrev pub Runs : Bool → List (WriterOrder (OpeningCall J naming)) → Option (List ℕ) → ℕ
       → Writing J W naming conn → Type 0
   Runs lost orders before credit writer =
       (run : List Step) × Wrote got contents failed before run writer.frames
@@ -114,7 +114,7 @@ module _ {J W : Type 0} {naming : Ghosts J} {conn : ConnGhosts W} (contents : W 
       × (granted 0 run ≡ credit)
 
   -- some run led to the writer so, and it is over, unless the writer makes no more frames
-  abbrev pub Ends : Bool → List (Control (Opening J naming)) → Option (List ℕ) → ℕ
+  abbrev pub Ends : Bool → List (WriterOrder (OpeningCall J naming)) → Option (List ℕ) → ℕ
       → Writing J W naming conn → Type 0
   Ends lost orders before credit writer =
       (run : List Step) × Wrote got contents failed before run writer.frames
@@ -123,48 +123,51 @@ module _ {J W : Type 0} {naming : Ghosts J} {conn : ConnGhosts W} (contents : W 
 
   -- the run goes on, and where it was over it stays over
   pub record StaysOn (lost loses : Bool) (old new : Writing J W naming conn) : Type 0 where
-    pub runs : (orders : List (Control (Opening J naming))) (before : Option (List ℕ)) (credit : ℕ)
+    pub runs : (orders : List (WriterOrder (OpeningCall J naming)))
+        (before : Option (List ℕ)) (credit : ℕ)
         → Runs lost orders before credit old → Runs loses orders before credit new
-    pub ends : (orders : List (Control (Opening J naming))) (before : Option (List ℕ)) (credit : ℕ)
+    pub ends : (orders : List (WriterOrder (OpeningCall J naming)))
+        (before : Option (List ℕ)) (credit : ℕ)
         → Ends lost orders before credit old → Ends loses orders before credit new
 
   -- the run leads to its end
   abbrev pub RunsOut : Writing J W naming conn → Writing J W naming conn → Type 0
   RunsOut old new =
-      (lost : Bool) (orders : List (Control (Opening J naming)))
+      (lost : Bool) (orders : List (WriterOrder (OpeningCall J naming)))
       (before : Option (List ℕ)) (credit : ℕ)
       → Runs lost orders before credit old → Ends lost orders before credit new
 
   -- The writer takes the order, which opens no call, or loses it. None was lost before.
   abbrev pub Takes : Order → Writing J W naming conn → Writing J W naming conn → Type 0
   Takes order old new =
-      (orders : List (Control (Opening J naming))) (control : Control (Opening J naming))
+      (orders : List (WriterOrder (OpeningCall J naming)))
+      (control : WriterOrder (OpeningCall J naming))
       (before : Option (List ℕ)) (credit : ℕ)
       → order_of control ≡ order
       → Runs false orders before credit old
       → Runs new.inbox.has_lost (orders ++ control ∷ []) before credit new
 
   -- The writer begins a call with the order's sender. No order was lost before.
-  abbrev pub Begins : Control (Opening J naming) → Writing J W naming conn
+  abbrev pub Begins : WriterOrder (OpeningCall J naming) → Writing J W naming conn
       → Writing J W naming conn → Type 0
   Begins order old new =
-      (orders : List (Control (Opening J naming))) (before : Option (List ℕ)) (credit : ℕ)
+      (orders : List (WriterOrder (OpeningCall J naming))) (before : Option (List ℕ)) (credit : ℕ)
       → Runs false orders before credit old
       → Runs false (orders ++ order ∷ []) before credit new
 
   -- orders were lost, and this one is too, or it is a Close; the sender of a call that it opens is
   -- handed back
-  abbrev pub PassesOver : Control (Opening J naming) → Writing J W naming conn
+  abbrev pub PassesOver : WriterOrder (OpeningCall J naming) → Writing J W naming conn
       → Writing J W naming conn → Type 0
   PassesOver order old new =
-      (orders : List (Control (Opening J naming))) (before : Option (List ℕ)) (credit : ℕ)
+      (orders : List (WriterOrder (OpeningCall J naming))) (before : Option (List ℕ)) (credit : ℕ)
       → Runs true orders before credit old
       → Runs true (orders ++ order ∷ []) before credit new
 
   -- orders were lost
   abbrev pub Parts : Writing J W naming conn → Writing J W naming conn → Type 0
   Parts old new =
-      (orders : List (Control (Opening J naming))) (before : Option (List ℕ)) (credit : ℕ)
+      (orders : List (WriterOrder (OpeningCall J naming))) (before : Option (List ℕ)) (credit : ℕ)
       → Runs true orders before credit old → Runs true orders before credit new
 
   -- ---- with the inbox
@@ -173,13 +176,13 @@ module _ {J W : Type 0} {naming : Ghosts J} {conn : ConnGhosts W} (contents : W 
   -- credit; the writer knows what these orders end.
   abbrev pub Led : Option (List ℕ) → ℕ → Writing J W naming conn → Type 0
   Led before credit writer =
-      (given : List (Control (Opening J naming))) × HasGiven given writer.inbox
+      (given : List (WriterOrder (OpeningCall J naming))) × HasGiven given writer.inbox
       × Runs writer.inbox.has_lost given before credit writer
       × Knows (orders_of given) writer
 
   abbrev pub LedOut : Option (List ℕ) → ℕ → Writing J W naming conn → Type 0
   LedOut before credit writer =
-      (given : List (Control (Opening J naming))) × HasGiven given writer.inbox
+      (given : List (WriterOrder (OpeningCall J naming))) × HasGiven given writer.inbox
       × Ends writer.inbox.has_lost given before credit writer
       × Knows (orders_of given) writer
 
@@ -215,7 +218,7 @@ module _ {J W : Type 0} {naming : Ghosts J} {conn : ConnGhosts W} (contents : W 
 -- What the owner does after a fill: it goes on at once where the buffer was full or was written to,
 -- and waits where neither was. Where nothing is written any more, it waits for the orders that
 -- still come.
-abbrev pub rest_of : Filled → Bool → Bool → Rest
+abbrev pub rest_of : FillEnd → Bool → Bool → AfterWrite
 rest_of Full is_silent closed = rests.None
 rest_of Idle false closed = rests.None
 rest_of Idle true closed = rests.Idle
@@ -259,9 +262,10 @@ pub record HasWritten {W : Type 0} (contents : W → Option (List ℕ)) (failed 
 -- than it got.
 pub record HasSent {J W : Type 0} {naming : Ghosts J} (contents : W → Option (List ℕ))
     (failed : W → Bool) (before : Option (List ℕ)) (credit : ℕ)
-    (orders : List (Control (Opening J naming))) (rest : Senders J naming) (ending : Option Ending)
+    (orders : List (WriterOrder (OpeningCall J naming))) (rest : Senders J naming)
+    (ending : Option Ending)
     (device : W) : Type 0 where
-  pub given : List (Control (Opening J naming))
+  pub given : List (WriterOrder (OpeningCall J naming))
   pub orders_are : orders ≡ given ++ order_in rest.aside
   pub written : HasWritten contents failed before credit (orders_of given) ending false device
   pub senders :

@@ -20,20 +20,25 @@ use Rattle.account.specs.declared.call.OutItem.{OutItem}
 use Rattle.callbox.specs.declared.sender.Sender.{Sender}
 use Rattle.h2frame.specs.declared.frame.Frame.{Frame}
 use Rattle.h2frame.specs.Spelling.{spelled}
-use Rattle.outwriter.specs.declared.control.Control.{Control}
+use Rattle.outwriter.specs.declared.control.WriterOrder.{WriterOrder}
 use Rattle.outwriter.specs.Cores.{Brings, IsAtRest, Leads}
 use Rattle.outwriter.specs.Steps.{Step, Written, frames_of}
-use Rattle.writerloop.specs.declared.filled.Filled.{Filled}
-use Rattle.writerloop.specs.declared.filled.Filled.TheVariants.{Full, Idle, Over, Stopped}
+use Rattle.writerloop.specs.declared.fill_end.FillEnd.{FillEnd}
+use Rattle.writerloop.specs.declared.fill_end.FillEnd.TheVariants.{Full, Idle, Over, Stopped}
 use Rattle.writerloop.specs.declared.standing.Standing.TheVariants.{Going, Broken}
-use Rattle.writerloop.specs.declared.taking.Taking.{Taking}
-use Rattle.writerloop.specs.declared.taking.Taking.TheVariants.{Done, Ended, Unanswered, HandedBack}
+use Rattle.writerloop.specs.declared.order_outcome.OrderOutcome.{OrderOutcome}
+use Rattle.writerloop.specs.declared.order_outcome.OrderOutcome.TheVariants.{
+  Done,
+  Ended,
+  Unanswered,
+  HandedBack,
+}
 use Rattle.writerloop.specs.declared.frames.Frames.{Frames}
 use Rattle.writerloop.specs.Spelled.{Holds, ended_by}
 
 module _ {L In Out Shut : Type 0} where
   -- an Open that is taken adds its sender after the others; nothing else changes them
-  abbrev pub BringsBy : Taking (Sender L In Out Shut) → Control (Sender L In Out Shut)
+  abbrev pub BringsBy : OrderOutcome (Sender L In Out Shut) → WriterOrder (Sender L In Out Shut)
       → List (ℕ × Sender L In Out Shut) → List (ℕ × Sender L In Out Shut) → Type 0
   BringsBy Done control old new = Brings (Ok tt) control old new
   BringsBy (Ended id) control old new = new ≡ old
@@ -60,20 +65,20 @@ module _ {L In Out Shut W : Type 0} where
 
   -- Why the buffer isn't filled further: nothing more comes only where a Close was taken, and
   -- nothing comes now where none was.
-  abbrev pub Rests : (Out → List OutItem) → Filled → List Step → Frames L W In Out Shut → Type 0
+  abbrev pub Rests : (Out → List OutItem) → FillEnd → List Step → Frames L W In Out Shut → Type 0
   Rests ahead Full run writer = Unit {0}
   Rests ahead Idle run writer = IsAtRest ahead run writer.core × (writer.core.closed ≡ false)
   Rests ahead Over run writer = IsAtRest ahead run writer.core × (writer.core.closed ≡ true)
   Rests ahead Stopped run writer = writer.standing ≢ Going
 
-  abbrev pub RestsIf : (Out → List OutItem) → Option Filled → List Step
+  abbrev pub RestsIf : (Out → List OutItem) → Option FillEnd → List Step
       → Frames L W In Out Shut → Type 0
   RestsIf ahead None run writer = Unit {0}
   RestsIf ahead (Some filled) run writer = Rests ahead filled run writer
 
   -- whatever run led to the writer before, frames lead from it to the writer after
   abbrev pub Fills : (Out → List OutItem) → (Out → List OutItem) → (W → Option (List ℕ))
-      → (W → Bool) → Option Filled
+      → (W → Bool) → Option FillEnd
       → Frames L W In Out Shut → Frames L W In Out Shut → Type 0
   Fills got ahead contents failed filled old new =
       (before : Option (List ℕ)) (run : List Step) → Wrote got contents failed before run old

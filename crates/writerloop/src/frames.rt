@@ -42,7 +42,7 @@ ghost use Rattle.outwriter.specs.Releases.{IsThrough, HasNone, Releases};
 ghost use Rattle.outwriter.specs.RunState.{is_held};
 ghost use Rattle.outwriter.specs.Steps.{Step, Taken, Granted, Returned, order_of, frames_of};
 ghost use Rattle.writerloop.specs.declared.standing.Standing.TheVariants as stands;
-ghost use Rattle.writerloop.specs.declared.filled.Filled.TheVariants as filled;
+ghost use Rattle.writerloop.specs.declared.fill_end.FillEnd.TheVariants as filled;
 ghost use Rattle.writerloop.specs.OwnOrders.{
   own_control,
   own_order,
@@ -55,15 +55,15 @@ ghost use Rattle.writerloop.specs.OwnOrders.{
 ghost use Rattle.writerloop.specs.Spelled.{IsFront, IsAll};
 ghost use Rattle.writerloop.specs.Wrote.{Wrote, WritesOn, BringsBy, Fills, Puts};
 
-use crate::filled::Filled;
+use crate::fill_end::FillEnd;
+use crate::order_outcome::OrderOutcome;
 use crate::standing::Standing;
-use crate::taking::Taking;
 use account::OutItem;
 use callbox::Sender;
 use device::{ConnWrite, DeviceFault, write_all};
 use h2frame::{ErrorCode, Flags, FrameKind, StreamId};
 use lane::Lane;
-use outwriter::{Control, Next, OutCore, OutFault, OutFrame};
+use outwriter::{Next, OutCore, OutFault, OutFrame, WriterOrder};
 use reasons::Reason;
 use std::alloc::{AllocError, Global};
 use std::mem;
@@ -84,7 +84,7 @@ pub struct Frames<L: Lane<Item = OutItem>, W: ConnWrite> {
     /// The streams whose END_STREAM is in the buffer.
     pub(crate) ended: Vec<StreamId>,
     /// The streams whose END_STREAM the last flush wrote.
-    pub(crate) left: Vec<StreamId>,
+    pub(crate) flushed_ends: Vec<StreamId>,
     /// The streams of which DATA or HEADERS are in the buffer, each once.
     pub(crate) streams: Vec<StreamId>,
     pub(crate) standing: Standing,
@@ -104,7 +104,7 @@ impl<L: Lane<Item = OutItem>, W: ConnWrite> Frames<L, W> {
             core: OutCore::new(alloc),
             buffer: ZeroBuffer::new(alloc),
             ended: Vec::new(alloc),
-            left: Vec::new(alloc),
+            flushed_ends: Vec::new(alloc),
             streams: Vec::new(alloc),
             standing: Standing::Going,
             device,
@@ -126,10 +126,10 @@ impl<L: Lane<Item = OutItem>, W: ConnWrite> Frames<L, W> {
     }
 
     /// The streams whose END_STREAM the last flush wrote.
-    pub fn left(&self) -> &[StreamId]
-        ensures { result.now ≡ self.now.left.items }
+    pub fn flushed_ends(&self) -> &[StreamId]
+        ensures { result.now ≡ self.now.flushed_ends.items }
     {
-        self.left.as_slice()
+        self.flushed_ends.as_slice()
     }
 
     /// The streams of which DATA or HEADERS are in the buffer: the core took items of their calls.
@@ -203,7 +203,11 @@ impl<L: Lane<Item = OutItem>, W: ConnWrite> Frames<L, W> {
     /// Takes an order. Where the peer's window overflows by it, the writer ends the stream or the
     /// connection by an order of its own; `last` is the greatest stream that was looked at, which a
     /// GOAWAY then tells.
-    pub fn take(&mut self, control: Control<Sender<L>>, last: StreamId) -> Taking<Sender<L>>
+    pub fn take(
+        &mut self,
+        control: WriterOrder<Sender<L>>,
+        last: StreamId,
+    ) -> OrderOutcome<Sender<L>>
         // The order is the next step of the run, unless it is handed back, and the writer's own
         // order follows it.
         ensures wrote { IsUnused L.got control
@@ -225,12 +229,12 @@ impl<L: Lane<Item = OutItem>, W: ConnWrite> Frames<L, W> {
             self.old { core = self.new.core; standing = self.new.standing } }
     {
         match self.core.control(control) {
-            Ok(()) => Taking::Done,
-            Err(OutFault::OutOfMemory(Some(back))) => Taking::HandedBack(back),
+            Ok(()) => OrderOutcome::Done,
+            Err(OutFault::OutOfMemory(Some(back))) => OrderOutcome::HandedBack(back),
             Err(OutFault::OutOfMemory(None)) => unreachable!(),
             Err(OutFault::PeerWindow(id)) => match self.end(id, last) {
-                Ok(()) => Taking::Ended(id),
-                Err(_e) => Taking::Unanswered(id),
+                Ok(()) => OrderOutcome::Ended(id),
+                Err(_e) => OrderOutcome::Unanswered(id),
             },
         }
     }
@@ -273,7 +277,7 @@ impl<L: Lane<Item = OutItem>, W: ConnWrite> Frames<L, W> {
 
     /// Puts frames into the buffer, until none comes or the longest might not fit. The buffer never
     /// has more than 114,751 bytes.
-    pub fn fill(&mut self) -> Filled
+    pub fn fill(&mut self) -> FillEnd
         // Frames are the next steps of the run. Where none comes, all is written that can be.
         ensures wrote { Fills L.got (coming L.got L.ahead) W.contents W.failed
             (Some result) self.old self.new }
@@ -287,14 +291,14 @@ impl<L: Lane<Item = OutItem>, W: ConnWrite> Frames<L, W> {
         ensures room { length self.old.buffer.items ≤ 114751
             → length self.new.buffer.items ≤ 114751 }
         ensures device { self.new.device ≡ self.old.device }
-        ensures left { self.new.left ≡ self.old.left }
+        ensures left { self.new.flushed_ends ≡ self.old.flushed_ends }
         ensures goes { result ≢ filled.Stopped → self.new.standing ≡ stands.Going }
         ensures stopped { self.old.standing ≢ stands.Going
             → (result ≡ filled.Stopped) × (self.new ≡ self.old) }
     {
         match self.standing {
             Standing::Going => self.fill_on(),
-            Standing::OutOfMemory | Standing::Broken => Filled::Stopped,
+            Standing::OutOfMemory | Standing::Broken => FillEnd::Stopped,
         }
     }
 
@@ -310,7 +314,7 @@ impl<L: Lane<Item = OutItem>, W: ConnWrite> Frames<L, W> {
             (W.contents self.new.device) self.old.buffer.items) }
         ensures empty { OnOk result (self.new.buffer.items ≡ []) }
         ensures ended { OnOk result ((self.new.ended.items ≡ [])
-            × (self.new.left.items ≡ self.old.ended.items)) }
+            × (self.new.flushed_ends.items ≡ self.old.ended.items)) }
         ensures stands { OnOk result (self.new.standing ≡ self.old.standing) }
         ensures broken { OnErr result (self.new.standing ≡ stands.Broken) }
         ensures unmarked { OnOk result (W.failed self.new.device ≡ W.failed self.old.device) }
@@ -328,9 +332,9 @@ impl<L: Lane<Item = OutItem>, W: ConnWrite> Frames<L, W> {
         match write_all(&mut self.device, self.buffer.as_slice()) {
             Ok(()) => {
                 self.buffer.clear();
-                self.left.clear();
+                self.flushed_ends.clear();
                 self.streams.clear();
-                mem::swap(&mut self.left, &mut self.ended);
+                mem::swap(&mut self.flushed_ends, &mut self.ended);
                 Ok(())
             }
             Err(fault) => {
@@ -440,7 +444,7 @@ impl<L: Lane<Item = OutItem>, W: ConnWrite> Frames<L, W> {
     }
 
     /// Puts frames into the buffer.
-    fn fill_on(&mut self) -> Filled
+    fn fill_on(&mut self) -> FillEnd
         requires { self.old.standing ≡ stands.Going }
         ensures wrote { Fills L.got (coming L.got L.ahead) W.contents W.failed
             (Some result) self.old self.new }
@@ -451,7 +455,7 @@ impl<L: Lane<Item = OutItem>, W: ConnWrite> Frames<L, W> {
         ensures room { length self.old.buffer.items ≤ 114751
             → length self.new.buffer.items ≤ 114751 }
         ensures device { self.new.device ≡ self.old.device }
-        ensures left { self.new.left ≡ self.old.left }
+        ensures left { self.new.flushed_ends ≡ self.old.flushed_ends }
         ensures goes { result ≢ filled.Stopped → self.new.standing ≡ stands.Going }
     {
         'frames: while self.buffer.len() <= BUFFER - LONGEST_FRAME {
@@ -459,11 +463,11 @@ impl<L: Lane<Item = OutItem>, W: ConnWrite> Frames<L, W> {
                 return filled;
             }
         }
-        Filled::Full
+        FillEnd::Full
     }
 
     /// Puts the next frame into the buffer, or answers why there is none.
-    fn add_frame(&mut self) -> Option<Filled>
+    fn add_frame(&mut self) -> Option<FillEnd>
         requires { self.old.standing ≡ stands.Going }
         ensures wrote { Fills L.got (coming L.got L.ahead) W.contents W.failed result self.old
             self.new }
@@ -476,23 +480,23 @@ impl<L: Lane<Item = OutItem>, W: ConnWrite> Frames<L, W> {
         ensures fits { length self.new.buffer.items ≤ length self.old.buffer.items + 16393 }
         ensures goes { result ≢ Some filled.Stopped → self.new.standing ≡ stands.Going }
         ensures device { self.new.device ≡ self.old.device }
-        ensures left { self.new.left ≡ self.old.left }
+        ensures left { self.new.flushed_ends ≡ self.old.flushed_ends }
     {
         // There is room for a frame before the core answers it, so that none is lost.
         let Ok(()) = make_room(&mut self.buffer, &mut self.ended, &mut self.streams) else {
             self.stop();
-            return Some(Filled::Stopped);
+            return Some(FillEnd::Stopped);
         };
         match self.core.next_frame() {
             Ok(Next::Frame(frame)) => {
                 self.put(frame);
                 None
             }
-            Ok(Next::Idle) => Some(Filled::Idle),
-            Ok(Next::Over) => Some(Filled::Over),
+            Ok(Next::Idle) => Some(FillEnd::Idle),
+            Ok(Next::Over) => Some(FillEnd::Over),
             Err(_fault) => {
                 self.stop();
-                Some(Filled::Stopped)
+                Some(FillEnd::Stopped)
             }
         }
     }
@@ -505,7 +509,7 @@ impl<L: Lane<Item = OutItem>, W: ConnWrite> Frames<L, W> {
         requires room_to_note { vec_len self.old.streams < vec_capacity self.old.streams }
         ensures puts { Puts frame self.old self.new }
         ensures fits { length self.new.buffer.items ≤ length self.old.buffer.items + 16393 }
-        ensures left { self.new.left ≡ self.old.left }
+        ensures left { self.new.flushed_ends ≡ self.old.flushed_ends }
     {
         frame.append_to(&mut self.buffer);
         let head = frame.head();
@@ -556,14 +560,14 @@ fn carries_items(frame: &OutFrame) -> bool {
 }
 
 /// The order that ends a stream, or at 0 the connection.
-fn own_order<S>(id: StreamId, last: StreamId) -> Control<S>
+fn own_order<S>(id: StreamId, last: StreamId) -> WriterOrder<S>
     ensures { result ≡ own_control last id }
 {
     if id == 0 {
         let reason = Reason::Window;
-        return Control::Goaway { last, reason };
+        return WriterOrder::Goaway { last, reason };
     }
-    Control::Reset {
+    WriterOrder::Reset {
         id,
         code: ErrorCode::FlowControlError,
         written: true,

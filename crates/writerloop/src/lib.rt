@@ -10,30 +10,36 @@
 //!
 //! - `inbox`: the writing side's end of the ring of orders; `sends`: the calls that are sent;
 //!   `opening`: how a call begins.
-//! - `frames`: core, buffer and device, with `standing`, `taking` and `filled` for its answers.
-//! - `steps`: what a step answers; `writing`: the machine; `writer_ending`: how it ends by itself.
+//! - `frames`: core, buffer and device, with `standing`, `order_outcome` and `fill_end` for its
+//!   answers.
+//! - `writing`: the machine, with `writing::orders` for how it takes orders, `writing::left_calls`
+//!   for calls that were left, and `writing::warning` for the end while calls go on.
+//! - `steps`: what a step answers; `senders`: what is handed back at the end; `writer_ending`: how
+//!   the writing side ends by itself.
 //!
 //! `specs/Orders.antt` says when a run of the core obeys orders, `specs/Spelled.antt` and
 //! `specs/Wrote.antt` what of its frames was written, and `specs/Sent.antt` where each call's
 //! sender is. `specs/Written.antt` puts them together: each step keeps what it says.
 #![tactic(auto)]
 
-mod filled;
+mod fill_end;
 mod frames;
 pub mod inbox;
 mod opening;
+mod order_outcome;
+mod senders;
 mod sends;
 mod standing;
 pub mod steps;
-mod taking;
 mod writer_ending;
 pub mod writing;
 
-pub use filled::Filled;
+pub use fill_end::FillEnd;
 pub use frames::Frames;
 pub use inbox::Inbox;
+pub use order_outcome::OrderOutcome;
+pub use senders::{Senders, WriterResult};
 pub use standing::Standing;
-pub use steps::{Rest, Took, Waiting};
-pub use taking::Taking;
+pub use steps::{AfterWrite, OrderStep, WaitingOrder};
 pub use writer_ending::WriterEnding;
-pub use writing::{Senders, Writing, Written};
+pub use writing::Writing;

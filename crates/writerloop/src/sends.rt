@@ -1,7 +1,7 @@
 //! The calls that the writing side sends, and the ring on which their senders go back.
 
 use callbox::Sender;
-use callparts::{Line, Naming, Opening, OutLane, Returning, Sending};
+use callparts::{Line, Naming, OpeningCall, OutLane, ReturningCall, SendingEnd};
 use h2frame::StreamId;
 use lane::RingIn;
 use std::alloc::{AllocError, Global};
@@ -9,10 +9,10 @@ use std::sync::Arc;
 
 /// A call whose sender is with the writer's core.
 #[derive(Drop)]
-pub(crate) struct Sent<J: Naming> {
+pub(crate) struct SendingCall<J: Naming> {
     pub(crate) id: StreamId,
     /// The box in which its sender goes back.
-    pub(crate) sending: Box<Sending<J>>,
+    pub(crate) sending: Box<SendingEnd<J>>,
     /// The line that wakes its worker.
     line: Arc<Line>,
     /// Whether its sender is to go back: its stream was reset, or has ended.
@@ -22,9 +22,9 @@ pub(crate) struct Sent<J: Naming> {
 /// The calls whose senders are with the writer's core, in the same order.
 #[derive(Drop)]
 pub(crate) struct Sends<J: Naming> {
-    pub(crate) calls: Vec<Sent<J>>,
+    pub(crate) calls: Vec<SendingCall<J>>,
     /// The ring on which senders go back.
-    pub(crate) home: RingIn<Returning<J>>,
+    pub(crate) home: RingIn<ReturningCall<J>>,
     /// Whether there may be senders that are to go back.
     are_some_through: bool,
 }
@@ -53,7 +53,7 @@ impl<J: Naming> Sends<J> {
     };
     ghost use Rattle.writerloop.specs.Sent.{IsLastOf, Passes, SameCalls, TakesLast, ids_of};
 
-    pub(crate) fn new(alloc: Global, home: RingIn<Returning<J>>) -> Sends<J>
+    pub(crate) fn new(alloc: Global, home: RingIn<ReturningCall<J>>) -> Sends<J>
         ensures none { result.calls.items ≡ [] }
         ensures home { result.home ≡ home }
     {
@@ -89,12 +89,17 @@ impl<J: Naming> Sends<J> {
     }
 
     /// Adds a call whose sender the core has, after the others.
-    pub(crate) fn push_reserved(&mut self, id: StreamId, sending: Box<Sending<J>>, line: Arc<Line>)
+    pub(crate) fn push_reserved(
+        &mut self,
+        id: StreamId,
+        sending: Box<SendingEnd<J>>,
+        line: Arc<Line>,
+    )
         requires room { vec_len self.old.calls < vec_capacity self.old.calls }
         ensures adds { Adds id sending.value self.old.calls.items self.new.calls.items }
         ensures home { self.new.home ≡ self.old.home }
     {
-        self.calls.push_reserved(Sent {
+        self.calls.push_reserved(SendingCall {
             id,
             sending,
             line,
@@ -104,7 +109,7 @@ impl<J: Naming> Sends<J> {
 
     /// Hands back the sender of an order that isn't taken. If the ring has no place for it, the
     /// order's call comes back.
-    pub(crate) fn turn_back(&mut self, opening: Opening<J>) -> Result<(), Opening<J>>
+    pub(crate) fn turn_back(&mut self, opening: OpeningCall<J>) -> Result<(), OpeningCall<J>>
         ensures home { Passes opening result (put_in self.old.home) (put_in self.new.home) }
         ensures name { in_name self.new.home ≡ in_name self.old.home }
         ensures calls { self.new.calls ≡ self.old.calls }
@@ -113,8 +118,8 @@ impl<J: Naming> Sends<J> {
         if !self.has_place() {
             return Err(opening);
         }
-        let Opening { sending, .. } = opening;
-        self.send_home(Returning { sending });
+        let OpeningCall { sending, .. } = opening;
+        self.send_home(ReturningCall { sending });
         Ok(())
     }
 
@@ -129,7 +134,7 @@ impl<J: Naming> Sends<J> {
     }
 
     /// Hands back a sender, for which there is a place.
-    fn send_home(&mut self, returning: Returning<J>)
+    fn send_home(&mut self, returning: ReturningCall<J>)
         requires room { HasRoom self.old.home }
         ensures put { put_in self.new.home ≡ put_in self.old.home ++ returning ∷ [] }
         ensures name { in_name self.new.home ≡ in_name self.old.home }
@@ -153,7 +158,7 @@ impl<J: Naming> Sends<J> {
     }
 
     /// The sender of the first call of this stream, in its box.
-    pub(crate) fn take(&mut self, id: StreamId, sender: Sender<OutLane>) -> Returning<J>
+    pub(crate) fn take(&mut self, id: StreamId, sender: Sender<OutLane>) -> ReturningCall<J>
         requires whose { IsFirstOf id sender self.old.calls.items }
         ensures home { HandsHome id sender self.old.calls.items self.new.calls.items
             (put_in self.old.home) (put_in self.old.home ++ result ∷ []) }
@@ -162,13 +167,13 @@ impl<J: Naming> Sends<J> {
         let Some(place) = self.place_of(id) else {
             unreachable!();
         };
-        let Sent { mut sending, .. } = self.calls.swap_remove(place);
+        let SendingCall { mut sending, .. } = self.calls.swap_remove(place);
         sending.sender = Some(sender);
-        Returning { sending }
+        ReturningCall { sending }
     }
 
     /// The sender of the last call, in its box.
-    pub(crate) fn take_last(&mut self, sender: Sender<OutLane>) -> Returning<J>
+    pub(crate) fn take_last(&mut self, sender: Sender<OutLane>) -> ReturningCall<J>
         requires whose { IsLastOf sender self.old.calls.items }
         ensures takes { TakesLast sender self.old.calls.items self.new.calls.items result }
         ensures way { self.new.home ≡ self.old.home }
@@ -176,13 +181,13 @@ impl<J: Naming> Sends<J> {
         let Some(call) = self.calls.pop() else {
             unreachable!();
         };
-        let Sent { mut sending, .. } = call;
+        let SendingCall { mut sending, .. } = call;
         sending.sender = Some(sender);
-        Returning { sending }
+        ReturningCall { sending }
     }
 
     /// The putting end of the ring.
-    pub(crate) fn into_home(self) -> RingIn<Returning<J>>
+    pub(crate) fn into_home(self) -> RingIn<ReturningCall<J>>
         ensures { result ≡ self.home }
     {
         let Sends { home, .. } = self;

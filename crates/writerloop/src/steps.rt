@@ -4,7 +4,7 @@ use h2frame::StreamId;
 
 /// Which order waits to be taken.
 #[derive(Clone, Copy, PartialEq, Eq, Debug)]
-pub enum Waiting {
+pub enum WaitingOrder {
     /// None.
     Nothing,
     /// One that may make a window of the peer's overflow, so that the writer may end the
@@ -19,7 +19,7 @@ pub enum Waiting {
 
 /// What became of the next order.
 #[derive(Clone, Copy, PartialEq, Eq, Debug)]
-pub enum Took {
+pub enum OrderStep {
     /// There is none.
     Nothing,
     /// It can't be passed over yet: the ring of senders has no place for its sender.
@@ -38,7 +38,7 @@ pub enum Took {
 
 /// What comes once the buffer was filled and written.
 #[derive(Clone, Copy, PartialEq, Eq, Debug)]
-pub enum Rest {
+pub enum AfterWrite {
     /// More may be written at once.
     None,
     /// Nothing can be written now: what waits for a window that won't open is to be cut (`stuck`),

@@ -43,9 +43,9 @@ pub struct ZeroBuffer {
 impl Model for ZeroBuffer {
     ghost use Rattle.std.specs.Prelude.{◌-◌, ◌≤◌, take, length, vec_capacity};
     ghost use Rattle.std.specs.List.{All};
-    ghost use Rattle.zeros.specs.Filled.{Filled};
+    ghost use Rattle.zeros.specs.Filled.{FilledBytes};
 
-    ghost Value = { Filled };
+    ghost Value = { FilledBytes };
 
     ghost use Rattle.zeros.specs.Marks.{spans, EndsBy, AreZerosOutside};
 

@@ -4,8 +4,8 @@ use super::rows::Subject;
 use super::words::{all_bytes, bytes_of, push_bytes};
 use anyhow::{Context, Result, bail, ensure};
 use handlers::{
-    CacheableUnaryCall, EmptyCall, FullDuplexCall, HalfDuplexCall, Method, MethodState, Methods,
-    Replies, Step, StreamingInputCall, StreamingOutputCall, UnaryCall, run,
+    CacheableUnaryCall, EmptyCall, FullDuplexCall, HalfDuplexCall, Method, MethodState, MethodStep,
+    Methods, Replies, StreamingInputCall, StreamingOutputCall, UnaryCall, run,
 };
 use std::alloc::Global;
 
@@ -26,7 +26,7 @@ fn push_replies(text: &mut String, alloc: Global, mut replies: Replies) -> Resul
 }
 
 /// The replies of a call, and its status or `open`.
-fn push_answer(text: &mut String, alloc: Global, answer: Step) -> Result<()> {
+fn push_answer(text: &mut String, alloc: Global, answer: MethodStep) -> Result<()> {
     push_replies(text, alloc, answer.replies)?;
     match &answer.ends {
         Some(status) => write!(text, "{} {}", status.code.number(), status.text.as_str())?,

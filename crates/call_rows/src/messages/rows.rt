@@ -26,7 +26,7 @@ fn read_line(line: &str) -> Result<Option<(&str, &str)>> {
 
 /// The rows of a file that were tried.
 #[derive(Clone, Copy)]
-struct Tried {
+struct RowTally {
     rows: u32,
     differing: u32,
 }
@@ -45,8 +45,8 @@ fn try_row<S: Subject>(
     subject: &S,
     place: &str,
     row: (&str, &str),
-    tried: Tried,
-) -> Result<Tried> {
+    tried: RowTally,
+) -> Result<RowTally> {
     let (given, wanted) = row;
     let got = answer_to(rt.alloc(), subject, given)?;
     let rows = tried.rows.saturating_add(1);
@@ -55,7 +55,7 @@ fn try_row<S: Subject>(
         differing = differing.saturating_add(1);
         println!(rt; "{place}: {given}: wanted {wanted}, got {got}")?;
     }
-    Ok(Tried { rows, differing })
+    Ok(RowTally { rows, differing })
 }
 
 /// Tries the rows of a file, prints those whose answer isn't the wanted one, and answers how many
@@ -77,8 +77,8 @@ fn try_lines<S: Subject>(
     name: &str,
     text: &str,
     subject: &S,
-) -> Result<Tried> {
-    let mut tried = Tried {
+) -> Result<RowTally> {
+    let mut tried = RowTally {
         rows: 0,
         differing: 0,
     };

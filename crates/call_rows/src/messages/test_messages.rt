@@ -2,7 +2,7 @@
 //! are none.
 
 use super::rows::Subject;
-use super::text_form::{Shown, TextForm};
+use super::text_form::{HasTextForm, TextForm};
 use super::words::joined_bytes;
 use anyhow::{Context, Result, bail, ensure};
 use std::alloc::Global;
@@ -24,7 +24,7 @@ enum Question {
 }
 
 /// The text form of the message that the bytes are.
-fn text_of<'a, M: Message<'a> + Shown>(
+fn text_of<'a, M: Message<'a> + HasTextForm>(
     alloc: Global,
     bytes: &'a [u8],
     written: bool,
@@ -51,7 +51,7 @@ fn fault_of<'a, M: Message<'a>>(alloc: Global, bytes: &'a [u8]) -> Result<String
     }
 }
 
-fn answer_of<'a, M: Message<'a> + Shown>(
+fn answer_of<'a, M: Message<'a> + HasTextForm>(
     alloc: Global,
     bytes: &'a [u8],
     question: Question,
@@ -105,9 +105,9 @@ fn row_answer(alloc: Global, given: &str, question: Question) -> Result<String> 
 
 /// Messages of any spelling.
 #[derive(Drop)]
-pub struct Read;
+pub struct AnySpelling;
 
-impl Subject for Read {
+impl Subject for AnySpelling {
     fn answer(&self, alloc: Global, given: &str) -> Result<String> {
         row_answer(alloc, given, Question::TextForm)
     }

@@ -13,7 +13,7 @@ use testproto::{
 const LONG_RUN: usize = 16;
 
 /// What has a text form.
-pub trait Shown {
+pub trait HasTextForm {
     fn show(&self, form: &mut TextForm) -> Result<()>;
 }
 
@@ -58,14 +58,14 @@ impl TextForm {
         Ok(())
     }
 
-    fn one<M: Shown>(&mut self, name: &str, message: &M) -> Result<()> {
+    fn one<M: HasTextForm>(&mut self, name: &str, message: &M) -> Result<()> {
         write!(self.text, "{name} {{ ")?;
         message.show(self)?;
         self.text.push_str("} ")?;
         Ok(())
     }
 
-    fn message<M: Shown>(&mut self, name: &str, held: &Option<M>) -> Result<()> {
+    fn message<M: HasTextForm>(&mut self, name: &str, held: &Option<M>) -> Result<()> {
         match held {
             Some(message) => self.one(name, message),
             None => Ok(()),
@@ -106,33 +106,33 @@ fn push_quoted(text: &mut String, bytes: &[u8]) -> Result<()> {
     Ok(())
 }
 
-impl Shown for Empty {
+impl HasTextForm for Empty {
     fn show(&self, _form: &mut TextForm) -> Result<()> {
         Ok(())
     }
 }
 
-impl Shown for Payload<'_> {
+impl HasTextForm for Payload<'_> {
     fn show(&self, form: &mut TextForm) -> Result<()> {
         form.number("type", self.kind)?;
         form.bytes("body", self.body.as_slice())
     }
 }
 
-impl Shown for BoolValue {
+impl HasTextForm for BoolValue {
     fn show(&self, form: &mut TextForm) -> Result<()> {
         form.flag("value", self.value)
     }
 }
 
-impl Shown for EchoStatus<'_> {
+impl HasTextForm for EchoStatus<'_> {
     fn show(&self, form: &mut TextForm) -> Result<()> {
         form.number("code", self.code)?;
         form.bytes("message", self.message.as_str().as_bytes())
     }
 }
 
-impl Shown for SimpleRequest<'_> {
+impl HasTextForm for SimpleRequest<'_> {
     fn show(&self, form: &mut TextForm) -> Result<()> {
         form.number("response_type", self.response_type)?;
         form.number("response_size", self.response_size)?;
@@ -145,7 +145,7 @@ impl Shown for SimpleRequest<'_> {
     }
 }
 
-impl Shown for SimpleResponse<'_> {
+impl HasTextForm for SimpleResponse<'_> {
     fn show(&self, form: &mut TextForm) -> Result<()> {
         form.message("payload", &self.payload)?;
         form.bytes("username", self.username.as_str().as_bytes())?;
@@ -153,20 +153,20 @@ impl Shown for SimpleResponse<'_> {
     }
 }
 
-impl Shown for StreamingInputCallRequest<'_> {
+impl HasTextForm for StreamingInputCallRequest<'_> {
     fn show(&self, form: &mut TextForm) -> Result<()> {
         form.message("payload", &self.payload)?;
         form.message("expect_compressed", &self.expect_compressed)
     }
 }
 
-impl Shown for StreamingInputCallResponse {
+impl HasTextForm for StreamingInputCallResponse {
     fn show(&self, form: &mut TextForm) -> Result<()> {
         form.number("aggregated_payload_size", self.aggregated_payload_size)
     }
 }
 
-impl Shown for ResponseParameters {
+impl HasTextForm for ResponseParameters {
     fn show(&self, form: &mut TextForm) -> Result<()> {
         form.number("size", self.size)?;
         form.number("interval_us", self.interval_us)?;
@@ -174,7 +174,7 @@ impl Shown for ResponseParameters {
     }
 }
 
-impl Shown for StreamingOutputCallRequest<'_> {
+impl HasTextForm for StreamingOutputCallRequest<'_> {
     fn show(&self, form: &mut TextForm) -> Result<()> {
         form.number("response_type", self.response_type)?;
         for parameters in self.response_parameters.as_slice() {
@@ -185,7 +185,7 @@ impl Shown for StreamingOutputCallRequest<'_> {
     }
 }
 
-impl Shown for StreamingOutputCallResponse<'_> {
+impl HasTextForm for StreamingOutputCallResponse<'_> {
     fn show(&self, form: &mut TextForm) -> Result<()> {
         form.message("payload", &self.payload)
     }

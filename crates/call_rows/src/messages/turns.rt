@@ -212,7 +212,7 @@ struct Client {
 
 /// The state of a call after its events.
 #[derive(Drop)]
-struct Seen {
+struct CallView {
     now: u64,
     /// What its last turn answered.
     last: Turn,
@@ -224,7 +224,7 @@ struct Seen {
 }
 
 /// The answer of the last turn, the status that was given, and the items.
-fn answer_text(alloc: Global, seen: &Seen, code: Option<u32>) -> Result<String> {
+fn answer_text(alloc: Global, seen: &CallView, code: Option<u32>) -> Result<String> {
     let last = seen.last;
     let mut text = format!(in alloc; "{last:?}")?;
     match code {
@@ -246,7 +246,7 @@ fn follow(
     run: &mut CallRun<InLane, OutLane>,
     client: &mut Client,
     event: Event,
-    seen: &mut Seen,
+    seen: &mut CallView,
 ) -> Result<()>
     requires { run.old.index < length (listed methods.now) }
     ensures { OnOk result (run.new.index ≡ run.old.index) }
@@ -280,7 +280,7 @@ fn run_course(alloc: Global, methods: &Methods, index: usize, course: Course) ->
         sender,
     };
     let mut run = CallRun::new(alloc, methods, index, head, taker, giver, OPENED);
-    let mut seen = Seen {
+    let mut seen = CallView {
         now: OPENED,
         last: Turn::Nothing,
         left: false,

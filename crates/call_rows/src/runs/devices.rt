@@ -1,7 +1,7 @@
 //! Devices that give and take a byte at a call, and fail.
 
 use anyhow::Result;
-use device::{DeviceFault, Marked, ReadFault, read_all, write_all};
+use device::{DeviceFault, ReadFault, StdDevice, read_all, write_all};
 use std::alloc::{AllocError, Global};
 use std::io;
 use std::io::{Read, Write};
@@ -74,7 +74,7 @@ impl Write for Narrow {
 
 /// What is read of a text by a reader that fails at a place, and whether the reader is marked then.
 fn read_up_to(alloc: Global, fails_at: usize) -> Result<(Option<Vec<u8>>, bool)> {
-    let mut input = Marked::new(Trickle::new(alloc, TEXT, fails_at)?);
+    let mut input = StdDevice::new(Trickle::new(alloc, TEXT, fails_at)?);
     let all = match read_all(alloc, &mut input) {
         Ok(all) => Some(all),
         Err(ReadFault::Device | ReadFault::OutOfMemory) => None,
@@ -84,7 +84,7 @@ fn read_up_to(alloc: Global, fails_at: usize) -> Result<(Option<Vec<u8>>, bool)>
 
 /// What is written of a text if there is room for a number of bytes, and whether that was all.
 fn write_within(alloc: Global, room: usize) -> (Result<(), DeviceFault>, Vec<u8>) {
-    let mut output = Marked::new(Narrow {
+    let mut output = StdDevice::new(Narrow {
         bytes: Vec::new(alloc),
         room,
         is_interrupted: false,

@@ -23,7 +23,7 @@ ghost use Rattle.std.specs.Prelude.{
 };
 ghost use mathlib.Core.List.{IsPrefix};
 ghost use Rattle.lane.specs.End.{of_end};
-ghost use Rattle.callbox.specs.InSides.{Took, pieces_of};
+ghost use Rattle.callbox.specs.InSides.{TakesMessages, pieces_of};
 ghost use Rattle.call_rows.specs.Runs.{IsFed, RunsIn, answer_items, message_items};
 ghost use Rattle.callbox.specs.OutSides.{has_head};
 ghost use Rattle.callbox.specs.OutAccounts.{CountsOut};
@@ -61,7 +61,7 @@ pub struct Answer {
 
 /// What became of a call.
 #[derive(Debug, Drop)]
-pub struct Ran {
+pub struct CallOutcome {
     /// The in side of its account, counted.
     pub input: InAccount,
     /// The messages that were taken.
@@ -162,9 +162,9 @@ fn take_all<L: Lane<Item = InPiece>, R: Wait>(
     taker: Taker<L>,
     stopped: &AtomicBool,
 ) -> Result<(Taker<L>, Vec<Bytes>), AllocError>
-    requires { Took (L.got taker.rx) taker.progress [] }
+    requires { TakesMessages (L.got taker.rx) taker.progress [] }
     ensures name { IfOk result (λ r. L.out_name r.0.rx ≡ L.out_name taker.rx) }
-    ensures took { IfOk result (λ r. Took (L.got r.0.rx) r.0.progress r.1.items) }
+    ensures took { IfOk result (λ r. TakesMessages (L.got r.0.rx) r.0.progress r.1.items) }
 {
     let mut taker = taker;
     let mut taken = Vec::new(alloc);
@@ -302,7 +302,7 @@ fn run_in<L: Lane<Item = InPiece> + Send, R: Threads + Wait + Sync>(
 ) -> Result<(InAccount, Vec<Bytes>), AllocError>
     requires one_call { L.in_name feeder.tx ≡ L.out_name taker.rx }
     requires unfed { L.put_in feeder.tx ≡ [] }
-    requires took { Took (L.got taker.rx) taker.progress [] }
+    requires took { TakesMessages (L.got taker.rx) taker.progress [] }
     ensures account { IfOk result (λ r. RunsIn request.pieces.items request.shut r.1.items r.0) }
     ensures room { IfOk result (λ r. (L.MayMiss → ⊥)
         → length request.pieces.items ≤ L.room_of (L.in_name feeder.tx)
@@ -324,9 +324,9 @@ fn run_in<L: Lane<Item = InPiece> + Send, R: Threads + Wait + Sync>(
                 → of_end (λ _. None) (λ s. Some s.kind) end ≡ Some request.shut) }
         { feed_all(feeder, request, &stopped) },
         || -> Result<(Taker<L>, Vec<Bytes>), AllocError>
-            requires { Took (L.got taker.rx) taker.progress [] }
+            requires { TakesMessages (L.got taker.rx) taker.progress [] }
             ensures name { IfOk result (λ r. L.out_name r.0.rx ≡ L.out_name taker.rx) }
-            ensures took { IfOk result (λ r. Took (L.got r.0.rx) r.0.progress r.1.items) }
+            ensures took { IfOk result (λ r. TakesMessages (L.got r.0.rx) r.0.progress r.1.items) }
         { take_all(rt, alloc, taker, &stopped) },
     );
     let end = end?;
@@ -386,7 +386,7 @@ pub fn run_call<
     rooms: (usize, usize),
     request: Request,
     answer: Answer,
-) -> Result<Ran, AllocError>
+) -> Result<CallOutcome, AllocError>
     requires within { All (λ m. length m ≤ 4194304) answer.messages.items }
     ensures in_side { IfOk result
         (λ r. RunsIn request.pieces.items request.shut r.taken.items r.input) }
@@ -403,7 +403,7 @@ pub fn run_call<
         || -> Result<(InAccount, Vec<Bytes>), AllocError>
             requires one_call { I.in_name feeder.tx ≡ I.out_name taker.rx }
             requires unfed { I.put_in feeder.tx ≡ [] }
-            requires took { Took (I.got taker.rx) taker.progress [] }
+            requires took { TakesMessages (I.got taker.rx) taker.progress [] }
             ensures account { IfOk result
                 (λ r. RunsIn request.pieces.items request.shut r.1.items r.0) }
             ensures room { IfOk result (λ r. (I.MayMiss → ⊥)
@@ -421,7 +421,7 @@ pub fn run_call<
     );
     let (input, taken) = input?;
     let (output, sent) = output?;
-    Ok(Ran {
+    Ok(CallOutcome {
         input,
         taken,
         output,

@@ -1,7 +1,7 @@
 //! The two ends of the in side, over a ring, and over a row of cells.
 ghost use Rattle.std.specs.Prelude.{◌≡◌, OnOk};
 
-use account::{OutItem, Shut, Told};
+use account::{OutItem, RequestEnd, Shut};
 use anyhow::Result;
 use bytes::Bytes;
 use callbox::{Feeder, InAccount, InPiece, Taken, Taker, open_call, settle_in};
@@ -59,7 +59,7 @@ pub fn keep_what_was_polled(alloc: Global) -> Result<bool> {
         fed: 16,
         shut: Some(Shut::End),
         taken: 3,
-        told: Some(Told::End),
+        told: Some(RequestEnd::End),
     };
     let is_settled = settle_in(End::Shut(shut), taker) == wanted;
     Ok(are_fed && is_first && is_second && is_third && is_end && is_settled)

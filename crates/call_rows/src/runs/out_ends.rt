@@ -40,7 +40,7 @@ pub fn bytes_of(item: &OutItem) -> &[u8] {
 
 /// What became of bytes that were given as a frame.
 #[derive(Clone, Copy, PartialEq, Eq)]
-enum Framed {
+enum FramedOutcome {
     Given,
     NotAFrame,
     Refused,
@@ -49,16 +49,16 @@ enum Framed {
 }
 
 /// Gives bytes as a frame.
-fn give_framed<L: Lane<Item = OutItem>>(giver: &mut Giver<L>, bytes: &'static [u8]) -> Framed
+fn give_framed<L: Lane<Item = OutItem>>(giver: &mut Giver<L>, bytes: &'static [u8]) -> FramedOutcome
     ensures { L.in_name giver.new.tx ≡ L.in_name giver.old.tx }
 {
     if !giver.has_head() {
-        return Framed::Headless;
+        return FramedOutcome::Headless;
     }
     match giver.give_framed(ZeroTail::from(Bytes::from_static(bytes))) {
-        Ok(()) => Framed::Given,
-        Err(FramedFault::NotAFrame(_)) => Framed::NotAFrame,
-        Err(FramedFault::Refused(_)) => Framed::Refused,
+        Ok(()) => FramedOutcome::Given,
+        Err(FramedFault::NotAFrame(_)) => FramedOutcome::NotAFrame,
+        Err(FramedFault::Refused(_)) => FramedOutcome::Refused,
     }
 }
 
@@ -84,10 +84,10 @@ fn goes_on<L: Lane<Item = OutItem>>(giver: &mut Giver<L>) -> bool
     let framed = give_framed(giver, OTHER_FRAMED);
     let refused = give_framed(giver, &[0, 0, 0, 0, 0]);
     let is_full = giver.check_room() == Err(3);
-    unframed == Framed::NotAFrame
+    unframed == FramedOutcome::NotAFrame
         && has_room
-        && framed == Framed::Given
-        && refused == Framed::Refused
+        && framed == FramedOutcome::Given
+        && refused == FramedOutcome::Refused
         && is_full
 }
 

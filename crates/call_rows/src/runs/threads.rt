@@ -3,7 +3,7 @@ ghost use Rattle.std.specs.Prelude.{IfOk, All, length, ◌≤◌};
 
 use super::four_threads::{Answer, Request, run_call};
 use super::out_ends::{FRAMED, bytes_of, fields};
-use account::{OutItem, Shut, Told};
+use account::{OutItem, RequestEnd, Shut};
 use anyhow::Result;
 use bytes::Bytes;
 use callbox::{InAccount, InPiece, OutAccount};
@@ -50,7 +50,7 @@ pub fn four_ends<R: Threads + Wait + Sync>(rt: &R, alloc: Global) -> Result<bool
         fed: 12,
         shut: Some(Shut::Reset(8)),
         taken: 2,
-        told: Some(Told::Reset(8)),
+        told: Some(RequestEnd::Reset(8)),
     };
     let output = OutAccount {
         given: 3,

@@ -24,7 +24,7 @@ ghost use Rattle.std.specs.Prelude.{
 };
 ghost use Rattle.std.specs.List.{AllZip, sum_by};
 ghost use Rattle.lane.specs.End.{of_end};
-ghost use Rattle.callbox.specs.InSides.{Took};
+ghost use Rattle.callbox.specs.InSides.{TakesMessages};
 ghost use Rattle.handlers.specs.Listed.{listed};
 ghost use Rattle.callrun.specs.Runs.{HasCome};
 ghost use Rattle.callrun.specs.Handlings.{lacks_memory};
@@ -83,7 +83,7 @@ pub enum Why {
 
 /// A call that was opened, and waits for its worker.
 #[derive(Drop)]
-pub struct Opened<I: Lane<Item = InPiece>, O: Lane<Item = OutItem>> {
+pub struct OpenedCall<I: Lane<Item = InPiece>, O: Lane<Item = OutItem>> {
     /// The index of the call's method.
     pub index: usize,
     pub head: CallHead,
@@ -95,7 +95,7 @@ pub struct Opened<I: Lane<Item = InPiece>, O: Lane<Item = OutItem>> {
 
 /// What is left of a call.
 #[derive(Drop)]
-pub struct Ended<I: Lane<Item = InPiece>, O: Lane<Item = OutItem>> {
+pub struct EndedCall<I: Lane<Item = InPiece>, O: Lane<Item = OutItem>> {
     pub taker: Taker<I>,
     pub end: End<Giver<O>, GivenShut<O>>,
     /// The status of the trailers that were given.
@@ -118,14 +118,14 @@ fn take_turns<I: Lane<Item = InPiece>, O: Lane<Item = OutItem>, P: Pace>(
     requires index { run.old.index < length (listed methods.now) }
     ensures run { IfSome (slice_get (listed methods.now) run.old.index)
         (λ method. (messages : List (List ℕ))
-        → Took (I.got run.old.taker.rx) run.old.taker.progress messages
+        → TakesMessages (I.got run.old.taker.rx) run.old.taker.progress messages
         → HasCome ((⟦<dyn Method as Method>⟧ method.vtable).answers method.value)
         ((⟦<dyn Method as Method>⟧ method.vtable).stands method.value) run.old.taker.progress.told
         messages run.old.call run.old.in_hand
         (shown (λ g. O.put_in g.tx) (λ s. O.put_shut s.shut) (λ s. O.was_placed s.shut)
         run.old.response)
         → (more : List (List ℕ))
-        × Took (I.got run.new.taker.rx) run.new.taker.progress (messages ++ more)
+        × TakesMessages (I.got run.new.taker.rx) run.new.taker.progress (messages ++ more)
         × HasCome ((⟦<dyn Method as Method>⟧ method.vtable).answers method.value)
         ((⟦<dyn Method as Method>⟧ method.vtable).stands method.value) run.new.taker.progress.told
         (messages ++ more) run.new.call run.new.in_hand
@@ -164,10 +164,10 @@ fn take_turns<I: Lane<Item = InPiece>, O: Lane<Item = OutItem>, P: Pace>(
 pub fn run_call<I: Lane<Item = InPiece>, O: Lane<Item = OutItem>, P: Pace>(
     alloc: Global,
     methods: &Methods,
-    call: Opened<I, O>,
+    call: OpenedCall<I, O>,
     pace: &mut P,
     turns: u64,
-) -> Ended<I, O>
+) -> EndedCall<I, O>
     requires index { call.index < length (listed methods.now) }
     requires untouched { IsUntouched (I.got call.taker.rx) call.taker.progress
         (O.put_in call.giver.tx) }
@@ -186,7 +186,7 @@ pub fn run_call<I: Lane<Item = InPiece>, O: Lane<Item = OutItem>, P: Pace>(
     ensures had { HadTurns turns result.turns result.why
         (of_end (λ g. false) (λ s. true) result.end) result.ran_out O.MayMiss }
 {
-    let Opened {
+    let OpenedCall {
         index,
         head,
         opened,
@@ -198,7 +198,7 @@ pub fn run_call<I: Lane<Item = InPiece>, O: Lane<Item = OutItem>, P: Pace>(
     let ran_out = run.ran_out();
     run.leave(methods);
     let (taker, end, code) = run.into_ends();
-    Ended {
+    EndedCall {
         taker,
         end,
         code,
@@ -213,10 +213,10 @@ pub fn run_call<I: Lane<Item = InPiece>, O: Lane<Item = OutItem>, P: Pace>(
 pub fn run_list<I: Lane<Item = InPiece>, O: Lane<Item = OutItem>, P: Pace>(
     alloc: Global,
     methods: &Methods,
-    calls: VecDeque<Opened<I, O>>,
+    calls: VecDeque<OpenedCall<I, O>>,
     pace: &mut P,
     turns: u64,
-) -> Result<Vec<Ended<I, O>>, AllocError>
+) -> Result<Vec<EndedCall<I, O>>, AllocError>
     requires index { All (λ call. call.index < length (listed methods.now)) calls.items }
     requires untouched { All
         (λ call. IsUntouched (I.got call.taker.rx) call.taker.progress (O.put_in call.giver.tx))

@@ -49,7 +49,7 @@ fn work<A: Ledger, B: Ledger, C: Ledger, R: Wait>(
     pieces: &[u32],
 ) {
     for piece in pieces {
-        let _ = book.lock(rt).give_back(CALL, *piece);
+        let _ = book.lock(rt).return_credit(CALL, *piece);
     }
 }
 
@@ -68,7 +68,7 @@ fn write<A: Ledger, B: Ledger, C: Ledger, R: Wait>(
     let mut told = told;
     let mut credit = 0;
     for _i in 0..times {
-        credit += u64::from(book.lock(rt).announce(0, &mut told));
+        credit += u64::from(book.lock(rt).take_due_credit(0, &mut told));
     }
     book.lock(rt).stop();
     (told, credit)

@@ -2,7 +2,7 @@
 //! nanoseconds, and the echoes.
 
 use callhead::{CallHead, Encoding};
-use session::{Control, InEvent};
+use session::{InEvent, PeerControl};
 use std::alloc::{AllocError, Global};
 
 const DIGITS: &[u8; 16] = b"0123456789abcdef";
@@ -34,11 +34,11 @@ fn push_head(out: &mut String, head: &CallHead) -> Result<(), AllocError> {
     out.push(']')
 }
 
-fn push_control(out: &mut String, control: &Control) -> Result<(), AllocError> {
+fn push_control(out: &mut String, control: &PeerControl) -> Result<(), AllocError> {
     match control {
-        Control::Settings(settings) => write!(out, " Settings{:?}", settings.as_slice()),
-        Control::Window(id, more) => write!(out, " Window({id}, {more})"),
-        Control::Ping(bytes) => {
+        PeerControl::Settings(settings) => write!(out, " Settings{:?}", settings.as_slice()),
+        PeerControl::Window(id, more) => write!(out, " Window({id}, {more})"),
+        PeerControl::Ping(bytes) => {
             out.push_str(" Ping(")?;
             push_bytes(out, bytes.as_slice())?;
             out.push(')')

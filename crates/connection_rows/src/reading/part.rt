@@ -22,14 +22,14 @@ pub struct Part {
 
 /// A part that has a name.
 #[derive(Drop)]
-pub struct Named {
+pub struct NamedPart {
     pub name: String,
     pub part: Part,
 }
 
 impl Part {
     /// What a line spells.
-    pub fn read(alloc: Global, names: &[Named], line: &str) -> Result<Part> {
+    pub fn read(alloc: Global, names: &[NamedPart], line: &str) -> Result<Part> {
         let (items, events) = line.split_once("=>").unwrap_or((line, ""));
         let mut part = Part {
             bytes: Vec::new(alloc),
@@ -46,7 +46,7 @@ impl Part {
         Ok(part)
     }
 
-    fn add(&mut self, alloc: Global, names: &[Named], item: &str) -> Result<()> {
+    fn add(&mut self, alloc: Global, names: &[NamedPart], item: &str) -> Result<()> {
         if let Some(named) = names.iter().find(|named| named.name.as_str() == item) {
             self.bytes.extend_from_slice(named.part.bytes.as_slice())?;
             self.events.push_str(named.part.events.as_str())?;

@@ -2,7 +2,7 @@
 //! `NAME = ITEMS => EVENTS`, which later lines may have as an item. A line that begins with `#` is
 //! a comment.
 
-use super::part::{Named, Part};
+use super::part::{NamedPart, Part};
 use anyhow::{Context, Result};
 use std::alloc::Global;
 
@@ -26,7 +26,7 @@ pub fn read(alloc: Global, file: &str, text: &str) -> Result<Vec<Row>> {
         if let Some((name, spelled)) = line.split_once(" = ") {
             let part = part_of(alloc, names.as_slice(), spelled, file, number)?;
             let name = String::from_str(alloc, name)?;
-            names.push(Named { name, part })?;
+            names.push(NamedPart { name, part })?;
         } else {
             let part = part_of(alloc, names.as_slice(), line, file, number)?;
             rows.push(Row { line: number, part })?;
@@ -36,7 +36,13 @@ pub fn read(alloc: Global, file: &str, text: &str) -> Result<Vec<Row>> {
 }
 
 /// What a line spells. An error says where.
-fn part_of(alloc: Global, names: &[Named], spelled: &str, file: &str, number: u64) -> Result<Part> {
+fn part_of(
+    alloc: Global,
+    names: &[NamedPart],
+    spelled: &str,
+    file: &str,
+    number: u64,
+) -> Result<Part> {
     let place = format!(in alloc; "{file}:{number}")?;
     Part::read(alloc, names, spelled).context(place)
 }

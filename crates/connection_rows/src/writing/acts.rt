@@ -5,14 +5,14 @@ use super::peer::Peer;
 use anyhow::{Context, Result, bail};
 use callbox::Sender;
 use h2frame::{ErrorCode, PeerSetting, PeerSettings, StreamId};
-use outwriter::{Control, Next, OutCore, OutFault};
+use outwriter::{Next, OutCore, OutFault, WriterOrder};
 use reasons::Reason;
 use std::alloc::Global;
 use std::mem;
 
 pub type Core = OutCore<Ring>;
 
-type Order = Control<Sender<Ring>>;
+type Order = WriterOrder<Sender<Ring>>;
 
 /// Performs an act: takes a control, owes credit, asks or writes.
 pub fn perform(alloc: Global, core: &mut Core, peer: &mut Peer, act: &str) -> Result<()> {
@@ -85,14 +85,14 @@ fn tell_senders(core: Core, peer: &mut Peer) -> Result<()> {
 fn order(alloc: Global, words: &[&str]) -> Result<Order> {
     match word(words, 0)? {
         "settings" => settings(alloc, words),
-        "ping" => Ok(Control::Ping(ping_bytes(words)?)),
-        "probe" => Ok(Control::Probe(ping_bytes(words)?)),
-        "window" => Ok(Control::Window(number(words, 1)?, number(words, 2)?)),
+        "ping" => Ok(WriterOrder::Ping(ping_bytes(words)?)),
+        "probe" => Ok(WriterOrder::Probe(ping_bytes(words)?)),
+        "window" => Ok(WriterOrder::Window(number(words, 1)?, number(words, 2)?)),
         "open" => open(alloc, words),
         "refuse" => refuse(alloc, words),
         "reset" => reset(words),
         "goaway" => goaway(words),
-        "close" => Ok(Control::Close),
+        "close" => Ok(WriterOrder::Close),
         _ => bail!("there is no such act"),
     }
 }
@@ -102,7 +102,7 @@ fn settings(alloc: Global, words: &[&str]) -> Result<Order> {
     for word in words.iter().skip(1) {
         settings.push(setting(*word)?)?;
     }
-    Ok(Control::Settings(PeerSettings::from(settings)))
+    Ok(WriterOrder::Settings(PeerSettings::from(settings)))
 }
 
 /// `window=N` or `table=N`.
@@ -125,16 +125,16 @@ fn ping_bytes(words: &[&str]) -> Result<[u8; 8]> {
 fn open(alloc: Global, words: &[&str]) -> Result<Order> {
     let id = number(words, 1)?;
     let ended = words.get(3).copied() == Some("ended");
-    Ok(Control::Open(id, sender(alloc, id, word(words, 2)?, ended)?))
+    Ok(WriterOrder::Open(id, sender(alloc, id, word(words, 2)?, ended)?))
 }
 
 fn refuse(alloc: Global, words: &[&str]) -> Result<Order> {
     let len = number(words, 2)? as usize;
-    Ok(Control::Refuse(number(words, 1)?, fields(alloc, ":status", len)?))
+    Ok(WriterOrder::Refuse(number(words, 1)?, fields(alloc, ":status", len)?))
 }
 
 fn reset(words: &[&str]) -> Result<Order> {
-    Ok(Control::Reset {
+    Ok(WriterOrder::Reset {
         id: number(words, 1)?,
         code: ErrorCode::from_code(number(words, 2)?),
         written: words.get(3).is_none(),
@@ -142,7 +142,7 @@ fn reset(words: &[&str]) -> Result<Order> {
 }
 
 fn goaway(words: &[&str]) -> Result<Order> {
-    Ok(Control::Goaway {
+    Ok(WriterOrder::Goaway {
         last: number(words, 1)?,
         reason: Reason::Code(ErrorCode::from_code(number(words, 2)?)),
     })

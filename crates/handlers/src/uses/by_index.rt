@@ -5,7 +5,7 @@ ghost use Rattle.handlers.specs.Listed.{listed};
 
 use crate::fault::MethodFault;
 use crate::methods::Methods;
-use crate::step::Step;
+use crate::step::MethodStep;
 use std::alloc::Global;
 
 /// What the method at this index answers to a call of one message.
@@ -14,13 +14,13 @@ pub fn run_one(
     methods: &Methods,
     index: usize,
     message: &[u8],
-) -> Result<Step, MethodFault>
+) -> Result<MethodStep, MethodFault>
     requires { index < length (listed methods.now) }
     ensures { IfSome (slice_get (listed methods.now) index)
         (λ method. IfOk result (λ answer. answers method (message.now ∷ []) true answer)) }
 {
     let mut state = methods.first(index);
-    let mut given = Step::nothing(alloc);
+    let mut given = MethodStep::nothing(alloc);
     let step = methods.message(alloc, index, &mut state, message)?;
     given.join(step)?;
     let last = methods.end(alloc, index, &mut state)?;

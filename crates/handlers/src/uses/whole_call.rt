@@ -1,11 +1,11 @@
 //! A whole call of a method, its steps one after another.
 
 ghost use Rattle.std.specs.Prelude.{◌≡◌, map, IfOk, IsSome, IsTrue};
-ghost use Rattle.handlers.specs.declared.step.Step.{Step as Given};
+ghost use Rattle.handlers.specs.declared.step.MethodStep.{MethodStep as Given};
 
 use crate::fault::MethodFault;
 use crate::method::Method;
-use crate::step::Step;
+use crate::step::MethodStep;
 use std::alloc::Global;
 
 /// What the method answers to a call of these messages, and to their end if `ended` says so.
@@ -17,7 +17,7 @@ pub fn run(
     method: &dyn Method,
     messages: &[&[u8]],
     ended: bool,
-) -> Result<Step, MethodFault>
+) -> Result<MethodStep, MethodFault>
     ensures answer { IfOk result
         (λ answer. answers method.now (map (λ message. message.now) messages.now) ended answer) }
     ensures only { IfOk result
@@ -27,7 +27,7 @@ pub fn run(
     ensures status { IfOk result (λ answer. IsTrue ended → IsSome answer.ends) }
 {
     let mut state = method.first();
-    let mut given = Step::nothing(alloc);
+    let mut given = MethodStep::nothing(alloc);
     for message in messages {
         let step = method.message(alloc, &mut state, message)?;
         given.join(step)?;

@@ -17,7 +17,7 @@ ghost use Rattle.lane.specs.Steps.{link};
 ghost use Rattle.lane.specs.RingLane.{out_name, got, ahead};
 
 use super::RingLaneOut;
-use super::step::{Fresh, Step};
+use super::step::{FreshRing, RingStep};
 
 impl<T: Drop> RingLaneOut<T> {
     /// Gets the next item, or says that none was found.
@@ -89,12 +89,12 @@ impl<T: Drop> RingLaneOut<T> {
             ..
         } = self;
         match first.pop_known() {
-            Step::Piece(item) => {
+            RingStep::Piece(item) => {
                 *count = count.saturating_add(1);
                 *polled = Some(item);
             }
-            Step::Next(fresh) => {
-                let Fresh { out } = fresh;
+            RingStep::Next(fresh) => {
+                let FreshRing { out } = fresh;
                 let mut out = Box::into_inner(out);
                 match out.poll() {
                     Some(item) => {
@@ -118,9 +118,9 @@ impl<T: Drop> RingLaneOut<T> {
     {
         let RingLaneOut { first, second, .. } = self;
         match first.pop_known() {
-            Step::Piece(_) => unreachable!(),
-            Step::Next(fresh) => {
-                let Fresh { out } = fresh;
+            RingStep::Piece(_) => unreachable!(),
+            RingStep::Next(fresh) => {
+                let FreshRing { out } = fresh;
                 *second = Some(Box::into_inner(out));
             }
         }

@@ -21,7 +21,7 @@ ghost use Rattle.lane.specs.Second.{
 };
 
 use super::second::{Second, SecondIn, SecondOut, SecondShut};
-use super::step::{Fresh, Step};
+use super::step::{FreshRing, RingStep};
 use crate::lane::{End, Settled};
 use rtrb::{Consumer, Producer};
 
@@ -41,7 +41,7 @@ impl Settled {
 }
 
 /// Takes all that is known to be in the ring, and answers the way on.
-fn drain<T: Drop>(first: Consumer<Step<T>>, known: usize) -> Option<SecondOut<T>>
+fn drain<T: Drop>(first: Consumer<RingStep<T>>, known: usize) -> Option<SecondOut<T>>
     requires known { known ≡ length (known_items first) }
     requires none { link (received first) ≡ None }
     ensures { result
@@ -56,13 +56,13 @@ fn drain<T: Drop>(first: Consumer<Step<T>>, known: usize) -> Option<SecondOut<T>
 }
 
 /// The way on, as far as it was found.
-fn way_on<T: Drop>(step: Step<T>, found: Option<SecondOut<T>>) -> Option<SecondOut<T>>
+fn way_on<T: Drop>(step: RingStep<T>, found: Option<SecondOut<T>>) -> Option<SecondOut<T>>
     ensures { result ≡ after (λ fresh. fresh.out.value) step found }
 {
     match step {
-        Step::Piece(_) => found,
-        Step::Next(fresh) => {
-            let Fresh { out } = fresh;
+        RingStep::Piece(_) => found,
+        RingStep::Next(fresh) => {
+            let FreshRing { out } = fresh;
             Some(Box::into_inner(out))
         }
     }
@@ -89,9 +89,9 @@ pub(super) fn meet_first<S>(first: &mut Producer<S>, reading: &mut Consumer<S>) 
 /// Brings all ends together. It counts what was put into the second ring, what was got from it, and
 /// what is left in both rings.
 pub(super) fn settle_rings<T: Drop>(
-    mut first: Producer<Step<T>>,
+    mut first: Producer<RingStep<T>>,
     second: Option<End<SecondIn<T>, SecondShut<T>>>,
-    mut reading: Consumer<Step<T>>,
+    mut reading: Consumer<RingStep<T>>,
     out: Option<SecondOut<T>>,
 ) -> Settled
     requires name { producer_name first ≡ consumer_name reading }

@@ -6,16 +6,16 @@ use super::second::SecondOut;
 
 /// An item, or the way on.
 #[derive(Drop)]
-pub(crate) enum Step<T> {
+pub(crate) enum RingStep<T> {
     Piece(T),
     /// The writer went on to the second ring. Nothing comes after it.
-    Next(Fresh<T>),
+    Next(FreshRing<T>),
 }
 
 /// The reading end of a second ring from which nothing was got, and whose next item is there. It is
 /// boxed, so that a place of the first ring stays small.
 #[derive(Drop)]
-pub(crate) struct Fresh<T> {
+pub(crate) struct FreshRing<T> {
     pub(crate) out: Box<SecondOut<T>>,
     ghost fresh: { length (got out.value) ≤ 0 },
     ghost one: { length (ahead out.value) ≡ 1 },

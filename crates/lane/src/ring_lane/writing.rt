@@ -34,7 +34,7 @@ ghost use Rattle.lane.specs.Second.{
 
 use super::RingLaneIn;
 use super::second::{Second, SecondIn};
-use super::step::{Fresh, Step};
+use super::step::{FreshRing, RingStep};
 use crate::fault::PutFault;
 use std::alloc::AllocError;
 
@@ -170,7 +170,7 @@ impl<T: Drop> RingLaneIn<T> {
         ensures sent { pieces (sent self.new.first) ≡ pieces (sent self.old.first) ++ item ∷ [] }
     {
         let RingLaneIn { first, count, .. } = self;
-        first.push_reserved(Step::Piece(item));
+        first.push_reserved(RingStep::Piece(item));
         *count = count.saturating_add(1);
     }
 
@@ -219,12 +219,12 @@ impl<T: Drop> RingLaneIn<T> {
         };
         tx.place(item);
         let _one = Second::meet(&mut tx, &mut out);
-        self.hand_over(tx, Fresh { out });
+        self.hand_over(tx, FreshRing { out });
         Ok(())
     }
 
     /// Goes on to the second ring.
-    fn hand_over(&mut self, tx: SecondIn<T>, fresh: Fresh<T>)
+    fn hand_over(&mut self, tx: SecondIn<T>, fresh: FreshRing<T>)
         requires first { self.old.second ≡ None }
         requires name { second_in_name tx ≡ second_out_name fresh.out.value }
         requires same_room { second_room_of (second_in_name tx) ≡ self.old.room }
@@ -236,7 +236,7 @@ impl<T: Drop> RingLaneIn<T> {
         ensures second { self.new.second ≡ Some tx }
     {
         let RingLaneIn { first, second, .. } = self;
-        first.push_reserved(Step::Next(fresh));
+        first.push_reserved(RingStep::Next(fresh));
         *second = Some(tx);
     }
 }

@@ -22,7 +22,7 @@ ghost use Rattle.lane.specs.Notes.{known_item, holds_item};
 ghost use Rattle.lane.specs.Lawful.{count_of};
 ghost use Rattle.lane.specs.KnownCells.{names_of, cell_of, item_of, cells_of, items_of};
 
-use super::known_cell::Known;
+use super::known_cell::KnownCell;
 use crate::lane::Settled;
 use once_cell::race::OnceBox;
 use std::alloc::{AllocError, Global};
@@ -53,7 +53,7 @@ pub(crate) fn set_at<T: Drop>(
     cells: &Cells<T>,
     at: usize,
     item: Box<Option<T>>,
-) -> Result<Known<T>, Box<Option<T>>>
+) -> Result<KnownCell<T>, Box<Option<T>>>
     requires at { at < vec_len cells.now }
     requires holds { holds_item (Some item.value) ≡ true }
     ensures cell { IfOk result
@@ -64,30 +64,30 @@ pub(crate) fn set_at<T: Drop>(
     let cell = cell_at(cells, at);
     let mut note = cell.note();
     cell.set_as(item, &mut note)?;
-    Ok(Known { note })
+    Ok(KnownCell { note })
 }
 
 /// Looks whether a cell holds an item.
-pub(crate) fn look_at<T: Drop>(cells: &Cells<T>, at: usize) -> Option<Known<T>>
+pub(crate) fn look_at<T: Drop>(cells: &Cells<T>, at: usize) -> Option<KnownCell<T>>
     requires { at < vec_len cells.now }
     ensures { IfSome result (λ known. cell_of known ≡ slice_index (names_of cells.now.items) at) }
 {
     let cell = cell_at(cells, at);
     let mut note = cell.note();
     match cell.get_as(&mut note) {
-        Some(Some(_)) => Some(Known { note }),
+        Some(Some(_)) => Some(KnownCell { note }),
         _ => None,
     }
 }
 
 /// The item of a cell that holds one.
-pub(crate) fn item_at<T: Drop>(cells: &Cells<T>, at: usize, known: Known<T>) -> &T
+pub(crate) fn item_at<T: Drop>(cells: &Cells<T>, at: usize, known: KnownCell<T>) -> &T
     requires at { at < vec_len cells.now }
     requires cell { cell_of known ≡ slice_index (names_of cells.now.items) at }
     ensures { item_of known ≡ result.now ∷ [] }
 {
     let cell = cell_at(cells, at);
-    let Known { mut note } = known;
+    let KnownCell { mut note } = known;
     match cell.get_as(&mut note) {
         Some(Some(item)) => item,
         _ => unreachable!(),
@@ -95,20 +95,20 @@ pub(crate) fn item_at<T: Drop>(cells: &Cells<T>, at: usize, known: Known<T>) -> 
 }
 
 /// Two ends that know of equal cells know equal items.
-pub(crate) fn agree<T: Drop>(mut one: Vec<Known<T>>, mut other: Vec<Known<T>>)
+pub(crate) fn agree<T: Drop>(mut one: Vec<KnownCell<T>>, mut other: Vec<KnownCell<T>>)
     requires { cells_of other.items ≡ cells_of one.items }
     ensures { items_of other.items ≡ items_of one.items }
 {
     while let (Some(mine), Some(theirs)) = (one.pop(), other.pop()) {
-        let Known { mut note } = mine;
-        let Known { note: their_note } = theirs;
+        let KnownCell { mut note } = mine;
+        let KnownCell { note: their_note } = theirs;
         note.compare(their_note);
     }
 }
 
 /// Compares what two ends know of one row of cells.
 #[tactic(auto, using(crate::proofs::KnownItems::length_items_of, crate::proofs::KnownItems::prefix_of_known))]
-pub(crate) fn compare<T: Drop>(mut put: Vec<Known<T>>, got: Vec<Known<T>>) -> Settled
+pub(crate) fn compare<T: Drop>(mut put: Vec<KnownCell<T>>, got: Vec<KnownCell<T>>) -> Settled
     requires fewer { vec_len got ≤ vec_len put }
     requires cells { cells_of got.items ≡ take (vec_len got) (cells_of put.items) }
     ensures put { result.put ≡ count_of (items_of put.items) }

@@ -3,7 +3,7 @@ use Rattle.callparts.specs.Blocks.{items_of}
 use Rattle.callparts.specs.declared.report.Ending.{Ending}
 use Rattle.callparts.specs.declared.report.Ending.TheVariants.{Drained, OutOfMemory, WriteFailed}
 use Rattle.lane.specs.Ring.{taken}
-use Rattle.outwriter.specs.declared.control.Control.TheVariants.{InputEnded}
+use Rattle.outwriter.specs.declared.control.WriterOrder.TheVariants.{InputEnded}
 use Rattle.writerloop.specs.Endings.{ending_told}
 use Rattle.writerloop.specs.Orders.{order_in, orders_of}
 use Rattle.writerloop.proofs.EndSteps.{told-on}
@@ -53,12 +53,12 @@ returns-in-Err-clause-served g c = λ rest read_failed.
     let sent = c.in-Err.ensures.sent in
     let lacked : c.meet.result.report.ending ≡ OutOfMemory =
     is.ending ∙ lacked-by written.ending c.start.new.orders.has_dropped in
-    let left = orders_of (order_in written.rest.aside) ++ orders_of is.obeyed.0 in
+    let left = orders_of (order_in written.senders.aside) ++ orders_of is.obeyed.0 in
     let all : put_orders c.start.new.orders ≡ orders_of sent.given ++ left =
-    given-first sent.given (order_in written.rest.aside) (taken written.orders) is.obeyed.0
+    given-first sent.given (order_in written.senders.aside) (taken written.orders) is.obeyed.0
     (put_of c.start.new.orders) sent.orders_are is.obeyed.1 in
     let put =
-    told-on contents failed (contents c.args.output) parted.told.amount (orders_of sent.given)
+    told-on contents failed (contents c.args.output) parted.announced.amount (orders_of sent.given)
     (put_orders c.start.new.orders) (ending_told written.ending)
     (Some c.meet.result.report.ending) false
     (is_drained c.meet.result.report.ending) written.device

@@ -25,7 +25,7 @@ returns g c =
     let contents = g.O.ConnWrite.contents in
     let failed = g.O.ConnWrite.failed in
     let before = contents c.args.writing.promise.device.value in
-    let amount = c.join-written.result.told.amount in
+    let amount = c.join-written.result.announced.amount in
     let written = c.join-written.result.written in
     let took = taken written.orders in
     let sent = c.join-written.ensures.2 in
@@ -40,10 +40,10 @@ returns g c =
       served = (
         gave known names (λ (calls : Accounts). items_of calls.full calls.last) contents failed
             reading mid old orders c.end.ensures.grows c.end.ensures.ended c.requires.heard before
-            amount took written.rest told written.device sent is.came is.obeyed,
+            amount took written.senders told written.device sent is.came is.obeyed,
         gave-there known names (λ (calls : Accounts). items_of calls.full calls.last) contents
             failed reading mid old orders c.end.ensures.grows c.end.ensures.ended c.requires.heard
-            before amount took written.rest told written.device sent is.came is.obeyed,
+            before amount took written.senders told written.device sent is.came is.obeyed,
         λ came rest heard read_failed has covers unread over. (
           served-by known names (λ (calls : Accounts). items_of calls.full calls.last) contents
               failed came rest before read_failed report.ending report.calls written.device
@@ -51,7 +51,7 @@ returns g c =
               (ended-served known names
               (λ (calls : Accounts). items_of calls.full calls.last) contents failed reading
               mid old orders c.end.ensures.grows c.end.ensures.ended c.requires.heard before
-              amount took written.rest told written.device sent is.came is.obeyed
+              amount took written.senders told written.device sent is.came is.obeyed
               c.args.read report.ending report.calls came rest heard read_failed
               (λ (unbroken : c.args.read ≢ WriteFailed).
               subst (λ (ending : Ending). Meets c.args.read ending told orders.has_dropped)
@@ -62,7 +62,7 @@ returns g c =
               (ended-accounted known names
               (λ (calls : Accounts). items_of calls.full calls.last) contents failed reading mid
               old orders c.end.ensures.grows c.end.ensures.ended c.requires.heard before amount
-              took written.rest told written.device sent is.came is.obeyed
+              took written.senders told written.device sent is.came is.obeyed
               report.calls heard is.accounts has.reads),
         ),
       );

@@ -2,7 +2,7 @@ use Rattle.std.proofs.Common.{◌≡◌, ◌∙◌, ◌∷◌, [], List, Option,
 use Rattle.lane.specs.Ring.{in_name, out_name, taken}
 use Rattle.writerloop.specs.Endings.{ending_told}
 use Rattle.writerloop.specs.Written.{HasSent, Led}
-use Rattle.outwriter.specs.declared.control.Control.TheVariants.{InputEnded}
+use Rattle.outwriter.specs.declared.control.WriterOrder.TheVariants.{InputEnded}
 use Rattle.connection.proofs.Heard.{closed-behind, ordered-put}
 use Rattle.connection.proofs.writer.start.Goals as goal
 
@@ -15,13 +15,13 @@ returns-in-Err-clause-sent g c =
     subst (λ (credit : ℕ).
     Led contents failed (contents c.of.result.value) credit c.new-writing.result)
     (sym c.requires.untold) c.new-writing.ensures.led in
-    let kept : HasSent contents failed (contents c.of.result.value) parted.told.amount
-    (taken parted.written.orders) parted.written.rest (ending_told parted.written.ending)
+    let kept : HasSent contents failed (contents c.of.result.value) parted.announced.amount
+    (taken parted.written.orders) parted.written.senders (ending_told parted.written.ending)
     parted.written.device =
     c.write.ensures.sent (contents c.of.result.value) (rw c.in-Err.ensures.err led) in
     subst (λ (before : Option (List ℕ)).
-    HasSent contents failed before parted.told.amount (taken parted.written.orders)
-    parted.written.rest (ending_told parted.written.ending) parted.written.device)
+    HasSent contents failed before parted.announced.amount (taken parted.written.orders)
+    parted.written.senders (ending_told parted.written.ending) parted.written.device)
     (ap contents c.of.ensures) kept
 
 pub returns-in-Err-clause-put : goal.returns-in-Err-clause-put
@@ -35,10 +35,11 @@ spawn_with-requires-clause-keeps g c = λ κs within r claims.
     let contents = g.W.ConnWrite.contents in
     let failed = g.W.ConnWrite.failed in
     let kept : (out_name r.written.orders ≡ out_name c.of-2.result.value)
-    × (in_name r.written.rest.sends.home ≡ in_name c.of-3.result.value)
-    × HasSent contents failed (contents c.of.result.value) r.told.amount (taken r.written.orders)
-    r.written.rest (ending_told r.written.ending) r.written.device
-    × (r.told.parts ≡ g.C.Ledger.parts) = (
+    × (in_name r.written.senders.sends.home ≡ in_name c.of-3.result.value)
+    × HasSent contents failed (contents c.of.result.value) r.announced.amount
+    (taken r.written.orders)
+    r.written.senders (ending_told r.written.ending) r.written.device
+    × (r.announced.parts ≡ g.C.Ledger.parts) = (
       claims.0 ∙ (ap out_name c.new-writing.ensures.ring ∙ ap out_name (sym c.of-2.ensures)),
       claims.1.0 ∙ (ap in_name c.new-writing.ensures.way ∙ ap in_name (sym c.of-3.ensures)),
       claims.1.1.0 (contents c.of.result.value)

@@ -15,7 +15,7 @@ use Rattle.std.proofs.Common.{
 }
 use Rattle.h2frame.specs.FrameList.{BeginsWith}
 use Rattle.trace.specs.declared.item.Item.TheVariants.{Frame}
-use Rattle.trace.specs.declared.item.Stage.TheVariants.{InFrames}
+use Rattle.trace.specs.declared.item.SideStage.TheVariants.{InFrames}
 use Rattle.trace.specs.Cuts.{Takes}
 use Rattle.trace.proofs.Cutting.{first_frame}
 use Rattle.trace.proofs.cutter.first_frame.Goals as goal

@@ -1,5 +1,5 @@
 use Rattle.std.proofs.Common.{◌≡◌, ◌∙◌, Some, ap, refl, sym}
-use Rattle.outwriter.specs.declared.control.Control.TheVariants as control
+use Rattle.outwriter.specs.declared.control.WriterOrder.TheVariants as control
 use Rattle.writerloop.specs.Sent.{core_keys, keys}
 use Rattle.writerloop.proofs.CallSteps.{adds-from, aligned-more, lane-there}
 use Rattle.writerloop.proofs.OpeningSteps.{got-none, same-opening, same-sender, same-sending}

@@ -1,7 +1,7 @@
 use Rattle.std.proofs.Common.{◌≡◌, true, false, ◌++◌, List, ℕ, Option, None, sym, ap, ◌∙◌, rules}
 use Rattle.std.specs.Prelude.{is_some}
 use Rattle.lpm.specs.Messages.{frames, IsFaulty}
-use Rattle.account.specs.declared.call.Told.{Told}
+use Rattle.account.specs.declared.call.RequestEnd.{RequestEnd}
 use Rattle.account.specs.Runs.{telling}
 use Rattle.account.specs.SerialCalls.{account_of}
 use Rattle.account.proofs.SerialLemmas.{
@@ -37,7 +37,7 @@ returns-in-More-clause-account c =
     let a = account_of old in
     let untold : is_some old.told ≡ false = search rules in
     let answer = c.in-More.ensures.answer in
-    ap (λ (t : Option Told). record a { told = t })
+    ap (λ (t : Option RequestEnd). record a { told = t })
     (c.told_behind-self.ensures ∙ ap (λ (w : List ℕ). telling None w old.shut) answer.1)
     ∙ sym (after-take_more a old.splitter (told_none old.told untold) c.requires.each
     c.requires.whole answer.0)

@@ -1,5 +1,5 @@
 use Rattle.std.proofs.Common.{ℕ, ◌+◌, ◌++◌, [], ◌∷◌, min, List, sym, ap, subst, ◌∙◌, append_assoc}
-use Rattle.callbox.specs.InSides.{Took, length_of}
+use Rattle.callbox.specs.InSides.{TakesMessages, length_of}
 use Rattle.callbox.specs.declared.piece.InPiece.{InPiece}
 use Rattle.callbox.proofs.TakerLemmas.{owed_more, needs_more, needed_more}
 use Rattle.callbox.proofs.taker.Taker.look.Goals as goal
@@ -15,7 +15,8 @@ loop-preserved g c =
       told = c.accept.ensures.told;
       name = c.poll.ensures.name ∙ c.loop.invariant.name;
       took = λ messages t.
-          subst (λ (items : List InPiece). Took items c.accept.new.self messages) (sym polled.1)
+          subst (λ (items : List InPiece).
+          TakesMessages items c.accept.new.self messages) (sym polled.1)
           (c.accept.ensures.took before item messages
           (c.in_default.ensures.took before messages (c.loop.invariant.took messages t)) polled.2);
       needed = λ messages t.

@@ -1,5 +1,5 @@
 use Rattle.std.proofs.Common.{◌≡◌, ℕ, ◌+◌, min, None, List, ◌++◌, length}
-use Rattle.callbox.specs.InSides.{Took, EachNeeded, bytes_of}
+use Rattle.callbox.specs.InSides.{TakesMessages, EachNeeded, bytes_of}
 use Rattle.callbox.specs.declared.piece.InPiece.{InPiece}
 use Rattle.callbox.proofs.taker.Taker.look.Given as goal
 
@@ -9,10 +9,10 @@ invariant-loop g l =
       told : l.self.progress.told ≡ None;
       name : g.L.Lane.out_name l.self.rx ≡ g.L.Lane.out_name l.fn.self.rx;
       took : (messages : List (List ℕ))
-          → Took (g.L.Lane.got l.fn.self.rx) l.fn.self.progress messages
-          → Took (g.L.Lane.got l.self.rx) l.self.progress messages;
+          → TakesMessages (g.L.Lane.got l.fn.self.rx) l.fn.self.progress messages
+          → TakesMessages (g.L.Lane.got l.self.rx) l.self.progress messages;
       needed : (messages : List (List ℕ))
-          → Took (g.L.Lane.got l.fn.self.rx) l.fn.self.progress messages
+          → TakesMessages (g.L.Lane.got l.fn.self.rx) l.fn.self.progress messages
           → (items : List InPiece) × (g.L.Lane.got l.self.rx ≡ g.L.Lane.got l.fn.self.rx ++ items)
           × EachNeeded (g.L.Lane.got l.fn.self.rx) items messages;
       owed : (items : List InPiece) × (g.L.Lane.got l.self.rx ≡ g.L.Lane.got l.fn.self.rx ++ items)

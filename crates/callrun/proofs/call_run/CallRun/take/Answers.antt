@@ -1,11 +1,11 @@
 use Rattle.std.proofs.Common.{refl, inl}
-use Rattle.callbox.specs.InSides.{Took}
+use Rattle.callbox.specs.InSides.{TakesMessages}
 use Rattle.callrun.proofs.Taking.{taken_run, opened_run, by_nothing}
 use Rattle.callrun.proofs.call_run.CallRun.take.Goals as goal
 
 pub returns-in-Nothing-clause-run : goal.returns-in-Nothing-clause-run
 returns-in-Nothing-clause-run g c = λ messages took run.
-    taken_run (λ ms. Took (g.I.Lane.got c.take.new.self.rx) c.take.new.self.progress ms)
+    taken_run (λ ms. TakesMessages (g.I.Lane.got c.take.new.self.rx) c.take.new.self.progress ms)
     c.take.result _ messages _ _ (c.take.ensures.took messages took)
     (opened_run _ _ _ _ _ _ _ _ _ _ _ _ c.requires.open
     (λ given before.
@@ -15,7 +15,7 @@ returns-in-Nothing-clause-run g c = λ messages took run.
 pub returns-in_default : goal.returns-in_default
 returns-in_default g c = record {
   run = λ messages took run.
-      taken_run (λ ms. Took (g.I.Lane.got c.take.new.self.rx) c.take.new.self.progress ms)
+      taken_run (λ ms. TakesMessages (g.I.Lane.got c.take.new.self.rx) c.take.new.self.progress ms)
       c.take.result _ messages _ _ (c.take.ensures.took messages took)
       (opened_run _ _ _ _ _ _ _ _ _ _ _ _ c.requires.open
       (λ given before. c.answer.ensures.run _ _ messages given c.take.ensures.tells before) run);

@@ -1,5 +1,5 @@
 use Rattle.std.proofs.Common.{◌++◌, ◌∙◌, List, ℕ, inl, inr, subst, sym}
-use Rattle.callbox.specs.InSides.{Took}
+use Rattle.callbox.specs.InSides.{TakesMessages}
 use Rattle.callrun.specs.Runs.{HasCome, HasRun}
 use Rattle.callrun.specs.Sides.{shown}
 use Rattle.callrun.proofs.Ahead.{kept_come, same_hand, then_none}
@@ -9,7 +9,8 @@ use Rattle.callrun.proofs.call_run.CallRun.turn.Goals as goal
 
 pub returns-then-not-is_open-clause-run : goal.returns-then-not-is_open-clause-run
 returns-then-not-is_open-clause-run g c = if_is _ _ _ c.in-Some.ensures (λ messages took come.
-    kept_come (λ ms. Took (g.I.Lane.got c.args.self.now.taker.rx) c.args.self.now.taker.progress ms)
+    kept_come
+    (λ ms. TakesMessages (g.I.Lane.got c.args.self.now.taker.rx) c.args.self.now.taker.progress ms)
     _ messages _ _ _ took come)
 
 pub returns-in-Some-first-clause-run : goal.returns-in-Some-first-clause-run
@@ -20,16 +21,19 @@ returns-in-Some-first-clause-run g c = if_is _ _ _ c.in-Some.ensures (λ message
     (shown (λ giver. g.O.Lane.put_in giver.tx) (λ s. g.O.Lane.put_shut s.shut)
     (λ s. g.O.Lane.was_placed s.shut) c.args.self.now.response)
     → (more : List (List ℕ))
-    × Took (g.I.Lane.got c.args.self.now.taker.rx) c.args.self.now.taker.progress (messages ++ more)
+    × TakesMessages (g.I.Lane.got c.args.self.now.taker.rx) c.args.self.now.taker.progress
+    (messages ++ more)
     × HasCome ((g.dyn-1.0.entry m.0).1.answers m.1) ((g.dyn-1.0.entry m.0).1.stands m.1)
     c.args.self.now.taker.progress.told (messages ++ more) c.give.new.self c.take-in_hand.new.self
     (shown (λ giver. g.O.Lane.put_in giver.tx) (λ s. g.O.Lane.put_shut s.shut)
     (λ s. g.O.Lane.was_placed s.shut) c.give.new.response))
     c.deref_box-1.ensures.1
     (λ before.
-    then_none (λ ms. Took (g.I.Lane.got c.args.self.now.taker.rx) c.args.self.now.taker.progress ms)
+    then_none
+    (λ ms. TakesMessages (g.I.Lane.got c.args.self.now.taker.rx) c.args.self.now.taker.progress ms)
     _ messages _ _ _ c.take-in_hand.ensures.after
-    (kept_run (λ ms. Took (g.I.Lane.got c.args.self.now.taker.rx) c.args.self.now.taker.progress ms)
+    (kept_run
+    (λ ms. TakesMessages (g.I.Lane.got c.args.self.now.taker.rx) c.args.self.now.taker.progress ms)
     _ messages _ _ took
     (step_run _ messages _ _ _ _ c.give.ensures.run (step_run _ messages _ _ _ _
     (c.look_at.ensures.run _) (c.hand_over.ensures.run _ _ _ _ messages
@@ -44,16 +48,19 @@ returns-then-is_some-clause-run g c = if_is _ _ _ c.in-Some.ensures (λ messages
     (shown (λ giver. g.O.Lane.put_in giver.tx) (λ s. g.O.Lane.put_shut s.shut)
     (λ s. g.O.Lane.was_placed s.shut) c.args.self.now.response)
     → (more : List (List ℕ))
-    × Took (g.I.Lane.got c.args.self.now.taker.rx) c.args.self.now.taker.progress (messages ++ more)
+    × TakesMessages (g.I.Lane.got c.args.self.now.taker.rx) c.args.self.now.taker.progress
+    (messages ++ more)
     × HasCome ((g.dyn-1.0.entry m.0).1.answers m.1) ((g.dyn-1.0.entry m.0).1.stands m.1)
     c.args.self.now.taker.progress.told (messages ++ more) c.finish.new.self c.take-in_hand.new.self
     (shown (λ giver. g.O.Lane.put_in giver.tx) (λ s. g.O.Lane.put_shut s.shut)
     (λ s. g.O.Lane.was_placed s.shut) c.finish.new.response))
     c.deref_box-1.ensures.1
     (λ before.
-    then_none (λ ms. Took (g.I.Lane.got c.args.self.now.taker.rx) c.args.self.now.taker.progress ms)
+    then_none
+    (λ ms. TakesMessages (g.I.Lane.got c.args.self.now.taker.rx) c.args.self.now.taker.progress ms)
     _ messages _ _ _ c.take-in_hand.ensures.after
-    (kept_run (λ ms. Took (g.I.Lane.got c.args.self.now.taker.rx) c.args.self.now.taker.progress ms)
+    (kept_run
+    (λ ms. TakesMessages (g.I.Lane.got c.args.self.now.taker.rx) c.args.self.now.taker.progress ms)
     _ messages _ _ took
     (step_run _ messages _ _ _ _ c.finish.ensures.run (step_run _ messages _ _ _ _
     (c.look_at.ensures.run _) (c.hand_over.ensures.run _ _ _ _ messages
@@ -68,7 +75,8 @@ returns-clause-run g c = if_is _ _ _ c.in-Some.ensures (λ messages took come.
     (shown (λ giver. g.O.Lane.put_in giver.tx) (λ s. g.O.Lane.put_shut s.shut)
     (λ s. g.O.Lane.was_placed s.shut) c.args.self.now.response)
     → (more : List (List ℕ))
-    × Took (g.I.Lane.got c.take.new.self.taker.rx) c.take.new.self.taker.progress (messages ++ more)
+    × TakesMessages (g.I.Lane.got c.take.new.self.taker.rx) c.take.new.self.taker.progress
+    (messages ++ more)
     × HasCome ((g.dyn-1.0.entry m.0).1.answers m.1) ((g.dyn-1.0.entry m.0).1.stands m.1)
     c.take.new.self.taker.progress.told (messages ++ more) c.take.new.self.call
     c.take.new.self.in_hand
@@ -76,7 +84,8 @@ returns-clause-run g c = if_is _ _ _ c.in-Some.ensures (λ messages took come.
     (λ s. g.O.Lane.was_placed s.shut) c.take.new.self.response))
     c.deref_box-2.ensures.1
     (λ before.
-    then_none (λ ms. Took (g.I.Lane.got c.take.new.self.taker.rx) c.take.new.self.taker.progress ms)
+    then_none
+    (λ ms. TakesMessages (g.I.Lane.got c.take.new.self.taker.rx) c.take.new.self.taker.progress ms)
     _ messages _ _ _ (c.take.ensures.same.1 ∙ c.take-in_hand.ensures.after)
     (c.take.ensures.run messages took (step_run _ messages _ _ _ _ (c.look_at.ensures.run _)
     (subst (λ m.

@@ -1,5 +1,5 @@
 use Rattle.std.proofs.Common.{ℕ, List, refl, inl, ap, arith, rules, slice_get}
-use Rattle.callbox.specs.InSides.{Took}
+use Rattle.callbox.specs.InSides.{TakesMessages}
 use Rattle.handlers.specs.Listed.{listed}
 use Rattle.callrun.specs.Runs.{HasCome}
 use Rattle.callrun.specs.Sides.{shown}
@@ -25,7 +25,7 @@ pub loop-had-preserved : goal.loop-had-preserved
 loop-had-preserved g c = record {
   run =
       then_more _ _ _ _ (λ (messages : List (List ℕ)).
-      Took (g.I.Lane.got c.turn-last.new.self.taker.rx)
+      TakesMessages (g.I.Lane.got c.turn-last.new.self.taker.rx)
       c.turn-last.new.self.taker.progress messages) _ _
       (λ method messages.
       HasCome ((goal.Method-dyn g (method.vtable, method.value)).answers method.value)
@@ -54,7 +54,7 @@ loop-had-preserved g c = record {
 pub returns-then-matches-clause-run : goal.returns-then-matches-clause-run
 returns-then-matches-clause-run g c =
     then_more _ _ _ _ (λ (messages : List (List ℕ)).
-    Took (g.I.Lane.got c.turn-last.new.self.taker.rx)
+    TakesMessages (g.I.Lane.got c.turn-last.new.self.taker.rx)
     c.turn-last.new.self.taker.progress messages) _ _
     (λ method messages.
     HasCome ((goal.Method-dyn g (method.vtable, method.value)).answers method.value)

@@ -1,6 +1,6 @@
 use Rattle.std.proofs.Common.{◌≡◌, ◌≤◌, ◌++◌, ◌⊎◌, ℕ, List, true, false}
 use Rattle.std.specs.Prelude.{IfSome, IsSomeAnd, slice_get}
-use Rattle.callbox.specs.InSides.{Took}
+use Rattle.callbox.specs.InSides.{TakesMessages}
 use Rattle.handlers.specs.Listed.{listed}
 use Rattle.callrun.specs.Runs.{HasCome}
 use Rattle.callrun.specs.Handlings.{lacks_memory}
@@ -14,14 +14,14 @@ invariant-loop-had g l =
     record {
       run :
           IfSome (slice_get (listed l.methods) l.fn.run.index) (λ method. (messages : List (List ℕ))
-          → Took (g.I.Lane.got l.fn.run.taker.rx) l.fn.run.taker.progress messages
+          → TakesMessages (g.I.Lane.got l.fn.run.taker.rx) l.fn.run.taker.progress messages
           → HasCome ((goal.Method-dyn g (method.vtable, method.value)).answers method.value)
           ((goal.Method-dyn g (method.vtable, method.value)).stands method.value)
           l.fn.run.taker.progress.told messages l.fn.run.call l.fn.run.in_hand
           (shown (λ giver. g.O.Lane.put_in giver.tx) (λ s. g.O.Lane.put_shut s.shut)
           (λ s. g.O.Lane.was_placed s.shut) l.fn.run.response)
           → (more : List (List ℕ))
-          × Took (g.I.Lane.got l.run.taker.rx) l.run.taker.progress (messages ++ more)
+          × TakesMessages (g.I.Lane.got l.run.taker.rx) l.run.taker.progress (messages ++ more)
           × HasCome ((goal.Method-dyn g (method.vtable, method.value)).answers method.value)
           ((goal.Method-dyn g (method.vtable, method.value)).stands method.value)
           l.run.taker.progress.told (messages ++ more) l.run.call l.run.in_hand

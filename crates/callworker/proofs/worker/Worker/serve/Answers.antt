@@ -1,7 +1,7 @@
 use Rattle.std.proofs.Common.{◌≡◌, ◌∙◌, ap, subst, sym, refl, List, [], None, rules}
 use Rattle.lane.specs.RingLane.{got, put_shut}
 use Rattle.account.specs.declared.call.OutItem.{OutItem}
-use Rattle.callbox.specs.InSides.{Took}
+use Rattle.callbox.specs.InSides.{TakesMessages}
 use Rattle.callbox.specs.declared.piece.InPiece.{InPiece}
 use Rattle.handlers.specs.Listed.{listed}
 use Rattle.callparts.specs.Workers.{IsGivenAs}
@@ -12,9 +12,11 @@ pub returns-clause-answers : goal.returns-clause-answers
 returns-clause-answers g c =
     let work = c.args.work in
     let fresh = c.requires.fresh in
-    let untouched : Took (got c.new-run.result.taker.rx) c.new-run.result.taker.progress [] =
+    let untouched : TakesMessages (got c.new-run.result.taker.rx)
+    c.new-run.result.taker.progress [] =
     rw c.new-run.ensures.taker
-    (subst (λ (items : List InPiece). Took items work.taker.progress []) (sym fresh.0) fresh.1) in
+    (subst (λ (items : List InPiece). TakesMessages items work.taker.progress [])
+    (sym fresh.0) fresh.1) in
     let untold : c.new-run.result.taker.progress.told ≡ None = rw c.new-run.ensures.taker fresh.2 in
     call_answers _ _ (listed c.args.methods.now) _ work.request c.run.new.run _ _ _ _ refl
     (λ none. absurd (search rules))
@@ -30,8 +32,9 @@ pub returns-then-is_none-clause-answers : goal.returns-then-is_none-clause-answe
 returns-then-is_none-clause-answers g c =
     let work = c.args.work in
     let fresh = c.requires.fresh in
-    let took : Took (got work.taker.rx) work.taker.progress [] =
-    subst (λ (items : List InPiece). Took items work.taker.progress []) (sym fresh.0) fresh.1 in
+    let took : TakesMessages (got work.taker.rx) work.taker.progress [] =
+    subst (λ (items : List InPiece). TakesMessages items work.taker.progress [])
+    (sym fresh.0) fresh.1 in
     let nothing : IsGivenAs [] (put_shut c.pass_over.result.given.shut) =
     subst (λ (items : List OutItem). IsGivenAs items (put_shut c.pass_over.result.given.shut))
     fresh.3 c.pass_over.ensures.given in

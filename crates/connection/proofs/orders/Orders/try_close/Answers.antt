@@ -1,5 +1,5 @@
 use Rattle.std.proofs.Common.{◌∙◌, [], ◌∷◌, ◌++◌, ap}
-use Rattle.outwriter.specs.declared.control.Control.TheVariants.{Close}
+use Rattle.outwriter.specs.declared.control.WriterOrder.TheVariants.{Close}
 use Rattle.connection.proofs.orders.Orders.try_close.Goals as goal
 
 pub returns-clause-put : goal.returns-clause-put

@@ -1,5 +1,5 @@
 use Rattle.std.proofs.Common.{◌≡◌, ◌∙◌, List, [], ◌∷◌, ◌++◌, ap, refl}
-use Rattle.outwriter.specs.declared.control.Control.TheVariants.{Close}
+use Rattle.outwriter.specs.declared.control.WriterOrder.TheVariants.{Close}
 use Rattle.connection.specs.Puts.{put_of}
 use Rattle.connection.proofs.Heard.{collects-none, collects-then}
 use Rattle.connection.proofs.reader.Reader.close.Goals as goal

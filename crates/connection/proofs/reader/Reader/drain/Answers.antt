@@ -7,11 +7,11 @@ returns-then-is_draining-clause-cuts g c = cuts-none _ _ _
 pub returns-clause-cuts : goal.returns-clause-cuts
 returns-clause-cuts g c =
     cuts-same-orders _ _ _ _ _ (
-      c.ring.ensures.outbox,
-      c.ring.ensures.dropped,
-      c.ring.ensures.unput,
-      c.ring.ensures.backlog,
-      c.ring.ensures.stopped,
+      c.wake_writer.ensures.outbox,
+      c.wake_writer.ensures.dropped,
+      c.wake_writer.ensures.unput,
+      c.wake_writer.ensures.backlog,
+      c.wake_writer.ensures.stopped,
     )
     (cuts-drain _ _ _ _ _ _ c.drain-decided.ensures.home c.drain-decided.ensures.decides
     c.act.ensures.acts)

@@ -1,5 +1,5 @@
 use Rattle.std.proofs.Common.{◌≡◌, ◌∙◌, [], ◌∷◌, ◌++◌, ap, refl}
-use Rattle.outwriter.specs.declared.control.Control.TheVariants.{InputEnded}
+use Rattle.outwriter.specs.declared.control.WriterOrder.TheVariants.{InputEnded}
 use Rattle.readerloop.specs.Orders.{orders_by}
 use Rattle.connection.proofs.Heard.{
   closed-behind,
@@ -29,7 +29,8 @@ returns-clause-ended g c = λ sent told carried reads.
     (collects-seats _ _ c.join_all.ensures.reading) c.close.ensures.collects)) in
     let same : c.close.new.self.orders.has_stopped ≡ c.put.new.self.has_stopped =
     c.close.ensures.stopped
-    ∙ (ap (λ orders. orders.has_stopped) c.join_all.ensures.orders ∙ c.ring.ensures.stopped) in (
+    ∙ (ap (λ orders. orders.has_stopped) c.join_all.ensures.orders
+    ∙ c.wake_writer.ensures.stopped) in (
       cuts.0,
       record {
         silent = cuts.1.silent;
@@ -40,14 +41,14 @@ returns-clause-ended g c = λ sent told carried reads.
             let all = orders_by (cuts.0 ++ told) ++ InputEnded ∷ [] in
             closed-behind all c.join_all.new.self.orders c.close.new.self.orders c.close.ensures.put
             c.close.ensures.dropped c.close.ensures.unput
-            (ordered-same all c.ring.new.self c.join_all.new.self.orders
-            (same-of c.ring.new.self c.join_all.new.self.orders c.join_all.ensures.orders)
-            (ordered-same all c.put.new.self c.ring.new.self (
-              c.ring.ensures.outbox,
-              c.ring.ensures.dropped,
-              c.ring.ensures.unput,
-              c.ring.ensures.backlog,
-              c.ring.ensures.stopped,
+            (ordered-same all c.wake_writer.new.self c.join_all.new.self.orders
+            (same-of c.wake_writer.new.self c.join_all.new.self.orders c.join_all.ensures.orders)
+            (ordered-same all c.put.new.self c.wake_writer.new.self (
+              c.wake_writer.ensures.outbox,
+              c.wake_writer.ensures.dropped,
+              c.wake_writer.ensures.unput,
+              c.wake_writer.ensures.backlog,
+              c.wake_writer.ensures.stopped,
             )
             (ordered-put (orders_by (cuts.0 ++ told)) _ c.cut_all.new.self.orders c.put.new.self
             c.put.ensures.puts tt (cuts.1.ordered ordered))));

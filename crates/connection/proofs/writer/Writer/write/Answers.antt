@@ -19,7 +19,7 @@ returns-then-turn g c =
       sent = λ before led.
           subst (λ (credit : ℕ).
           HasSent g.W.ConnWrite.contents g.W.ConnWrite.failed before credit (taken written.orders)
-          written.rest (ending_told written.ending) written.device)
+          written.senders (ending_told written.ending) written.device)
           (sym c.part.ensures.amount)
           (c.part.ensures.sent before _
           (c.turn.ensures.over c.if-turn.true before (c.turns.invariant.on before led)));

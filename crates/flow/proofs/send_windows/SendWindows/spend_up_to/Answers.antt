@@ -2,7 +2,7 @@ use Rattle.std.proofs.Common.{◌≡◌, ◌-◌, ◌∙◌, ap, sym, refl, arit
 use Rattle.std.proofs.lemmas.Int.{ints}
 use Rattle.flow.proofs.Entries.{set-same}
 use Rattle.flow.proofs.Balances.{spend_keeps}
-use Rattle.flow.specs.Windows.{Shared}
+use Rattle.flow.specs.Windows.{SharedWindow}
 use Rattle.flow.proofs.send_windows.SendWindows.spend_up_to.Goals as goal
 
 pub invariant_of-self-2 : goal.invariant_of-self-2
@@ -20,7 +20,7 @@ returns-clause-unchanged c = λ none.
     let shared : c.spend_up_to.new.self ≡ c.self.inside.shared =
     c.spend_up_to.ensures.connection
     ∙ ap (λ n.
-    let s : Shared = record {
+    let s : SharedWindow = record {
       connection = n;
       initial = c.self.inside.shared.initial;
     } in s) left in

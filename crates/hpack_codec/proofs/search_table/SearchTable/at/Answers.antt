@@ -2,7 +2,7 @@ use Rattle.std.proofs.Common.{sym, subst, ◌∙◌}
 use Rattle.std.proofs.lemmas.Slice.Eq.{bytes_eq-Decides}
 use Rattle.hpack_codec.specs.Table.{Table}
 use Rattle.hpack_codec.specs.Reading.{IsFound}
-use Rattle.hpack_codec.specs.declared.found.Found.TheVariants.{Whole, Name}
+use Rattle.hpack_codec.specs.declared.table_match.TableMatch.TheVariants.{Whole, Name}
 use Rattle.hpack_codec.proofs.Blocks.{entry_name_is, entry_is}
 use Rattle.hpack_codec.proofs.search_table.SearchTable.at.Goals as goal
 

@@ -3,7 +3,7 @@ use Rattle.rtrb.specs.Ring.{received, known_items}
 use Rattle.lane.specs.Steps.{pieces}
 use Rattle.lane.specs.Lawful.{last_of}
 use Rattle.lane.specs.Second.{got as second_got, out_name as second_out_name}
-use Rattle.lane.specs.declared.ring_lane.step.Step.TheVariants.{Next}
+use Rattle.lane.specs.declared.ring_lane.step.RingStep.TheVariants.{Next}
 use Rattle.lane.proofs.StepLemmas.{push_next, no_way}
 use Rattle.lane.proofs.LinkLemmas.{no_link, linked_some, gone_on}
 use Rattle.lane.proofs.ring_lane.RingLaneOut.go_on.Goals as goal

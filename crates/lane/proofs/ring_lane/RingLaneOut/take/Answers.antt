@@ -1,7 +1,7 @@
 use Rattle.std.proofs.Common.{arith, ap, sym, refl, length, Some, ◌≡◌, ◌∙◌, ◌∷◌, ◌++◌, []}
 use Rattle.rtrb.specs.Ring.{received, known_items}
 use Rattle.lane.specs.Steps.{pieces, link}
-use Rattle.lane.specs.declared.ring_lane.step.Step.TheVariants.{Piece, Next}
+use Rattle.lane.specs.declared.ring_lane.step.RingStep.TheVariants.{Piece, Next}
 use Rattle.lane.specs.Second.{got as second_got, out_name as second_out_name}
 use Rattle.lane.proofs.StepLemmas.{push_piece, push_next, ahead_piece, ahead_next}
 use Rattle.lane.proofs.LinkLemmas.{

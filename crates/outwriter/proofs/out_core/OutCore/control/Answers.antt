@@ -1,5 +1,5 @@
 use Rattle.std.proofs.Common.{[], refl, true}
-use Rattle.outwriter.specs.declared.control.Control.TheVariants as order
+use Rattle.outwriter.specs.declared.control.WriterOrder.TheVariants as order
 use Rattle.outwriter.proofs.CallStepsOrders.{takes-nothing}
 use Rattle.outwriter.proofs.Leads.{kept-plain, leads-taken, none-plain, unsaid-plain}
 use Rattle.outwriter.proofs.RunStateSteps.{quiet-led}

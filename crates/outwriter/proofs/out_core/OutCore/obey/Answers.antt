@@ -1,7 +1,7 @@
 use Rattle.std.proofs.lemmas.Result.{IfErr-weaker}
 use Rattle.std.proofs.Common.{Some, ap, refl, true, [], ◌∷◌}
 use Rattle.outwriter.specs.States.{States}
-use Rattle.outwriter.specs.declared.control.Control.TheVariants as order
+use Rattle.outwriter.specs.declared.control.WriterOrder.TheVariants as order
 use Rattle.outwriter.specs.declared.due.Due.TheVariants as due_kind
 use Rattle.outwriter.proofs.Faults.{no-blame, no-concern, blamed, credit-fits, settings-fit}
 use Rattle.outwriter.proofs.Leads.{

@@ -3,7 +3,7 @@ use Rattle.outwriter.specs.CoreChanges.{KeptOn}
 use Rattle.outwriter.specs.OpenStreams.{Closes, OpenStreams}
 use Rattle.outwriter.specs.States.{States, open_at}
 use Rattle.outwriter.specs.Steps.{Taken}
-use Rattle.outwriter.specs.declared.control.Control.TheVariants as order
+use Rattle.outwriter.specs.declared.control.WriterOrder.TheVariants as order
 use Rattle.outwriter.proofs.Leads.{kept-reset}
 use Rattle.outwriter.proofs.outbound.Outbound.reset.Goals as goal
 

@@ -1,6 +1,6 @@
 use Rattle.std.proofs.Common.{refl, sym, subst, List, ◌∷◌}
 use Rattle.std.proofs.lemmas.List.Elements.{All-nil}
-use Rattle.outwriter.specs.declared.control.Control.TheVariants as order
+use Rattle.outwriter.specs.declared.control.WriterOrder.TheVariants as order
 use Rattle.outwriter.specs.declared.due.Due.{Due}
 use Rattle.outwriter.specs.declared.due.Due.TheVariants as due_kind
 use Rattle.outwriter.specs.RunState.{HasDue}

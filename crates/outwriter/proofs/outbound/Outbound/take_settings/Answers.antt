@@ -1,7 +1,7 @@
 use Rattle.outwriter.specs.declared.due.Due.{Due}
 use Rattle.std.proofs.Common.{sym, refl, subst, ap, ◌∙◌, List, [], ◌∷◌}
 use Rattle.std.proofs.lemmas.List.Elements.{All-nil}
-use Rattle.outwriter.specs.declared.control.Control.TheVariants.{Settings}
+use Rattle.outwriter.specs.declared.control.WriterOrder.TheVariants.{Settings}
 use Rattle.outwriter.specs.declared.due.Due.TheVariants.{SettingsAck}
 use Rattle.h2frame.specs.declared.settings.PeerSetting.{PeerSetting}
 use Rattle.outwriter.specs.RunState.{HasWindows, HasDue}

@@ -1,5 +1,5 @@
 use Rattle.std.proofs.Common.{refl, sym, append-nil, []}
-use Rattle.outwriter.specs.declared.control.Control.TheVariants.{Window}
+use Rattle.outwriter.specs.declared.control.WriterOrder.TheVariants.{Window}
 use Rattle.outwriter.proofs.RunStateSteps.{taken, same-due, quiet-stand, mirrors-rest}
 use Rattle.outwriter.proofs.CallStepsOrders.{takes-rest}
 use Rattle.outwriter.proofs.WindowRuns.{

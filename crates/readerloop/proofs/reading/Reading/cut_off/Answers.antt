@@ -2,7 +2,7 @@ use Rattle.std.proofs.Common.{refl, ◌∙◌, sym}
 use Rattle.account.specs.declared.call.Shut.TheVariants as shut
 use Rattle.h2frame.specs.ErrorCode.{error_number}
 use Rattle.h2frame.specs.declared.error_code.ErrorCode.TheVariants.{Cancel}
-use Rattle.readerloop.specs.declared.decided.Cut.{Cut}
+use Rattle.readerloop.specs.declared.decision.HalfToShut.{HalfToShut}
 use Rattle.readerloop.specs.Kept.{accounts_of, unsettled}
 use Rattle.readerloop.specs.Readings.{DecidesOn}
 use Rattle.readerloop.specs.Steps.{CutOff}
@@ -16,9 +16,9 @@ pub returns-clause-decides : goal.returns-clause-decides
 returns-clause-decides g c =
     let id = c.in_ok-id.id in
     let done = c.reset.ensures in
-    let cut : Cut = record { id = id; kind = shut.Reset (error_number Cancel) } in
+    let cut : HalfToShut = record { id = id; kind = shut.Reset (error_number Cancel) } in
     let calls = c.args.self.now.calls in
-    some-and c.reset.result.cut cut (λ (found : Cut).
+    some-and c.reset.result.to_shut cut (λ (found : HalfToShut).
     DecidesOn g.M.Answering.known g.M.Answering.names (CutOff found.id) c.reset.result
     c.args.self.now c.args.self.now) done.cut
     (λ sent told reads.

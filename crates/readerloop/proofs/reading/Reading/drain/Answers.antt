@@ -1,7 +1,7 @@
 use Rattle.reasons.specs.declared.Reason.TheVariants as reason
 use Rattle.std.proofs.Common.{◌∷◌, ◌∙◌, [], ℕ, ap, refl}
 use Rattle.h2frame.specs.declared.error_code.ErrorCode.TheVariants.{NoError}
-use Rattle.outwriter.specs.declared.control.Control.TheVariants.{Goaway}
+use Rattle.outwriter.specs.declared.control.WriterOrder.TheVariants.{Goaway}
 use Rattle.outwriter.specs.Steps.{order_of}
 use Rattle.readerloop.specs.Kept.{accounts_of, unsettled}
 use Rattle.readerloop.specs.Steps.{Drains}

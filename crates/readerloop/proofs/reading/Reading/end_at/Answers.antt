@@ -1,6 +1,5 @@
 use Rattle.std.proofs.Common.{[], ◌∷◌, refl, sym}
-use Rattle.reasons.specs.declared.Reason.TheVariants as reason
-use Rattle.outwriter.specs.declared.control.Control.TheVariants.{Goaway}
+use Rattle.outwriter.specs.declared.control.WriterOrder.TheVariants.{Goaway}
 use Rattle.readerloop.specs.Orders.{named, named_with}
 use Rattle.readerloop.specs.Steps.{is_draining}
 use Rattle.readerloop.proofs.ReadingSteps.{counted, counts-begun, decides-begun, goaway-order}
@@ -13,8 +12,8 @@ returns-clause-ends g c = λ sent told step begins ends orders.
     let counts =
     counts-begun told step c.args.id _ c.args.self.now c.count-goaway.new.self
     count.counts begins in
-    decides-begun told step c.args.id _ (Goaway last reason.Memory ∷ []) c.args.self.now
+    decides-begun told step c.args.id _ (Goaway last c.args.reason ∷ []) c.args.self.now
     c.count-goaway.new.self
     (counted _ _ count.rest) count.counts
-    (goaway-order c.goaway.result c.count-goaway.new.self.last last reason.Memory
+    (goaway-order c.goaway.result c.count-goaway.new.self.last last c.args.reason
     c.goaway.ensures.order counts.0.last_is) orders (sym ends) refl begins

@@ -2,7 +2,7 @@ use Rattle.std.proofs.Common.{ℕ, ◌∷◌, ◌∙◌, [], Some, ap, refl}
 use Rattle.callparts.specs.declared.report.Ending.TheVariants as ending
 use Rattle.session.specs.declared.event.InEvent.TheVariants as events
 use Rattle.h2frame.specs.declared.error_code.ErrorCode.{ErrorCode}
-use Rattle.outwriter.specs.declared.control.Control.TheVariants.{Goaway}
+use Rattle.outwriter.specs.declared.control.WriterOrder.TheVariants.{Goaway}
 use Rattle.outwriter.specs.Steps.{order_of}
 use Rattle.readerloop.specs.Steps.{Plain, Told}
 use Rattle.readerloop.proofs.Heard.{idle-fatal}

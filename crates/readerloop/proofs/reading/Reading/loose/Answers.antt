@@ -3,7 +3,7 @@ use Rattle.readerloop.specs.Calls.{carried_in}
 use Rattle.std.proofs.Common.{ℕ, ◌∷◌, ◌∙◌, [], ap, refl, subst, sym}
 use Rattle.connbook.specs.declared.answers.Receipt.{Receipt}
 use Rattle.connbook.specs.declared.answers.Receipt.TheVariants.{Overrun}
-use Rattle.outwriter.specs.declared.control.Control.TheVariants.{Goaway}
+use Rattle.outwriter.specs.declared.control.WriterOrder.TheVariants.{Goaway}
 use Rattle.session.specs.declared.event.InEvent.TheVariants as events
 use Rattle.readerloop.specs.Readings.{Decides}
 use Rattle.readerloop.specs.Steps.{Received, Told}

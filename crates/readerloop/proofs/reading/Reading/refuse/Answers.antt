@@ -18,7 +18,7 @@ returns-in-Ok-clause-decides g c =
 
 pub returns-in-Err-clause-decides : goal.returns-in-Err-clause-decides
 returns-in-Err-clause-decides g c =
-    lacks-as (events.BadHead c.args.id c.args.fault) Plain _ _ _ _ c.end_at.ensures.memory
+    lacks-as (events.BadHead c.args.id c.args.fault) Plain _ _ _ _ c.end_at.ensures.end
     (λ sent told reads.
     c.end_at.ensures.ends sent told
     (Told (events.BadHead c.args.id c.args.fault) Lacking) (begins-idle told _ c.args.id

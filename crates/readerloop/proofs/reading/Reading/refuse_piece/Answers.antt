@@ -3,9 +3,9 @@ use Rattle.std.proofs.Common.{◌∙◌, ◌∷◌, [], ℕ, Some, ap, refl}
 use Rattle.account.specs.declared.call.Shut.TheVariants as shut
 use Rattle.h2frame.specs.ErrorCode.{error_number}
 use Rattle.h2frame.specs.declared.error_code.ErrorCode.TheVariants.{EnhanceYourCalm, InternalError}
-use Rattle.outwriter.specs.declared.control.Control.TheVariants.{Goaway}
+use Rattle.outwriter.specs.declared.control.WriterOrder.TheVariants.{Goaway}
 use Rattle.session.specs.declared.event.InEvent.TheVariants as events
-use Rattle.readerloop.specs.declared.decided.Cut.{Cut}
+use Rattle.readerloop.specs.declared.decision.HalfToShut.{HalfToShut}
 use Rattle.readerloop.specs.Steps.{Lacking, Missed, Told}
 use Rattle.readerloop.proofs.ReadingSteps.{
   awaits-cut,
@@ -24,8 +24,8 @@ returns-in-OutOfMemory g c = record {
   decides = λ piece counted sent told reads.
       let done = c.run_out.ensures in
       let step = Told (events.Data c.args.id piece counted) Lacking in
-      let cut : Cut = record { id = c.args.id; kind = shut.Reset c.code.result } in
-      let decided = record c.run_out.result { cut = Some cut } in
+      let cut : HalfToShut = record { id = c.args.id; kind = shut.Reset c.code.result } in
+      let decided = record c.run_out.result { to_shut = Some cut } in
       decides-as told step _ decided c.args.self.now
       (fate-lacks c.args.id counted piece decided.order decided.ends _ _ done.order.1 done.ends.1)
       (decides-cut told step decided cut c.args.self.now
@@ -41,7 +41,8 @@ returns g c = record {
   decides = λ piece counted sent told reads.
       let done = c.reset.ensures in
       let step = Told (events.Data c.args.id piece counted) Missed in
-      let cut : Cut = record { id = c.args.id; kind = shut.Reset (error_number EnhanceYourCalm) } in
+      let cut : HalfToShut =
+      record { id = c.args.id; kind = shut.Reset (error_number EnhanceYourCalm) } in
       decides-as told step _ c.reset.result c.args.self.now (fate-missed c.args.id counted piece
       c.reset.result.order c.reset.result.ends _ done.order.1 done.ends)
       (decides-cut told step c.reset.result cut c.args.self.now

@@ -1,7 +1,7 @@
 use Rattle.std.proofs.Common.{ℕ, ◌∷◌, ◌∙◌, [], Some, ap, refl}
 use Rattle.callparts.specs.declared.report.Ending.TheVariants as ending
 use Rattle.reasons.specs.declared.Reason.TheVariants as reason
-use Rattle.outwriter.specs.declared.control.Control.TheVariants.{Goaway}
+use Rattle.outwriter.specs.declared.control.WriterOrder.TheVariants.{Goaway}
 use Rattle.outwriter.specs.Steps.{order_of}
 use Rattle.readerloop.specs.Steps.{Lacks}
 use Rattle.readerloop.proofs.Heard.{idle-lacks}

@@ -15,7 +15,7 @@ invariant-frames g l = record {
   room : length l.fn.self.buffer.items ≤ 114751 → length l.self.buffer.items ≤ 114751;
   going : l.self.standing ≡ Going;
   device : l.self.device ≡ l.fn.self.device;
-  left : l.self.left ≡ l.fn.self.left;
+  left : l.self.flushed_ends ≡ l.fn.self.flushed_ends;
   senders : lanes g.L.Lane.out_name l.self.core.sending.senders.items
       ≡ lanes g.L.Lane.out_name l.fn.self.core.sending.senders.items;
   gave : (id : ℕ) → GaveLeft id (calls g.L.Lane.got l.fn.self.core.sending.senders.items)

@@ -1,6 +1,6 @@
 use Rattle.std.proofs.Common.{◌≡◌, refl, subst, sym}
-use Rattle.writerloop.specs.declared.steps.Took.{Took}
-use Rattle.writerloop.specs.declared.steps.Took.TheVariants as took
+use Rattle.writerloop.specs.declared.steps.OrderStep.{OrderStep}
+use Rattle.writerloop.specs.declared.steps.OrderStep.TheVariants as took
 use Rattle.writerloop.specs.Written.{PassesOver}
 use Rattle.writerloop.proofs.WrittenSteps.{closes-other, passes-by, plain-other, sent-here}
 use Rattle.writerloop.proofs.writing.Writing.pass_over.Goals as goal

@@ -3,14 +3,14 @@ use Rattle.lane.specs.Ring.{in_name, put_in}
 use Rattle.lane.specs.RingLane.{got}
 use Rattle.outwriter.specs.Steps.{order_of}
 use Rattle.writerloop.specs.declared.inbox.Inbox.{Inbox}
-use Rattle.writerloop.specs.declared.steps.Took.{Took}
-use Rattle.writerloop.specs.declared.steps.Took.TheVariants as took
+use Rattle.writerloop.specs.declared.steps.OrderStep.{OrderStep}
+use Rattle.writerloop.specs.declared.steps.OrderStep.TheVariants as took
 use Rattle.writerloop.specs.Orders.{loses_by}
 use Rattle.writerloop.specs.OwnOrders.{steps_of}
 use Rattle.writerloop.specs.Sent.{numbers}
 use Rattle.writerloop.specs.Written.{Heeds, Takes}
 use Rattle.writerloop.specs.Wrote.{WritesOn}
-use Rattle.writerloop.specs.declared.taking.Taking.TheVariants.{Done, Ended}
+use Rattle.writerloop.specs.declared.order_outcome.OrderOutcome.TheVariants.{Done, Ended}
 use Rattle.writerloop.proofs.WrittenSteps.{ended-by, ends-by, given-on, takes-from}
 use Rattle.writerloop.proofs.writing.Writing.take.Goals as goal
 use Rattle.writerloop.proofs.writing.Writing.take.Goals.{

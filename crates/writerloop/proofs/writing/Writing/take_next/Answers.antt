@@ -1,6 +1,6 @@
 use Rattle.std.proofs.Common.{◌∙◌, ◌||◌, Option, Some, ap, refl, subst, sym}
-use Rattle.outwriter.specs.declared.control.Control.{Control}
-use Rattle.outwriter.specs.declared.control.Control.TheVariants.{Open}
+use Rattle.outwriter.specs.declared.control.WriterOrder.{WriterOrder}
+use Rattle.outwriter.specs.declared.control.WriterOrder.TheVariants.{Open}
 use Rattle.outwriter.specs.Steps.{order_of}
 use Rattle.writerloop.specs.Orders.{Gives, closes, ends_input}
 use Rattle.writerloop.specs.Sent.{numbers}
@@ -19,7 +19,7 @@ use Rattle.writerloop.proofs.writing.Writing.take_next.Goals as goal
 pub returns-in_default-clause-leads : goal.returns-in_default-clause-leads
 returns-in_default-clause-leads g c =
     leads-none g.W.ConnWrite.contents g.W.ConnWrite.failed c.args.self.now _ (subst
-    (λ (next : Option (Control _)). Gives next c.args.self.now.inbox c.next.new.self)
+    (λ (next : Option (WriterOrder _)). Gives next c.args.self.now.inbox c.next.new.self)
     c.in_default.is c.next.ensures.gives) (record { input = refl; closed = refl; way = refl })
     (record { numbers = refl; way = refl }) refl refl
 
@@ -27,7 +27,7 @@ pub returns-in-Ok-clause-leads : goal.returns-in-Ok-clause-leads
 returns-in-Ok-clause-leads g c =
     leads-taken g.W.ConnWrite.contents g.W.ConnWrite.failed c.in-Some.order c.args.self.now
     c.take.new.self c.next.new.self
-    (subst (λ (next : Option (Control _)). Gives next c.args.self.now.inbox c.next.new.self)
+    (subst (λ (next : Option (WriterOrder _)). Gives next c.args.self.now.inbox c.next.new.self)
     c.in-Some.is c.next.ensures.gives) c.if-self.false c.take.ensures.inbox
     (λ orders before credit runs.
     takes-from g.W.ConnWrite.contents g.W.ConnWrite.failed (order_of c.in-Ok.control)
@@ -47,7 +47,7 @@ pub returns-in-Err-clause-leads : goal.returns-in-Err-clause-leads
 returns-in-Err-clause-leads g c =
     leads-begun g.W.ConnWrite.contents g.W.ConnWrite.failed c.begin.new.self.inbox.has_lost
     c.in-Err.id c.in-Err.opening c.args.self.now c.begin.new.self c.next.new.self refl
-    (subst (λ (next : Option (Control _)). Gives next c.args.self.now.inbox c.next.new.self)
+    (subst (λ (next : Option (WriterOrder _)). Gives next c.args.self.now.inbox c.next.new.self)
     (c.in-Some.is ∙ ap (λ order. Some order) c.in-Err.ensures.opens) c.next.ensures.gives)
     c.if-self.false c.begin.ensures.ring c.begin.ensures.one c.begin.ensures.waits
     (λ still.
@@ -67,7 +67,7 @@ pub returns-then-self-clause-leads : goal.returns-then-self-clause-leads
 returns-then-self-clause-leads g c =
     leads-over g.W.ConnWrite.contents g.W.ConnWrite.failed c.pass_over.result c.in-Some.order
     c.args.self.now c.pass_over.new.self c.next.new.self
-    (subst (λ (next : Option (Control _)). Gives next c.args.self.now.inbox c.next.new.self)
+    (subst (λ (next : Option (WriterOrder _)). Gives next c.args.self.now.inbox c.next.new.self)
     c.in-Some.is c.next.ensures.gives) c.if-self.true
     (λ one.
     passes-from g.W.ConnWrite.contents g.W.ConnWrite.failed c.in-Some.order c.args.self.now _

@@ -1,5 +1,5 @@
 use Rattle.std.proofs.Common.{◌++◌, ◌∙◌, replicate, ap}
-use Rattle.zeros.specs.Filled.{Filled}
+use Rattle.zeros.specs.Filled.{FilledBytes}
 use Rattle.zeros.specs.Marks.{spans}
 use Rattle.zeros.proofs.Wiped.{take_zeros, outside_after}
 use Rattle.zeros.proofs.zero_buffer.ZeroBuffer.append_zeros.Goals as goal
@@ -10,7 +10,7 @@ returns-then-count-lt-FEW_ZEROS-clause-items c =
     let known = c.self.invariant in
     rw c.lengthen.ensures.items (take_zeros s.bytes.items s.end c.args.count known.0
     (λ i le. known.4 i (outside_after (spans s.marks) s.end i le known.3))
-    ∙ ap (λ (f : Filled). f.items ++ replicate c.args.count 0) c.self.view_is)
+    ∙ ap (λ (f : FilledBytes). f.items ++ replicate c.args.count 0) c.self.view_is)
 
 pub returns-else-count-lt-FEW_ZEROS-clause-items : goal.returns-else-count-lt-FEW_ZEROS-clause-items
 returns-else-count-lt-FEW_ZEROS-clause-items c =
@@ -18,4 +18,4 @@ returns-else-count-lt-FEW_ZEROS-clause-items c =
     let known = c.self.invariant in
     rw c.lengthen.ensures.items (take_zeros s.bytes.items s.end c.args.count known.0
     (λ i le. known.4 i (outside_after (spans s.marks) s.end i le known.3))
-    ∙ ap (λ (f : Filled). f.items ++ replicate c.args.count 0) c.self.view_is)
+    ∙ ap (λ (f : FilledBytes). f.items ++ replicate c.args.count 0) c.self.view_is)

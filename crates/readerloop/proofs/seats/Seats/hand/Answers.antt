@@ -1,7 +1,0 @@
-use Rattle.readerloop.proofs.SeatSteps.{places-found}
-use Rattle.readerloop.proofs.seats.Seats.hand.Goals as goal
-
-pub hand-requires-clause-places : goal.hand-requires-clause-places
-hand-requires-clause-places g c =
-    places-found c.args.self.now.seats.items c.args.number c.in-Some.seat.now
-    c.in-Some.ensures.item.3.0 c.in-Some.ensures.value c.requires.places
