@@ -64,14 +64,8 @@ use Rattle.connection.specs.Sent.{CarriesWhatWasSent}
 use Rattle.connection.specs.Served.{IsServed, is_drained}
 use Rattle.connection.proofs.Closing.{none-failed, none-left, took-close}
 use Rattle.connection.proofs.Endings.{Meets}
-use Rattle.connection.proofs.Heard.{
-  all-back,
-  carried-before,
-  carried-front,
-  closed-put,
-  closed-whole,
-  silent-more,
-}
+use Rattle.connection.proofs.Heard.{closed-put, closed-whole, silent-more}
+use Rattle.connection.proofs.HeardActs.{all-back, carried-before, carried-front}
 use Rattle.connection.proofs.Joining.{
   all_sent,
   handed-carried,

@@ -9,7 +9,7 @@ use Rattle.connection.specs.declared.orders.Orders.{Orders}
 use Rattle.connection.specs.declared.orders.Route.{Ghosts}
 use Rattle.connection.specs.Heard.{ReadsTo, ReadsWith}
 use Rattle.connection.specs.Limits.{Tally}
-use Rattle.connection.proofs.Heard.{with-same}
+use Rattle.connection.proofs.HeardActs.{with-same}
 
 module _ {A B C J M N : Type 0} {book : Naming J} {route : Ghosts N}
     {known : ℕ → List (List ℕ) → Bool → Answer → Type 0} {names : List ℕ → ℕ → Type 0} where

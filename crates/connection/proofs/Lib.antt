@@ -5,6 +5,8 @@ pub mod Endings
 pub mod Tallies
 pub mod Opens
 pub mod Heard
+pub mod HeardActs
+pub mod HeardBytes
 pub mod Resting
 pub mod Follow
 pub mod Founded

@@ -131,7 +131,7 @@ use Rattle.connection.specs.Left.{AreLeft}
 use Rattle.connection.specs.Puts.{Closed, IsOwn, put_of}
 use Rattle.connection.specs.Sent.{CarriesWhatWasSent}
 use Rattle.connection.proofs.Causes.{IsCaused, put-caused}
-use Rattle.connection.proofs.Heard.{all-front}
+use Rattle.connection.proofs.HeardActs.{all-front}
 use Rattle.connection.proofs.Joining.{
   all_calls,
   all_sent,

@@ -9,6 +9,7 @@ pub mod Blocks
 pub mod Literals
 pub mod Decoding
 pub mod Unique
+pub mod NoFault
 pub mod OneBlock
 pub mod Strings
 pub mod StaticEntries

@@ -65,16 +65,13 @@ use Rattle.hpack_codec.specs.Faults.{
 use Rattle.hpack_codec.specs.Codec.{Reads, IsFirstFault}
 use Rattle.hpack_codec.proofs.Integers.{end_behind}
 use Rattle.hpack_codec.proofs.Tables.{sizes_of-append, sizes_of-nil}
-use Rattle.hpack_codec.proofs.Unique.{
-  tails,
-  integer_one,
+use Rattle.hpack_codec.proofs.Unique.{tails, integer_one, name_one, field_one}
+use Rattle.hpack_codec.proofs.NoFault.{
   no_integer,
   no_integer_7,
   cut_size,
   size_one,
-  name_one,
   no_name_fault,
-  field_one,
   no_field,
   fit_64,
   fit_16,

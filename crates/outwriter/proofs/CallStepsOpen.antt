@@ -50,7 +50,7 @@ use Rattle.outwriter.specs.CallState.{Serves, MayBeDue, IsEnded, IsExact, has_re
 use Rattle.outwriter.specs.Steps.{Step, Taken}
 use Rattle.outwriter.proofs.CallSteps.{all-due, not-some, was-false, was-true}
 use Rattle.outwriter.proofs.EndsKept.{takes-heard}
-use Rattle.outwriter.proofs.StateLemmas.{unheard-knows, unheard-over}
+use Rattle.outwriter.proofs.StateChanges.{unheard-knows, unheard-over}
 use Rattle.outwriter.proofs.Others.{
   refused-taken,
   served-known,

@@ -65,7 +65,7 @@ use Rattle.outwriter.proofs.CallSteps.{
   serves-step,
 }
 use Rattle.outwriter.proofs.Others.{later-taken, opened-known, or-true, served-known}
-use Rattle.outwriter.proofs.StateLemmas.{unheard-knows}
+use Rattle.outwriter.proofs.StateChanges.{unheard-knows}
 use Rattle.outwriter.proofs.TellSteps.{taken-tells}
 
 -- nothing changes

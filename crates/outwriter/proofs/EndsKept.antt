@@ -65,7 +65,7 @@ use Rattle.outwriter.specs.CallState.{
 }
 use Rattle.outwriter.specs.Steps.{Step, Order, Taken}
 use Rattle.outwriter.specs.ToldByNow.{SameStanding}
-use Rattle.outwriter.proofs.StateLemmas.{still-heard}
+use Rattle.outwriter.proofs.StateWindows.{still-heard}
 use Rattle.outwriter.proofs.Others.{or-false, or-true, dropped-taken}
 
 -- what has ended or is to end does so still

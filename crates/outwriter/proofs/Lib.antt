@@ -4,6 +4,8 @@ pub mod CallSteps
 pub mod CallStepsOpen
 pub mod CallStepsOrders
 pub mod StateLemmas
+pub mod StateChanges
+pub mod StateWindows
 pub mod EndSteps
 pub mod FrameSteps
 pub mod Fronts

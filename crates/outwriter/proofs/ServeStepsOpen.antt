@@ -42,7 +42,8 @@ use Rattle.outwriter.specs.CallState.{bytes_marks, IsExact, IsEnded, Serves}
 use Rattle.outwriter.specs.Steps.{Step}
 use Rattle.outwriter.specs.ToldByNow.{SpellsOf}
 use Rattle.outwriter.proofs.Others.{Later, known-stale}
-use Rattle.outwriter.proofs.StateLemmas.{knows-heard, hears-again}
+use Rattle.outwriter.proofs.StateChanges.{knows-heard}
+use Rattle.outwriter.proofs.StateWindows.{hears-again}
 use Rattle.outwriter.proofs.ServeSteps.{
   append-nil,
   more-here,

@@ -50,7 +50,7 @@ use Rattle.outwriter.specs.Steps.{Step, Written}
 use Rattle.outwriter.specs.ToldByNow.{SpellsOf, block_marks}
 use Rattle.outwriter.proofs.Others.{Later, later-none, later-written}
 use Rattle.outwriter.proofs.TellSteps.{rests-tells}
-use Rattle.outwriter.proofs.StateLemmas.{hears-again}
+use Rattle.outwriter.proofs.StateWindows.{hears-again}
 use Rattle.outwriter.proofs.ServeSteps.{
   append-nil,
   All-later,

@@ -64,7 +64,7 @@ use Rattle.outwriter.specs.ToldByNow.{
   OwnByDue,
   block_marks,
 }
-use Rattle.outwriter.proofs.StateLemmas.{still-heard}
+use Rattle.outwriter.proofs.StateWindows.{still-heard}
 use Rattle.outwriter.proofs.EndsKept.{dues-same}
 use Rattle.outwriter.proofs.TellSteps.{rests-tells}
 

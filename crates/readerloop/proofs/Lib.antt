@@ -14,6 +14,7 @@ pub mod Heard
 pub mod CallSteps
 pub mod AccountSteps
 pub mod KeptSteps
+pub mod KeptCalls
 pub mod AwaitedSteps
 pub mod CutSteps
 pub mod Unanswered

@@ -36,7 +36,7 @@ use Rattle.h2frame.specs.declared.kind.FrameKind.TheVariants.{
 use Rattle.h2frame.specs.Flags.{has, ack}
 use Rattle.lists.specs.declared.field.Field.{Field}
 use Rattle.hpack_codec.specs.Table.{Table}
-use Rattle.hpack_codec.proofs.Unique.{only_fields, only_memory}
+use Rattle.hpack_codec.proofs.NoFault.{only_fields, only_memory}
 use Rattle.callhead.specs.declared.head.CallHead.{CallHead}
 use Rattle.callhead.specs.declared.fault.HeadFault.{HeadFault}
 use Rattle.hpack_codec.proofs.OneBlock.{fault_one}

@@ -8,4 +8,6 @@ pub mod RestSteps
 pub mod SentSteps
 pub mod SpelledLemmas
 pub mod WrittenSteps
+pub mod WrittenFrames
+pub mod WrittenInbox
 pub mod WroteSteps

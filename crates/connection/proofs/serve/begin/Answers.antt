@@ -10,7 +10,8 @@ use Rattle.writerloop.proofs.EndSteps.{told-on}
 use Rattle.connection.specs.Puts.{put_of, put_orders}
 use Rattle.connection.specs.Served.{is_drained}
 use Rattle.connection.proofs.Endings.{lacked-by}
-use Rattle.connection.proofs.Heard.{closed-put, kept-none, ordered-none}
+use Rattle.connection.proofs.Heard.{closed-put}
+use Rattle.connection.proofs.HeardBytes.{kept-none, ordered-none}
 use Rattle.connection.proofs.Reports.{drained-is, none-served, served-by, unbegun}
 use Rattle.connection.proofs.Serving.{given-first}
 use Rattle.connection.proofs.serve.begin.Goals as goal

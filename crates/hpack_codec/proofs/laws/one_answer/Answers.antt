@@ -1,4 +1,4 @@
-use Rattle.hpack_codec.proofs.Unique.{block_one, only_fields, only_memory}
+use Rattle.hpack_codec.proofs.NoFault.{block_one, only_fields, only_memory}
 use Rattle.hpack_codec.proofs.OneBlock.{fault_one}
 use Rattle.hpack_codec.proofs.laws.one_answer.Goals as goal
 

@@ -1,5 +1,5 @@
 use Rattle.std.proofs.Common.{refl}
-use Rattle.connection.proofs.Heard.{acts-done, awaits-of, reads-of}
+use Rattle.connection.proofs.HeardActs.{acts-done, awaits-of, reads-of}
 use Rattle.connection.proofs.reader.Reader.act.Goals as goal
 
 pub returns-in-Some-clause-acts : goal.returns-in-Some-clause-acts

@@ -1,4 +1,4 @@
-use Rattle.connection.proofs.Heard.{with-tally}
+use Rattle.connection.proofs.HeardActs.{with-tally}
 use Rattle.connection.proofs.reader.Reader.admit.Goals as goal
 
 pub returns-in-Ok : goal.returns-in-Ok

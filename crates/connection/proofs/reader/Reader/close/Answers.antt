@@ -1,7 +1,7 @@
 use Rattle.std.proofs.Common.{◌≡◌, ◌∙◌, List, [], ◌∷◌, ◌++◌, ap, refl}
 use Rattle.outwriter.specs.declared.control.WriterOrder.TheVariants.{Close}
 use Rattle.connection.specs.Puts.{put_of}
-use Rattle.connection.proofs.Heard.{collects-none, collects-then}
+use Rattle.connection.proofs.HeardActs.{collects-none, collects-then}
 use Rattle.connection.proofs.reader.Reader.close.Goals as goal
 
 behind : {T : Type 0} (was now all : List T) (one : T) → all ≡ now ++ one ∷ [] → now ≡ was

@@ -1,5 +1,5 @@
 use Rattle.std.proofs.Common.{refl}
-use Rattle.connection.proofs.Heard.{collects-none}
+use Rattle.connection.proofs.HeardActs.{collects-none}
 use Rattle.connection.proofs.reader.Reader.collect.Goals as goal
 
 pub returns-else-ne-clause-collects : goal.returns-else-ne-clause-collects

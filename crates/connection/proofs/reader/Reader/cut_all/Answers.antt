@@ -1,4 +1,4 @@
-use Rattle.connection.proofs.Heard.{cuts-none, cuts-then}
+use Rattle.connection.proofs.HeardActs.{cuts-none, cuts-then}
 use Rattle.connection.proofs.reader.Reader.cut_all.Goals as goal
 
 pub places-init : goal.places-init

@@ -3,7 +3,7 @@ use Rattle.std.specs.Prelude.{IsSomeAnd}
 use Rattle.readerloop.specs.declared.decision.HalfToShut.{HalfToShut}
 use Rattle.readerloop.specs.Readings.{DecidesOn}
 use Rattle.readerloop.specs.Steps.{CutOff}
-use Rattle.connection.proofs.Heard.{cuts-none, cuts-one}
+use Rattle.connection.proofs.HeardActs.{cuts-none, cuts-one}
 use Rattle.connection.proofs.reader.Reader.cut_at.Goals as goal
 
 some-of : {A : Type 0} (found : Option A) (P : A → Type 0) → IsSomeAnd found P → (x : A) × P x

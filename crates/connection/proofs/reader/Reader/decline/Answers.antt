@@ -2,7 +2,7 @@ use Rattle.std.proofs.Common.{Bool, [], ◌∷◌, length, refl, subst}
 use Rattle.session.specs.declared.event.InEvent.TheVariants as events
 use Rattle.readerloop.specs.Steps.{Told, TurnedAway, is_draining, reported}
 use Rattle.connection.specs.Limits.{MayTurnAway}
-use Rattle.connection.proofs.Heard.{with-one}
+use Rattle.connection.proofs.HeardActs.{with-one}
 use Rattle.connection.proofs.Opens.{plain-own}
 use Rattle.connection.proofs.Tallies.{covers-more, may-turn}
 use Rattle.connection.proofs.reader.Reader.decline.Goals as goal

@@ -1,4 +1,4 @@
-use Rattle.connection.proofs.Heard.{cuts-drain, cuts-none, cuts-same-orders}
+use Rattle.connection.proofs.HeardActs.{cuts-drain, cuts-none, cuts-same-orders}
 use Rattle.connection.proofs.reader.Reader.drain.Goals as goal
 
 pub returns-then-is_draining-clause-cuts : goal.returns-then-is_draining-clause-cuts

@@ -1,16 +1,8 @@
 use Rattle.std.proofs.Common.{◌≡◌, ◌∙◌, [], ◌∷◌, ◌++◌, ap, refl}
 use Rattle.outwriter.specs.declared.control.WriterOrder.TheVariants.{InputEnded}
 use Rattle.readerloop.specs.Orders.{orders_by}
-use Rattle.connection.proofs.Heard.{
-  closed-behind,
-  collects-seats,
-  collects-then,
-  grows-home,
-  grows-then,
-  ordered-put,
-  ordered-same,
-  same-of,
-}
+use Rattle.connection.proofs.Heard.{closed-behind, ordered-put, ordered-same, same-of}
+use Rattle.connection.proofs.HeardActs.{collects-seats, collects-then, grows-home, grows-then}
 use Rattle.connection.proofs.reader.Reader.end.Goals as goal
 
 pub returns-clause-grows : goal.returns-clause-grows

@@ -2,7 +2,7 @@ use Rattle.std.proofs.Common.{refl}
 use Rattle.session.specs.declared.event.InEvent.TheVariants as events
 use Rattle.readerloop.specs.Steps.{Admitted}
 use Rattle.connection.specs.Limits.{one_more}
-use Rattle.connection.proofs.Heard.{collects-stays, with-collected, with-one}
+use Rattle.connection.proofs.HeardActs.{collects-stays, with-collected, with-one}
 use Rattle.connection.proofs.Opens.{begun-own}
 use Rattle.connection.proofs.Tallies.{covers-call}
 use Rattle.connection.proofs.reader.Reader.engage.Goals as goal

@@ -1,7 +1,7 @@
 use Rattle.std.proofs.Common.{refl}
 use Rattle.session.specs.declared.event.InEvent.TheVariants as events
 use Rattle.readerloop.specs.Steps.{Plain}
-use Rattle.connection.proofs.Heard.{to-one}
+use Rattle.connection.proofs.HeardActs.{to-one}
 use Rattle.connection.proofs.reader.Reader.fatal.Goals as goal
 
 pub returns : goal.returns

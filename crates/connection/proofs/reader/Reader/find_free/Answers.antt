@@ -1,4 +1,4 @@
-use Rattle.connection.proofs.Heard.{collects-seats, collects-then, next-seats}
+use Rattle.connection.proofs.HeardActs.{collects-seats, collects-then, next-seats}
 use Rattle.connection.proofs.reader.Reader.find_free.Goals as goal
 
 pub returns-then-is_some-clause-collects : goal.returns-then-is_some-clause-collects

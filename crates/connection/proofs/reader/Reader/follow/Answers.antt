@@ -1,7 +1,7 @@
 use Rattle.std.proofs.Common.{[], ◌∷◌, ap, sym}
 use Rattle.session.specs.declared.event.InEvent.{InEvent}
 use Rattle.connection.proofs.Follow.{with-as}
-use Rattle.connection.proofs.Heard.{with-events}
+use Rattle.connection.proofs.HeardActs.{with-events}
 use Rattle.connection.proofs.reader.Reader.follow.Goals as goal
 
 pub returns-in-BadHead : goal.returns-in-BadHead

@@ -1,7 +1,7 @@
 use Rattle.std.proofs.Common.{refl}
 use Rattle.session.specs.declared.event.InEvent.TheVariants as events
 use Rattle.readerloop.specs.Steps.{Plain}
-use Rattle.connection.proofs.Heard.{to-silent}
+use Rattle.connection.proofs.HeardActs.{to-silent}
 use Rattle.connection.proofs.reader.Reader.hear_goaway.Goals as goal
 
 pub returns : goal.returns

@@ -16,16 +16,8 @@ use Rattle.std.proofs.Common.{
 }
 use Rattle.std.specs.Vec.Iter.{into_iter_steps}
 use Rattle.session.specs.declared.event.InEvent.{InEvent}
-use Rattle.connection.proofs.Heard.{
-  none-end,
-  parts-more,
-  some-end,
-  with-end,
-  with-events,
-  with-none,
-  with-stop,
-  with-then,
-}
+use Rattle.connection.proofs.HeardActs.{with-end, with-events, with-none, with-stop, with-then}
+use Rattle.connection.proofs.HeardBytes.{none-end, parts-more, some-end}
 use Rattle.connection.proofs.reader.Reader.heed.Goals as goal
 
 pub events-init : goal.events-init

@@ -1,4 +1,4 @@
-use Rattle.connection.proofs.Heard.{seats-then}
+use Rattle.connection.proofs.HeardActs.{seats-then}
 use Rattle.connection.proofs.reader.Reader.hire.Goals as goal
 
 pub returns-clause-reading : goal.returns-clause-reading

@@ -1,4 +1,4 @@
-use Rattle.connection.proofs.Heard.{seats-then}
+use Rattle.connection.proofs.HeardActs.{seats-then}
 use Rattle.connection.proofs.reader.Reader.join_all.Goals as goal
 
 pub hands-preserved : goal.hands-preserved

@@ -1,4 +1,4 @@
-use Rattle.connection.proofs.Heard.{kept-lack}
+use Rattle.connection.proofs.HeardBytes.{kept-lack}
 use Rattle.connection.proofs.reader.Reader.lack.Goals as goal
 
 pub returns-clause-home : goal.returns-clause-home

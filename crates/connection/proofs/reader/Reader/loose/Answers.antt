@@ -1,7 +1,7 @@
 use Rattle.std.proofs.Common.{arith, refl}
 use Rattle.session.specs.declared.event.InEvent.TheVariants as events
 use Rattle.readerloop.specs.Steps.{Received, Told}
-use Rattle.connection.proofs.Heard.{with-one, with-quiet}
+use Rattle.connection.proofs.HeardActs.{with-one, with-quiet}
 use Rattle.connection.proofs.Opens.{plain-own}
 use Rattle.connection.proofs.Tallies.{covers-bytes, may-refuse}
 use Rattle.connection.proofs.reader.Reader.loose.Goals as goal

@@ -1,6 +1,6 @@
 use Rattle.std.proofs.Common.{◌∙◌, ap, sym}
 use Rattle.lane.specs.Ring.{in_name, out_name, put_in}
-use Rattle.connection.proofs.Heard.{carried-front, prefix-before, reads-home}
+use Rattle.connection.proofs.HeardActs.{carried-front, prefix-before, reads-home}
 use Rattle.connection.proofs.reader.Reader.meet.Goals as goal
 
 pub meet_home-requires : goal.meet_home-requires

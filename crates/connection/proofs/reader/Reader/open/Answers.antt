@@ -5,7 +5,7 @@ use Rattle.readerloop.specs.Readings.{refused_by, unless_ended}
 use Rattle.readerloop.specs.Steps.{Told}
 use Rattle.connection.proofs.Founded.{none-first, none-of, refused-founded}
 use Rattle.connection.proofs.Tallies.{covers-more, ended-justified, refused-justified}
-use Rattle.connection.proofs.Heard.{cuts-same, with-behind, with-one, with-open-for}
+use Rattle.connection.proofs.HeardActs.{cuts-same, with-behind, with-one, with-open-for}
 use Rattle.connection.proofs.Opens.{admits-none, plain-own}
 use Rattle.connection.proofs.reader.Reader.open.Goals as goal
 

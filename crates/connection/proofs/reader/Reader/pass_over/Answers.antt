@@ -2,7 +2,7 @@ use Rattle.std.proofs.Common.{refl}
 use Rattle.session.specs.declared.event.InEvent.TheVariants as events
 use Rattle.readerloop.specs.Steps.{Stopped, Told, Unserved}
 use Rattle.connection.specs.Limits.{one_more}
-use Rattle.connection.proofs.Heard.{with-one}
+use Rattle.connection.proofs.HeardActs.{with-one}
 use Rattle.connection.proofs.Opens.{plain-own}
 use Rattle.connection.proofs.Tallies.{covers-call}
 use Rattle.connection.proofs.reader.Reader.pass_over.Goals as goal

@@ -28,25 +28,29 @@ use Rattle.connection.specs.Heard.{IsOfInput}
 use Rattle.connection.proofs.Backlog.{nil-of}
 use Rattle.connection.proofs.Tallies.{covers-more}
 use Rattle.connection.proofs.Heard.{
-  carried-before,
   consumes-keeps,
   consumes-none,
   consumes-then,
-  failed-read,
+  input-out,
+  not-by-fault,
+  not-drained,
+}
+use Rattle.connection.proofs.HeardActs.{
+  carried-before,
   grows-home,
   grows-then,
-  input-out,
+  kept-stopped,
+  with-end,
+}
+use Rattle.connection.proofs.HeardBytes.{
+  failed-read,
   input-read,
   kept-behind,
   kept-collected,
-  kept-stopped,
   none-read,
-  not-by-fault,
-  not-drained,
   some-harsh,
   some-read,
   some-sound,
-  with-end,
 }
 use Rattle.connection.proofs.reader.Reader.read.Goals as goal
 

@@ -2,7 +2,7 @@ use Rattle.std.proofs.Common.{refl}
 use Rattle.session.specs.declared.event.InEvent.TheVariants as events
 use Rattle.readerloop.specs.Readings.{unless_ended}
 use Rattle.readerloop.specs.Steps.{Plain}
-use Rattle.connection.proofs.Heard.{to-one}
+use Rattle.connection.proofs.HeardActs.{to-one}
 use Rattle.connection.proofs.Tallies.{ended-justified}
 use Rattle.connection.proofs.reader.Reader.refuse.Goals as goal
 

@@ -1,5 +1,5 @@
 use Rattle.std.proofs.Common.{◌∙◌, refl}
-use Rattle.connection.proofs.Heard.{collects-more, collects-stays, collects-then}
+use Rattle.connection.proofs.HeardActs.{collects-more, collects-stays, collects-then}
 use Rattle.connection.proofs.reader.Reader.settle_all.Goals as goal
 
 pub calls-init : goal.calls-init

@@ -1,5 +1,5 @@
 use Rattle.std.proofs.Common.{◌≡◌, ◌∙◌, List, [], ◌∷◌, length, refl, sym}
-use Rattle.connection.proofs.Heard.{collects-none, collects-then}
+use Rattle.connection.proofs.HeardActs.{collects-none, collects-then}
 use Rattle.connection.proofs.reader.Reader.settle_rest.Goals as goal
 
 none-of : {A : Type 0} (xs : List A) → length xs ≡ 0 → xs ≡ []

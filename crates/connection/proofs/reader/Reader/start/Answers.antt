@@ -1,10 +1,10 @@
 use Rattle.std.proofs.Common.{◌∙◌, refl, true}
-use Rattle.connection.proofs.Heard.{
+use Rattle.connection.proofs.Heard.{same-of}
+use Rattle.connection.proofs.HeardActs.{
   collects-none,
   collects-seats,
   collects-then,
   next-seats,
-  same-of,
   with-collected,
   with-stopped,
 }

@@ -1,4 +1,4 @@
-use Rattle.connection.proofs.Heard.{with-rung}
+use Rattle.connection.proofs.HeardActs.{with-rung}
 use Rattle.connection.proofs.reader.Reader.take.Goals as goal
 
 pub returns-then-is_none : goal.returns-then-is_none

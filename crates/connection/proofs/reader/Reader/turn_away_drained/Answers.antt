@@ -1,4 +1,4 @@
-use Rattle.connection.proofs.Heard.{with-behind}
+use Rattle.connection.proofs.HeardActs.{with-behind}
 use Rattle.connection.proofs.reader.Reader.turn_away_drained.Goals as goal
 
 pub returns : goal.returns

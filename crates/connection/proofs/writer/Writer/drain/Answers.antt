@@ -1,5 +1,5 @@
 use Rattle.std.proofs.Common.{◌∙◌, refl}
-use Rattle.writerloop.proofs.WrittenSteps.{leads-here, leads-then}
+use Rattle.writerloop.proofs.WrittenInbox.{leads-here, leads-then}
 use Rattle.connection.proofs.writer.Writer.drain.Goals as goal
 
 pub orders-init : goal.orders-init

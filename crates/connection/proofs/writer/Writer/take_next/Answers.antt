@@ -1,5 +1,5 @@
 use Rattle.std.proofs.Common.{◌∙◌}
-use Rattle.writerloop.proofs.WrittenSteps.{leads-then}
+use Rattle.writerloop.proofs.WrittenInbox.{leads-then}
 use Rattle.connection.proofs.writer.Writer.take_next.Goals as goal
 
 pub returns-in-Lost : goal.returns-in-Lost

@@ -1,4 +1,4 @@
-use Rattle.writerloop.proofs.WrittenSteps.{to-still}
+use Rattle.writerloop.proofs.WrittenInbox.{to-still}
 use Rattle.connection.proofs.writer.Writer.turn.Goals as goal
 
 pub returns-in-Over-clause-over : goal.returns-in-Over-clause-over

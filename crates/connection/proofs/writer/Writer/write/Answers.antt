@@ -2,7 +2,7 @@ use Rattle.std.proofs.Common.{◌∙◌, ℕ, subst, sym}
 use Rattle.lane.specs.Ring.{taken}
 use Rattle.writerloop.specs.Endings.{ending_told}
 use Rattle.writerloop.specs.Written.{HasSent}
-use Rattle.writerloop.proofs.WrittenSteps.{to-here, to-then}
+use Rattle.writerloop.proofs.WrittenInbox.{to-here, to-then}
 use Rattle.connection.proofs.writer.Writer.write.Goals as goal
 
 pub turns-init : goal.turns-init

@@ -1,5 +1,5 @@
 use Rattle.std.proofs.Common.{◌∙◌}
-use Rattle.writerloop.proofs.WrittenSteps.{leads-then, stays-then, to-behind, to-out, to-still}
+use Rattle.writerloop.proofs.WrittenInbox.{leads-then, stays-then, to-behind, to-out, to-still}
 use Rattle.connection.proofs.writer.Writer.write_once.Goals as goal
 
 pub returns-clause-leads : goal.returns-clause-leads

@@ -1,5 +1,5 @@
 use Rattle.std.proofs.lemmas.Result.{MatchResult-from_both, IfOk-weaker, IfErr-weaker}
-use Rattle.hpack_codec.proofs.Unique.{only_fields, only_memory}
+use Rattle.hpack_codec.proofs.NoFault.{only_fields, only_memory}
 use Rattle.hpack_codec.proofs.OneBlock.{first_answer}
 use Rattle.hpack_codec.proofs.decoder.Decoder.block.Goals as goal
 

@@ -1,7 +1,7 @@
 use Rattle.std.proofs.Common.{true, refl, subst, sym}
 use Rattle.outwriter.specs.Frames.{reset_frame}
 use Rattle.outwriter.proofs.TellSteps.{plain-tells}
-use Rattle.outwriter.proofs.StateLemmas.{still-heard}
+use Rattle.outwriter.proofs.StateWindows.{still-heard}
 use Rattle.outwriter.proofs.EndSteps.{reset-written}
 use Rattle.outwriter.specs.Frames.{IsSound}
 use Rattle.outwriter.proofs.SoundFrames.{sound-reset}

@@ -9,7 +9,7 @@ use Rattle.outwriter.specs.States.{
   states_of,
   steps_of,
 }
-use Rattle.outwriter.proofs.StateLemmas.{
+use Rattle.outwriter.proofs.StateChanges.{
   change-becomes,
   change-moves,
   change-puts,

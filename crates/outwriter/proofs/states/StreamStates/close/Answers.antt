@@ -1,7 +1,7 @@
 use Rattle.std.proofs.Common.{subst}
 use Rattle.outwriter.specs.OpenStreams.{Closes}
 use Rattle.outwriter.specs.States.{StandAs, States, open_at, states_of}
-use Rattle.outwriter.proofs.StateLemmas.{edit-stands, edit-within, edit-closes}
+use Rattle.outwriter.proofs.StateChanges.{edit-stands, edit-within, edit-closes}
 use Rattle.outwriter.proofs.states.StreamStates.close.Goals as goal
 
 pub invariant_of-self : goal.invariant_of-self

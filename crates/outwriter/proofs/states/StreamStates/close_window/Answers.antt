@@ -1,7 +1,7 @@
 use Rattle.std.proofs.Common.{subst, [], ◌∷◌}
 use Rattle.flow.specs.WindowHistory.{Closing}
 use Rattle.outwriter.specs.States.{Moves, SameButWindows, States, states_of}
-use Rattle.outwriter.proofs.StateLemmas.{closed-moves, closed-stands, closed-within}
+use Rattle.outwriter.proofs.StateWindows.{closed-moves, closed-stands, closed-within}
 use Rattle.outwriter.proofs.states.StreamStates.close_window.Goals as goal
 
 pub invariant_of-self : goal.invariant_of-self

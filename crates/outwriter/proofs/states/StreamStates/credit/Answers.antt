@@ -4,7 +4,7 @@ use Rattle.flow.specs.WindowHistory.{CanCredit, Credit, Follows}
 use Rattle.flow.specs.WindowHistory.{Step as WindowStep}
 use Rattle.flow.specs.Windows.{CreditFault, Meets}
 use Rattle.outwriter.specs.States.{Moves, SameButWindows, States, states_of}
-use Rattle.outwriter.proofs.StateLemmas.{
+use Rattle.outwriter.proofs.StateWindows.{
   credited,
   credited-stands,
   credited-unchanged,

@@ -1,4 +1,5 @@
-use Rattle.outwriter.proofs.StateLemmas.{on-ok, ends-put, owed-put-same}
+use Rattle.outwriter.proofs.StateLemmas.{ends-put, owed-put-same}
+use Rattle.outwriter.proofs.StateChanges.{on-ok}
 use Rattle.outwriter.proofs.states.StreamStates.end.Goals as goal
 
 pub returns-clause-ok : goal.returns-clause-ok

@@ -15,6 +15,8 @@ use Rattle.outwriter.proofs.StateLemmas.{
   fit-set_at,
   apart-puts,
   numbered-puts,
+}
+use Rattle.outwriter.proofs.StateWindows.{
   adds-ends,
   adds-grants,
   adds-moves,

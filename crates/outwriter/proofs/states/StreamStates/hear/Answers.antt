@@ -1,4 +1,5 @@
-use Rattle.outwriter.proofs.StateLemmas.{on-ok, hears-put, over-same, owed-put-same}
+use Rattle.outwriter.proofs.StateLemmas.{hears-put, over-same, owed-put-same}
+use Rattle.outwriter.proofs.StateChanges.{on-ok}
 use Rattle.outwriter.proofs.states.StreamStates.hear.Goals as goal
 
 pub returns-clause-hears : goal.returns-clause-hears

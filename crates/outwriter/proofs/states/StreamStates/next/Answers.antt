@@ -1,7 +1,7 @@
 use Rattle.std.proofs.Common.{arith, subst, []}
 use Rattle.outwriter.specs.States.{States, Moves, SameEnds, SameOpen, TakesAll, states_of}
-use Rattle.outwriter.proofs.StateLemmas.{
-  within-taken,
+use Rattle.outwriter.proofs.StateLemmas.{within-taken}
+use Rattle.outwriter.proofs.StateWindows.{
   takes_all,
   taken-ends,
   taken-moves,

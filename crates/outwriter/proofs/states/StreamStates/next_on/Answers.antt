@@ -4,7 +4,8 @@ use Rattle.std.proofs.lemmas.Result.{IfOk-weaker}
 use Rattle.outwriter.specs.NextOn.{TakesNext}
 use Rattle.outwriter.specs.Polls.{coming}
 use Rattle.outwriter.specs.States.{States, states_of}
-use Rattle.outwriter.proofs.StateLemmas.{keeps-within, next-view}
+use Rattle.outwriter.proofs.StateChanges.{keeps-within}
+use Rattle.outwriter.proofs.StateWindows.{next-view}
 use Rattle.outwriter.proofs.states.StreamStates.next_on.Goals as goal
 
 pub invariant_of-self : goal.invariant_of-self

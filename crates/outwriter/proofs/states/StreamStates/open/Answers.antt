@@ -1,4 +1,5 @@
-use Rattle.outwriter.proofs.StateLemmas.{on-ok, hears-put, opens-put, over-same}
+use Rattle.outwriter.proofs.StateLemmas.{hears-put, opens-put, over-same}
+use Rattle.outwriter.proofs.StateChanges.{on-ok}
 use Rattle.outwriter.proofs.states.StreamStates.open.Goals as goal
 
 pub returns-clause-ok : goal.returns-clause-ok

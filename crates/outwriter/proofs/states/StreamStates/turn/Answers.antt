@@ -1,7 +1,8 @@
 use Rattle.std.proofs.Common.{subst}
 use Rattle.outwriter.specs.OpenStreams.{SameHands}
 use Rattle.outwriter.specs.States.{StandAs, States, open_at, states_of}
-use Rattle.outwriter.proofs.StateLemmas.{edit-stands, edit-within, edit-same}
+use Rattle.outwriter.proofs.StateChanges.{edit-stands, edit-within}
+use Rattle.outwriter.proofs.StateWindows.{edit-same}
 use Rattle.outwriter.proofs.states.StreamStates.turn.Goals as goal
 
 pub invariant_of-self : goal.invariant_of-self

@@ -1,5 +1,5 @@
 use Rattle.std.proofs.Common.{sym}
-use Rattle.outwriter.proofs.StateLemmas.{changed-there}
+use Rattle.outwriter.proofs.StateChanges.{changed-there}
 use Rattle.outwriter.proofs.states.entries.change_of.Goals as goal
 
 pub returns-in-Some-clause-changes : goal.returns-in-Some-clause-changes

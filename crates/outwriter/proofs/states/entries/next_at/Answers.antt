@@ -1,6 +1,6 @@
 use Rattle.std.proofs.Common.{sym}
 use Rattle.outwriter.specs.Polls.{coming}
-use Rattle.outwriter.proofs.StateLemmas.{entry-next}
+use Rattle.outwriter.proofs.StateWindows.{entry-next}
 use Rattle.outwriter.proofs.states.entries.next_at.Goals as goal
 
 pub returns-in-Some-clause-next : goal.returns-in-Some-clause-next

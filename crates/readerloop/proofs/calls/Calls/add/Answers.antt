@@ -1,6 +1,6 @@
 use Rattle.std.proofs.Common.{◌∙◌, ◌++◌, ◌∷◌, [], ap, refl}
 use Rattle.readerloop.specs.Kept.{accounts_of, unsettled}
-use Rattle.readerloop.proofs.KeptSteps.{kept-add, kept-as}
+use Rattle.readerloop.proofs.KeptCalls.{kept-add, kept-as}
 use Rattle.readerloop.proofs.calls.Calls.add.Goals as goal
 
 pub returns-clause-heard : goal.returns-clause-heard

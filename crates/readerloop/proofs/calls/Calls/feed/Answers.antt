@@ -6,7 +6,8 @@ use Rattle.readerloop.specs.Kept.{accounts_of, unsettled}
 use Rattle.readerloop.specs.Steps.{Received, Told}
 use Rattle.readerloop.proofs.AwaitedSteps.{awaits-same}
 use Rattle.readerloop.proofs.Heard.{err-any}
-use Rattle.readerloop.proofs.KeptSteps.{found-fed, found-id, kept-back, kept-found, kept-unfound}
+use Rattle.readerloop.proofs.KeptSteps.{found-id, kept-back, kept-found, kept-unfound}
+use Rattle.readerloop.proofs.KeptCalls.{found-fed}
 use Rattle.readerloop.proofs.StepLemmas.{concerns-data}
 use Rattle.readerloop.proofs.calls.Calls.feed.Goals as goal
 

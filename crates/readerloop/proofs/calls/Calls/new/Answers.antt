@@ -1,5 +1,6 @@
 use Rattle.std.proofs.Common.{refl}
-use Rattle.readerloop.proofs.KeptSteps.{kept-as, kept-none-yet}
+use Rattle.readerloop.proofs.KeptSteps.{kept-none-yet}
+use Rattle.readerloop.proofs.KeptCalls.{kept-as}
 use Rattle.readerloop.proofs.calls.Calls.new.Goals as goal
 
 pub returns-clause-kept : goal.returns-clause-kept

@@ -1,6 +1,6 @@
 use Rattle.std.proofs.Common.{◌∙◌, ◌++◌, ◌∷◌, [], ap, refl}
 use Rattle.readerloop.specs.Kept.{accounts_of, unsettled}
-use Rattle.readerloop.proofs.KeptSteps.{kept-as, kept-pass}
+use Rattle.readerloop.proofs.KeptCalls.{kept-as, kept-pass}
 use Rattle.readerloop.proofs.calls.Calls.pass_over.Goals as goal
 
 pub returns-clause-heard : goal.returns-clause-heard

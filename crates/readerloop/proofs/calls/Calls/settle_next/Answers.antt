@@ -9,7 +9,7 @@ use Rattle.readerloop.proofs.AwaitedSteps.{
   over-within,
 }
 use Rattle.readerloop.proofs.CutSteps.{cut-out}
-use Rattle.readerloop.proofs.KeptSteps.{found-call, kept-settled, last_in}
+use Rattle.readerloop.proofs.KeptCalls.{found-call, kept-settled, last_in}
 use Rattle.readerloop.proofs.calls.Calls.settle_next.Goals as goal
 
 pub settle-account-requires : goal.settle-account-requires

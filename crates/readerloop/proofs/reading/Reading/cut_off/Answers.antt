@@ -7,7 +7,7 @@ use Rattle.readerloop.specs.Kept.{accounts_of, unsettled}
 use Rattle.readerloop.specs.Readings.{DecidesOn}
 use Rattle.readerloop.specs.Steps.{CutOff}
 use Rattle.readerloop.proofs.Heard.{some-and}
-use Rattle.readerloop.proofs.KeptSteps.{fed-at}
+use Rattle.readerloop.proofs.KeptCalls.{fed-at}
 use Rattle.readerloop.proofs.ReadingSteps.{awaits-cut, cut-fed, decides-cut, one-order, quiet}
 use Rattle.readerloop.proofs.StepLemmas.{closes-cut, concerns-cut}
 use Rattle.readerloop.proofs.reading.Reading.cut_off.Goals as goal

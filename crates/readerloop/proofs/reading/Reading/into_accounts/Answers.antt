@@ -5,7 +5,7 @@ use Rattle.readerloop.specs.Calls.{carried_in}
 use Rattle.readerloop.specs.Kept.{accounts_of, unsettled}
 use Rattle.readerloop.specs.Reports.{AreAccounts}
 use Rattle.readerloop.specs.Steps.{reported}
-use Rattle.readerloop.proofs.KeptSteps.{all-accounted}
+use Rattle.readerloop.proofs.KeptCalls.{all-accounted}
 use Rattle.readerloop.proofs.reading.Reading.into_accounts.Goals as goal
 
 pub returns : goal.returns

@@ -3,7 +3,7 @@ use Rattle.session.specs.declared.event.InEvent.TheVariants as events
 use Rattle.connbook.specs.declared.answers.AdmitFault.TheVariants.{Draining}
 use Rattle.readerloop.specs.Readings.{DecidesOn, refused_by, unless_ended}
 use Rattle.readerloop.specs.Steps.{Told, TurnedAway}
-use Rattle.readerloop.proofs.KeptSteps.{kept-same}
+use Rattle.readerloop.proofs.KeptCalls.{kept-same}
 use Rattle.readerloop.proofs.ReadingSteps.{calm-as, lacks-as, reads-same}
 use Rattle.readerloop.proofs.reading.Reading.open.Goals as goal
 

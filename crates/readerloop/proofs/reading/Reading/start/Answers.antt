@@ -1,6 +1,6 @@
 use Rattle.readerloop.proofs.Collecting.{next-calls, same-items, same-room}
 use Rattle.readerloop.proofs.Heard.{err-any, err-map, ok-map}
-use Rattle.readerloop.proofs.KeptSteps.{kept-same}
+use Rattle.readerloop.proofs.KeptCalls.{kept-same}
 use Rattle.readerloop.proofs.Starting.{next-again, same-rest}
 use Rattle.readerloop.proofs.reading.Reading.start.Goals as goal
 

@@ -3,7 +3,8 @@ use Rattle.lane.specs.Ring.{in_name, put_in}
 use Rattle.lane.specs.RingLane.{got}
 use Rattle.writerloop.specs.Sent.{numbers}
 use Rattle.writerloop.specs.Wrote.{WritesOn}
-use Rattle.writerloop.proofs.WrittenSteps.{begins-on, goes-none, runs-same}
+use Rattle.writerloop.proofs.WrittenSteps.{goes-none}
+use Rattle.writerloop.proofs.WrittenFrames.{begins-on, runs-same}
 use Rattle.writerloop.proofs.writing.Writing.begin.Goals as goal
 
 pub returns-in-Ok-clause-begins : goal.returns-in-Ok-clause-begins

@@ -1,7 +1,7 @@
 use Rattle.std.proofs.Common.{ap}
 use Rattle.lane.specs.Ring.{in_name, put_in}
 use Rattle.writerloop.specs.Sent.{numbers}
-use Rattle.writerloop.proofs.WrittenSteps.{closing-on}
+use Rattle.writerloop.proofs.WrittenFrames.{closing-on}
 use Rattle.writerloop.proofs.writing.Writing.close.Goals as goal
 
 pub returns-clause-passes : goal.returns-clause-passes

@@ -1,13 +1,8 @@
 use Rattle.std.proofs.Common.{◌∙◌, Some, refl, sym}
 use Rattle.writerloop.proofs.CallSteps.{keys-lanes}
-use Rattle.writerloop.proofs.WrittenSteps.{
-  fills-on,
-  fills-over,
-  fills-stopped,
-  leads-out,
-  leads-still,
-  goes-frames,
-}
+use Rattle.writerloop.proofs.WrittenSteps.{goes-frames}
+use Rattle.writerloop.proofs.WrittenFrames.{fills-on, fills-over, fills-stopped}
+use Rattle.writerloop.proofs.WrittenInbox.{leads-out, leads-still}
 use Rattle.writerloop.proofs.writing.Writing.fill.Goals as goal
 
 pub invariant_of-self : goal.invariant_of-self

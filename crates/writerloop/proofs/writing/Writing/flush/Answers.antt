@@ -1,5 +1,7 @@
 use Rattle.std.proofs.Common.{ap, refl}
-use Rattle.writerloop.proofs.WrittenSteps.{flushes-on, goes-none, stays-by}
+use Rattle.writerloop.proofs.WrittenSteps.{goes-none}
+use Rattle.writerloop.proofs.WrittenFrames.{flushes-on}
+use Rattle.writerloop.proofs.WrittenInbox.{stays-by}
 use Rattle.writerloop.proofs.writing.Writing.flush.Goals as goal
 
 pub returns-clause-stays : goal.returns-clause-stays

@@ -1,5 +1,7 @@
 use Rattle.std.proofs.Common.{ap, refl, true}
-use Rattle.writerloop.proofs.WrittenSteps.{goes-none, leads-parting, runs-same}
+use Rattle.writerloop.proofs.WrittenSteps.{goes-none}
+use Rattle.writerloop.proofs.WrittenFrames.{runs-same}
+use Rattle.writerloop.proofs.WrittenInbox.{leads-parting}
 use Rattle.writerloop.proofs.writing.Writing.give_up.Goals as goal
 
 pub returns-then-not-part : goal.returns-then-not-part

@@ -1,5 +1,5 @@
 use Rattle.std.proofs.Common.{ap, refl}
-use Rattle.writerloop.proofs.WrittenSteps.{leads-granted}
+use Rattle.writerloop.proofs.WrittenInbox.{leads-granted}
 use Rattle.writerloop.proofs.writing.Writing.grant.Goals as goal
 
 pub returns : goal.returns

@@ -1,6 +1,6 @@
 use Rattle.std.proofs.Common.{◌∙◌, refl, sym}
 use Rattle.writerloop.proofs.CallSteps.{keys-lanes}
-use Rattle.writerloop.proofs.WrittenSteps.{leads-looked}
+use Rattle.writerloop.proofs.WrittenInbox.{leads-looked}
 use Rattle.writerloop.proofs.writing.Writing.left_at.Goals as goal
 
 pub invariant_of-self : goal.invariant_of-self

@@ -1,5 +1,6 @@
 use Rattle.std.proofs.Common.{refl}
-use Rattle.writerloop.proofs.WrittenSteps.{same-aligned, stays-with}
+use Rattle.writerloop.proofs.WrittenSteps.{same-aligned}
+use Rattle.writerloop.proofs.WrittenInbox.{stays-with}
 use Rattle.writerloop.proofs.writing.Writing.look.Goals as goal
 
 pub returns-clause-rest : goal.returns-clause-rest

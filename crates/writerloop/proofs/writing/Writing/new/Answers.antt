@@ -1,6 +1,6 @@
 use Rattle.std.proofs.Common.{◌∙◌, ap, refl}
 use Rattle.lane.specs.Ring.{put_in, taken}
-use Rattle.writerloop.proofs.WrittenSteps.{led-new}
+use Rattle.writerloop.proofs.WrittenInbox.{led-new}
 use Rattle.writerloop.proofs.writing.Writing.new.Goals as goal
 
 pub returns-clause-led : goal.returns-clause-led

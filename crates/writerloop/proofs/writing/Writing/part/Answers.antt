@@ -1,7 +1,7 @@
 use Rattle.std.proofs.Common.{ap}
 use Rattle.lane.specs.Ring.{in_name, put_in}
 use Rattle.writerloop.specs.Sent.{numbers}
-use Rattle.writerloop.proofs.WrittenSteps.{parting-on}
+use Rattle.writerloop.proofs.WrittenFrames.{parting-on}
 use Rattle.writerloop.proofs.writing.Writing.part.Goals as goal
 
 pub returns-clause-parts : goal.returns-clause-parts

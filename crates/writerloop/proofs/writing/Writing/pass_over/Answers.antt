@@ -2,7 +2,8 @@ use Rattle.std.proofs.Common.{◌≡◌, refl, subst, sym}
 use Rattle.writerloop.specs.declared.steps.OrderStep.{OrderStep}
 use Rattle.writerloop.specs.declared.steps.OrderStep.TheVariants as took
 use Rattle.writerloop.specs.Written.{PassesOver}
-use Rattle.writerloop.proofs.WrittenSteps.{closes-other, passes-by, plain-other, sent-here}
+use Rattle.writerloop.proofs.WrittenSteps.{closes-other, plain-other, sent-here}
+use Rattle.writerloop.proofs.WrittenFrames.{passes-by}
 use Rattle.writerloop.proofs.writing.Writing.pass_over.Goals as goal
 
 one-early : took.One ≡ took.Early → ⊥

@@ -3,7 +3,8 @@ use Rattle.lane.specs.Ring.{in_name, put_in}
 use Rattle.lane.specs.RingLane.{got}
 use Rattle.writerloop.specs.Sent.{IsFirstOf, core_keys, keys, numbers}
 use Rattle.writerloop.proofs.CallSteps.{aligned-out, first-of, hands-of}
-use Rattle.writerloop.proofs.WrittenSteps.{goes-returned, returns-on, stays-by, stays-same}
+use Rattle.writerloop.proofs.WrittenFrames.{returns-on}
+use Rattle.writerloop.proofs.WrittenInbox.{goes-returned, stays-by, stays-same}
 use Rattle.writerloop.proofs.writing.Writing.release.Goals as goal
 
 pub invariant_of-self : goal.invariant_of-self

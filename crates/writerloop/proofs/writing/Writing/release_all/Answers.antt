@@ -1,4 +1,4 @@
-use Rattle.writerloop.proofs.WrittenSteps.{stays-here, stays-then}
+use Rattle.writerloop.proofs.WrittenInbox.{stays-here, stays-then}
 use Rattle.writerloop.proofs.writing.Writing.release_all.Goals as goal
 
 pub ended-init : goal.ended-init

@@ -1,4 +1,4 @@
-use Rattle.writerloop.proofs.WrittenSteps.{stays-here}
+use Rattle.writerloop.proofs.WrittenInbox.{stays-here}
 use Rattle.writerloop.proofs.writing.Writing.release_ended_at.Goals as goal
 
 pub returns-in-None : goal.returns-in-None

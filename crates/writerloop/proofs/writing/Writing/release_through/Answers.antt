@@ -1,7 +1,7 @@
 use Rattle.std.proofs.Common.{ap, refl}
 use Rattle.lane.specs.Ring.{in_name, put_in}
 use Rattle.writerloop.specs.Sent.{numbers}
-use Rattle.writerloop.proofs.WrittenSteps.{stays-here, stays-same, stays-then}
+use Rattle.writerloop.proofs.WrittenInbox.{stays-here, stays-same, stays-then}
 use Rattle.writerloop.proofs.writing.Writing.release_through.Goals as goal
 
 pub returns-then-not-are_some_through : goal.returns-then-not-are_some_through

@@ -1,7 +1,7 @@
 use Rattle.std.proofs.Common.{◌∙◌, ap}
 use Rattle.lane.specs.Ring.{in_name, put_in}
 use Rattle.writerloop.specs.Sent.{numbers}
-use Rattle.writerloop.proofs.WrittenSteps.{gave-last, leads-reset}
+use Rattle.writerloop.proofs.WrittenInbox.{gave-last, leads-reset}
 use Rattle.writerloop.proofs.writing.Writing.reset.Goals as goal
 
 pub returns-in_default-clause-leads : goal.returns-in_default-clause-leads

@@ -1,5 +1,5 @@
 use Rattle.std.proofs.Common.{◌∙◌, ap, rules}
-use Rattle.writerloop.proofs.WrittenSteps.{leads-then}
+use Rattle.writerloop.proofs.WrittenInbox.{leads-then}
 use Rattle.writerloop.proofs.writing.Writing.reset_left.Goals as goal
 
 pub calls-init : goal.calls-init

@@ -1,4 +1,4 @@
-use Rattle.writerloop.proofs.WrittenSteps.{leads-then}
+use Rattle.writerloop.proofs.WrittenInbox.{leads-then}
 use Rattle.writerloop.proofs.writing.Writing.reset_left_at.Goals as goal
 
 pub returns-clause-leads : goal.returns-clause-leads

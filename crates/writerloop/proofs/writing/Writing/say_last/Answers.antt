@@ -2,7 +2,9 @@ use Rattle.std.proofs.Common.{Bool, ap, refl, subst, true, true≢false}
 use Rattle.lane.specs.RingLane.{got}
 use Rattle.writerloop.specs.OwnOrders.{parting}
 use Rattle.writerloop.specs.Wrote.{WritesOn}
-use Rattle.writerloop.proofs.WrittenSteps.{goes-none, parts-on, stays-by, still-on}
+use Rattle.writerloop.proofs.WrittenSteps.{goes-none}
+use Rattle.writerloop.proofs.WrittenFrames.{parts-on, still-on}
+use Rattle.writerloop.proofs.WrittenInbox.{stays-by}
 use Rattle.writerloop.proofs.writing.Writing.say_last.Goals as goal
 
 pub returns-then-part : goal.returns-then-part

@@ -11,7 +11,8 @@ use Rattle.writerloop.specs.Sent.{numbers}
 use Rattle.writerloop.specs.Written.{Heeds, Takes}
 use Rattle.writerloop.specs.Wrote.{WritesOn}
 use Rattle.writerloop.specs.declared.order_outcome.OrderOutcome.TheVariants.{Done, Ended}
-use Rattle.writerloop.proofs.WrittenSteps.{ended-by, ends-by, given-on, takes-from}
+use Rattle.writerloop.proofs.WrittenSteps.{ended-by, ends-by}
+use Rattle.writerloop.proofs.WrittenFrames.{given-on, takes-from}
 use Rattle.writerloop.proofs.writing.Writing.take.Goals as goal
 use Rattle.writerloop.proofs.writing.Writing.take.Goals.{
   in-Done,

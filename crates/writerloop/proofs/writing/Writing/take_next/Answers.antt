@@ -4,16 +4,8 @@ use Rattle.outwriter.specs.declared.control.WriterOrder.TheVariants.{Open}
 use Rattle.outwriter.specs.Steps.{order_of}
 use Rattle.writerloop.specs.Orders.{Gives, closes, ends_input}
 use Rattle.writerloop.specs.Sent.{numbers}
-use Rattle.writerloop.proofs.WrittenSteps.{
-  begins-from,
-  leads-begun,
-  leads-none,
-  leads-over,
-  leads-taken,
-  parts-from,
-  passes-from,
-  takes-from,
-}
+use Rattle.writerloop.proofs.WrittenFrames.{begins-from, parts-from, passes-from, takes-from}
+use Rattle.writerloop.proofs.WrittenInbox.{leads-begun, leads-none, leads-over, leads-taken}
 use Rattle.writerloop.proofs.writing.Writing.take_next.Goals as goal
 
 pub returns-in_default-clause-leads : goal.returns-in_default-clause-leads

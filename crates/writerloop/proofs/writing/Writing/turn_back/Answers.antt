@@ -1,6 +1,6 @@
 use Rattle.std.proofs.Common.{ap, refl}
 use Rattle.writerloop.specs.Sent.{numbers}
-use Rattle.writerloop.proofs.WrittenSteps.{passes-open}
+use Rattle.writerloop.proofs.WrittenFrames.{passes-open}
 use Rattle.writerloop.proofs.writing.Writing.turn_back.Goals as goal
 
 pub returns-in-Ok-clause-passes : goal.returns-in-Ok-clause-passes

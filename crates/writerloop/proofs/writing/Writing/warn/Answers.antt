@@ -1,4 +1,4 @@
-use Rattle.writerloop.proofs.WrittenSteps.{leads-here, leads-then}
+use Rattle.writerloop.proofs.WrittenInbox.{leads-here, leads-then}
 use Rattle.writerloop.proofs.writing.Writing.warn.Goals as goal
 
 pub returns-then-not-self : goal.returns-then-not-self

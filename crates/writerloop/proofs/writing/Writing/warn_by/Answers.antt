@@ -1,7 +1,8 @@
 use Rattle.std.proofs.Common.{ap}
 use Rattle.lane.specs.Ring.{in_name, put_in}
 use Rattle.writerloop.specs.Sent.{numbers}
-use Rattle.writerloop.proofs.WrittenSteps.{leads-warning, mild}
+use Rattle.writerloop.proofs.WrittenSteps.{mild}
+use Rattle.writerloop.proofs.WrittenInbox.{leads-warning}
 use Rattle.writerloop.proofs.writing.Writing.warn_by.Goals as goal
 
 pub give-taking-requires : goal.give-taking-requires

@@ -1,5 +1,5 @@
 use Rattle.std.proofs.Common.{inl, refl}
-use Rattle.writerloop.proofs.WrittenSteps.{leads-here}
+use Rattle.writerloop.proofs.WrittenInbox.{leads-here}
 use Rattle.writerloop.proofs.writing.Writing.warn_by_goaway.Goals as goal
 
 pub warn_by-requires-clause-warns : goal.warn_by-requires-clause-warns
