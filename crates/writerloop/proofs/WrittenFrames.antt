@@ -109,6 +109,7 @@ use Rattle.writerloop.proofs.SentSteps.{
   on-taken,
 }
 use Rattle.writerloop.proofs.WrittenSteps.{
+  SameSent,
   memory-going,
   broken-going,
   plain-opens,

@@ -95,6 +95,8 @@ use Rattle.writerloop.proofs.CreditSteps.{granted-as}
 use Rattle.writerloop.proofs.OrderSteps.{all-given, given-next, obeys-lost}
 use Rattle.writerloop.proofs.SentSteps.{has-none, has-returned, on-same}
 use Rattle.writerloop.proofs.WrittenSteps.{
+  SameSent,
+  SameKnown,
   aside-given,
   GoesOn,
   goes-by,
