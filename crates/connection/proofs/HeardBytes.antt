@@ -95,7 +95,6 @@ use Rattle.connection.proofs.Heard.{
 
 module _ {A B C J M N : Type 0} {book : Naming J} {route : Ghosts N}
     {known : ℕ → List (List ℕ) → Bool → Answer → Type 0} {names : List ℕ → ℕ → Type 0} where
-
   -- steps of which no event tells came behind
   pub kept-behind : (sent : List SentItems) (tally : Tally) (told : List Step)
       (one two : Reading J M book) (old new : Orders A B C J N book route)
