@@ -26,6 +26,15 @@ def frame(kind, flags, stream, content=b""):
     return struct.pack(">I", len(content))[1:] + bytes([kind, flags]) + struct.pack(">I", stream) + content
 
 
+def ends_stream(kind, flags, *_):
+    """Whether a frame ends its stream by END_STREAM."""
+    return kind in (DATA, HEADERS) and bool(flags & END_STREAM)
+
+
+def is_ping_answer(kind, flags, *_):
+    return kind == PING and bool(flags & ACK)
+
+
 def settings(*pairs):
     return frame(SETTINGS, 0, 0, b"".join(struct.pack(">HI", *pair) for pair in pairs))
 
