@@ -1,7 +1,6 @@
 """Attempts of checks/hangs: how a connection ends: by its input, a TCP reset, or an error."""
 import os
 import random
-import socket
 import struct
 import subprocess
 import tempfile

@@ -8,7 +8,7 @@ from concurrent.futures import ThreadPoolExecutor
 
 import refusing
 import wire
-from common import BEGIN, EMPTY_CALL, FAILING, LIMIT, SLOWER, WIDE, ended, served
+from common import BEGIN, EMPTY_CALL, FAILING, LIMIT, SLOWER, WIDE, served
 from wants import want
 
 
