@@ -9,6 +9,8 @@ import sys
 import threading
 import time
 
+import packages
+
 PREFACE = b"PRI * HTTP/2.0\r\n\r\nSM\r\n\r\n"
 DATA, HEADERS, PRIORITY, RST_STREAM, SETTINGS, PUSH_PROMISE, PING, GOAWAY, WINDOW_UPDATE, CONTINUATION = range(10)
 ACK = END_STREAM = 1
@@ -24,6 +26,15 @@ SERVICE = "/grpc.testing.TestService/"
 
 def frame(kind, flags, stream, content=b""):
     return struct.pack(">I", len(content))[1:] + bytes([kind, flags]) + struct.pack(">I", stream) + content
+
+
+def ends_stream(kind, flags, *_):
+    """Whether a frame ends its stream by END_STREAM."""
+    return kind in (DATA, HEADERS) and bool(flags & END_STREAM)
+
+
+def is_ping_answer(kind, flags, *_):
+    return kind == PING and bool(flags & ACK)
 
 
 def settings(*pairs):
@@ -298,7 +309,5 @@ def has_hpack():
     try:
         import hpack  # noqa: F401
     except ImportError:
-        quiet = {"stdout": subprocess.DEVNULL, "stderr": subprocess.DEVNULL, "check": False}
-        install = "timeout 60 apt-get update -qq && DEBIAN_FRONTEND=noninteractive timeout 240 apt-get install -y -qq python3-hpack"
-        return subprocess.run(["sh", "-c", install], **quiet).returncode == 0
+        return packages.install("python3-hpack")
     return True
