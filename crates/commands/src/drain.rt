@@ -14,12 +14,13 @@ ghost use Rattle.commands.specs.declared.drain.Goaway.{Goaway as Seen};
 ghost use Rattle.results.specs.declared.outcome.Outcome.{Outcome};
 ghost use Rattle.trials.specs.Verdicts.{verdict_of};
 
+use crate::frames::PassingFrames;
 use crate::port::{Service, serve_apart};
 use crate::stopping::Stop;
 use crate::witness::Witnesses;
 use cases::{CaseFault, Failure, Limit, ReportFault, TimedConn, Windows, print_line};
 use device::{ConnWrite, write_all};
-use h2frame::{Frame, FrameKind, FrameReader, StreamId};
+use h2frame::{Frame, FrameKind, StreamId};
 use handlers::Methods;
 use results::Suite;
 use std::alloc::{AllocError, Global};
@@ -57,7 +58,7 @@ struct WatchedClient<R> {
     rt: R,
     stream: TcpStream,
     stop: Arc<Stop>,
-    frames: FrameReader,
+    frames: PassingFrames,
     goaways: Vec<Goaway>,
     has_stopped: bool,
 }
@@ -115,7 +116,7 @@ fn run_client<R: Wait + Clock + Eprint + Copy + Drop>(
         rt,
         stream,
         stop,
-        frames: FrameReader::new(alloc),
+        frames: PassingFrames::new(alloc),
         goaways: Vec::new(alloc),
         has_stopped: false,
     };
@@ -205,17 +206,11 @@ fn push_goaway(text: &mut Vec<u8>, goaway: Goaway) -> Result<(), AllocError>
 }
 
 impl<R: Wait> WatchedClient<R> {
-    /// Looks at what was read. After bytes that are no frames it sees nothing more: the case itself
-    /// judges them.
+    /// Looks at what was read. The case itself judges it.
     fn look(&mut self, bytes: &[u8]) -> Result<(), AllocError> {
-        if self.frames.feed(bytes).is_err() {
-            return Ok(());
-        }
-        for _ in 0..u64::MAX {
-            match self.frames.next() {
-                Some(Ok(frame)) => self.see(&frame)?,
-                Some(Err(_)) | None => return Ok(()),
-            }
+        let frames = self.frames.completed_by(bytes)?;
+        for frame in frames.as_slice() {
+            self.see(frame)?;
         }
         Ok(())
     }

@@ -16,10 +16,12 @@
 //! - `report`: the lines for messages, the end and faults.
 //! - `memory` and `streams`: a connection over memory, and what was written on it, stream by
 //!   stream.
+//! - `frames`: the frames of bytes that pass.
 #![tactic(auto)]
 
 mod body;
 mod drain;
+mod frames;
 mod listening;
 mod log;
 mod memory;

@@ -3,7 +3,8 @@
 //! A client that keeps to its windows waits for a WINDOW_UPDATE before it sends more DATA. So DATA
 //! are held back here until the server has written the credit that they need.
 
-use h2frame::{Frame, FrameKind, FrameReader, StreamId};
+use crate::frames::PassingFrames;
+use h2frame::{Frame, FrameKind, StreamId};
 use std::alloc::{AllocError, Global};
 use std::io::{Read, Write};
 use std::sync::{Arc, Mutex, Wait};
@@ -38,7 +39,7 @@ pub struct Memory {
 #[derive(Drop)]
 struct WrittenOutput {
     bytes: Vec<u8>,
-    frames: FrameReader,
+    frames: PassingFrames,
     /// What its WINDOW_UPDATEs add, on the connection (stream 0) and on each stream.
     credits: Vec<Amount>,
 }
@@ -64,7 +65,7 @@ impl Memory {
         let memory = Memory {
             written: Mutex::new(WrittenOutput {
                 bytes: Vec::new(alloc),
-                frames: FrameReader::new(alloc),
+                frames: PassingFrames::new(alloc),
                 credits: Vec::new(alloc),
             }),
         };
@@ -94,16 +95,11 @@ impl Memory {
 }
 
 impl WrittenOutput {
-    /// Looks at what is written. After bytes that are no frames it sees nothing more.
+    /// Looks at what is written.
     fn look(&mut self, bytes: &[u8]) -> Result<(), AllocError> {
-        if self.frames.feed(bytes).is_err() {
-            return Ok(());
-        }
-        for _ in 0..u64::MAX {
-            match self.frames.next() {
-                Some(Ok(frame)) => self.see(&frame)?,
-                Some(Err(_)) | None => return Ok(()),
-            }
+        let frames = self.frames.completed_by(bytes)?;
+        for frame in frames.as_slice() {
+            self.see(frame)?;
         }
         Ok(())
     }

@@ -25,12 +25,12 @@ use Rattle.words.specs.Options.{
   by_default,
   flag,
   has_flag,
+  host_option,
   number_of,
   number_option,
   several,
   some_texts_of,
   text_of,
-  text_option,
 }
 use Rattle.words.specs.Reporting as reporting
 use Rattle.words.specs.Reporting.{with_reporting}
@@ -40,10 +40,7 @@ use Rattle.words.specs.declared.misbehave.MisbehaveRun.{MisbehaveRun}
 use Rattle.words.specs.declared.misbehave.MisbehaveWords.{MisbehaveWords}
 use Rattle.words.specs.declared.misbehave.MisbehaveWords.TheVariants as words
 
--- P and S are 1 to 65,535; H is 127.0.0.1 and S is 30 if they are not given
-abbrev pub host_option : Rule
-host_option = by_default (codes "127.0.0.1") (text_option (codes "host"))
-
+-- P and S are 1 to 65,535; S is 30 if it is not given
 abbrev pub seconds_option : Rule
 seconds_option = by_default (codes "30") (number_option (codes "timeout") 65535)
 

@@ -52,6 +52,10 @@ flag name = record (new_rule name) { long = Some name; action = Some SetTrue }
 abbrev pub by_default : Text → Rule → Rule
 by_default text option = record option { defaults = text ∷ [] }
 
+-- `--host H`, where H is 127.0.0.1 if it is not given
+abbrev pub host_option : Rule
+host_option = by_default (codes "127.0.0.1") (text_option (codes "host"))
+
 -- an option that has to be given
 abbrev pub needed : Rule → Rule
 needed option = record option { required = true }

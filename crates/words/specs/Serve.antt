@@ -27,6 +27,7 @@ use Rattle.words.specs.Options.{
   by_default,
   flag,
   has_flag,
+  host_option,
   number_of,
   number_option,
   text_of,
@@ -41,10 +42,6 @@ use Rattle.words.specs.declared.serve.TimeForm.TheVariants.{Seconds, Utc}
 use Rattle.words.specs.declared.serve.Port.{Port}
 use Rattle.words.specs.declared.serve.Port.TheVariants.{Any, Number}
 use Rattle.words.specs.declared.serve.ServeWords.{ServeWords}
-
--- H is 127.0.0.1 if it is not given
-abbrev pub host_option : Rule
-host_option = by_default (codes "127.0.0.1") (text_option (codes "host"))
 
 -- `--log` alone is `--log text`
 abbrev pub log_option : Rule

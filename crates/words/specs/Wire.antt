@@ -21,12 +21,12 @@ use Rattle.words.specs.Options.{
   by_default,
   flag,
   has_flag,
+  host_option,
   number_of,
   number_option,
   several,
   some_texts_of,
   text_of,
-  text_option,
 }
 use Rattle.words.specs.Reporting as reporting
 use Rattle.words.specs.Reporting.{with_reporting}
@@ -36,11 +36,7 @@ use Rattle.words.specs.declared.wire.WireRun.{WireRun}
 use Rattle.words.specs.declared.wire.WireWords.{WireWords}
 use Rattle.words.specs.declared.wire.WireWords.TheVariants as wire_words
 
--- P, S, T and N are 1 to 65,535; H is 127.0.0.1, S is 1,000, T is 10 and N is 8 if they are not
--- given
-abbrev pub host_option : Rule
-host_option = by_default (codes "127.0.0.1") (text_option (codes "host"))
-
+-- P, S, T and N are 1 to 65,535; S is 1,000, T is 10 and N is 8 if they are not given
 abbrev pub silence_option : Rule
 silence_option = by_default (codes "1000") (number_option (codes "silence") 65535)
 

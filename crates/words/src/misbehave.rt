@@ -6,7 +6,6 @@ ghost use Rattle.clap.specs.Words.{app_of, found_of, rows_of};
 ghost use Rattle.words.specs.Misbehave.{
   IsPlayable,
   IsRun,
-  host_option,
   misbehave_command,
   misbehaving,
   misbehaving_of,
@@ -19,8 +18,7 @@ ghost use Rattle.words.specs.Reporting.{reporting as reporting_told};
 
 use crate::files::{Files, files_of, with_files};
 use crate::options::{
-    LOOPBACK, flag, has_flag, number_option, several, small_number_of, some_texts_of, text_of,
-    text_option,
+    flag, has_flag, host_option, number_option, several, small_number_of, some_texts_of, text_of,
 };
 use crate::reporting::{Reporting, reporting_of, with_reporting};
 use crate::tracing::{Tracing, tracing_of, with_tracing};
@@ -58,13 +56,6 @@ pub enum MisbehaveWords<'a> {
 /// The words that it takes.
 pub(crate) const TAKES: &str =
     "NAME.., --port P, --host H, --timeout S, --port-file FILE, --ready-file FILE, or --list, --verbose";
-
-// `--host H`.
-fn host_option<'a>(alloc: Global) -> Arg<'a>
-    ensures { IsOption host_option result }
-{
-    text_option(alloc, "host", "an address, or a host's name").default_value(LOOPBACK)
-}
 
 // `--timeout S`.
 fn seconds_option<'a>(alloc: Global) -> Arg<'a>

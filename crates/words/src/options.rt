@@ -11,6 +11,7 @@ ghost use Rattle.words.specs.Options.{
   amount_option,
   flag,
   has_flag,
+  host_option,
   number_of,
   number_option,
   several,
@@ -66,6 +67,13 @@ pub(crate) fn text_option<'a>(alloc: Global, name: &'a str, right: &'a str) -> A
         .long(name)
         .value_parser(ValueParser::NonEmptyString)
         .help(right)
+}
+
+// `--host H`.
+pub(crate) fn host_option<'a>(alloc: Global) -> Arg<'a>
+    ensures { IsOption host_option result }
+{
+    text_option(alloc, "host", "an address, or a host's name").default_value(LOOPBACK)
 }
 
 // `--NAME`.

@@ -9,7 +9,6 @@ ghost use Rattle.words.specs.Serve.{
   IsPort,
   IsServing,
   form_of,
-  host_option,
   log_of,
   log_option,
   patience_option,
@@ -24,7 +23,7 @@ ghost use Rattle.words.specs.Serve.{
 
 use crate::files::{Files, files_of, with_files};
 use crate::options::{
-    LOOPBACK, flag, has_flag, number_option, small_number_of, text_of, text_option,
+    flag, has_flag, host_option, number_option, small_number_of, text_of, text_option,
 };
 use crate::tracing::{Tracing, tracing_of, with_tracing};
 use clap::{Arg, ArgMatches, Command};
@@ -85,13 +84,6 @@ pub struct ServeWords<'a> {
 pub(crate) const TAKES: &str = "--port P or --any-port, --host H, --conns N, --report, \
     --log [text|json], --time seconds|utc, --drain-on-eof, --drain-timeout S, --port-file FILE, \
     --ready-file FILE, --record DIR";
-
-// `--host H`.
-fn host_option<'a>(alloc: Global) -> Arg<'a>
-    ensures { IsOption host_option result }
-{
-    text_option(alloc, "host", "an address, or a host's name").default_value(LOOPBACK)
-}
 
 // `--log`, also `--log text` and `--log json`.
 fn log_option<'a>(alloc: Global) -> Arg<'a>

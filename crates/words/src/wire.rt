@@ -8,7 +8,6 @@ ghost use Rattle.words.specs.Reporting.{reporting as reporting_told};
 ghost use Rattle.words.specs.Wire.{
   IsInRange,
   IsRun,
-  host_option,
   jobs_option,
   limit_option,
   run_of,
@@ -18,8 +17,7 @@ ghost use Rattle.words.specs.Wire.{
 ghost use Rattle.words.specs.Wire.{told, told_of, wire_command};
 
 use crate::options::{
-    LOOPBACK, flag, has_flag, number_option, several, small_number_of, some_texts_of, text_of,
-    text_option,
+    flag, has_flag, host_option, number_option, several, small_number_of, some_texts_of, text_of,
 };
 use crate::reporting::{Reporting, reporting_of, with_reporting};
 use crate::tracing::{Tracing, tracing_of, with_tracing};
@@ -58,13 +56,6 @@ pub enum WireWords<'a> {
 pub(crate) const TAKES: &str =
     "all, GROUP, GROUP/N or GROUP/N-M .., --port P, --host H, --silence S, --timeout T, --jobs N, \
      --verbose, or --list";
-
-// `--host H`.
-fn host_option<'a>(alloc: Global) -> Arg<'a>
-    ensures { IsOption host_option result }
-{
-    text_option(alloc, "host", "an address, or a host's name").default_value(LOOPBACK)
-}
 
 // `--silence S`.
 fn silence_option<'a>(alloc: Global) -> Arg<'a>
