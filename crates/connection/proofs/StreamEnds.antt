@@ -194,14 +194,19 @@ unfinished-ends [] block is ended = none-block block is
 unfinished-ends (Taken one ∷ before) block is ended = unfinished-ends before block is ended
 unfinished-ends (Granted id n ∷ before) block is ended = unfinished-ends before block is ended
 unfinished-ends (Returned id items ∷ before) block is ended = unfinished-ends before block is ended
-unfinished-ends (Written frame ∷ before) block is ended = by (ends_block frame) refl
+unfinished-ends (Written frame ∷ before) block is ended =
+    by (unfinished-ends before) (ends_block frame) refl
   where
-    by : (whole : Bool) → ends_block frame ≡ whole
+    by : EndsBegun before → (whole : Bool) → ends_block frame ≡ whole
         → list_any (ends block.stream) (frame ∷ frames_of before) ≡ true
-    by true found = none-block block (sym (ap (λ (b : Bool). if b then None else fragments frame (unfinished before)) found) ∙ is)
-    by false found =
-        block-ends before frame block (unfinished-ends before)
-        (sym (ap (λ (b : Bool). if b then None else fragments frame (unfinished before)) found) ∙ is) ended
+    by was true found =
+        none-block block
+        (sym (ap (λ (b : Bool). if b then None else fragments frame (unfinished before)) found)
+        ∙ is)
+    by was false found =
+        block-ends before frame block was
+        (sym (ap (λ (b : Bool). if b then None else fragments frame (unfinished before)) found)
+        ∙ is) ended
 
 completed-ends : (before : List Step) (frame : Frame) (block : Fragments)
     → completed before frame ≡ Some block → block.ends_it ≡ true
@@ -342,41 +347,48 @@ reset-taken id (Taken one ∷ before) lawful is =
 reset-taken id (Granted stream n ∷ before) lawful is = reset-taken id before lawful is
 reset-taken id (Returned stream items ∷ before) lawful is = reset-taken id before lawful is
 reset-taken id (Written frame ∷ before) lawful is =
-    by (either (resets id frame) (list_any (resets id) (frames_of before)) is)
+    by (λ was. reset-taken id before lawful.2 was)
+    (either (resets id frame) (list_any (resets id) (frames_of before)) is)
   where
-    by : (resets id frame ≡ true) ⊎ (list_any (resets id) (frames_of before) ≡ true)
+    by : (list_any (resets id) (frames_of before) ≡ true → was_reset id before ≡ true)
+        → (resets id frame ≡ true) ⊎ (list_any (resets id) (frames_of before) ≡ true)
         → was_reset id before ≡ true
-    by (inl here) =
+    by earlier (inl here) =
         let parts = each-of (is_reset frame.head.kind) (id == frame.head.stream) here in
         let asked = lawful.1.asked (reset-kind frame.head.kind parts.0) in
         subst (λ (n : ℕ). was_reset n before ≡ true)
         (sym (eqb-true id frame.head.stream parts.1))
         (asked-reset frame.head.stream asked.0 before asked.1)
-    by (inr was) = reset-taken id before lawful.2 was
+    by earlier (inr was) = earlier was
 
 any-split : (id : ℕ) (frames : List Frame)
     → list_any (λ frame. resets id frame || ends id frame) frames ≡ true
     → (list_any (ends id) frames ≡ true) ⊎ (list_any (resets id) frames ≡ true)
 any-split id [] is = absurd (true≢false (sym is))
 any-split id (frame ∷ frames) is =
-    first (either (resets id frame || ends id frame)
+    first (λ other. any-split id frames other) (either (resets id frame || ends id frame)
     (list_any (λ (f : Frame). resets id f || ends id f) frames) is)
   where
-    rest : (list_any (ends id) frames ≡ true) ⊎ (list_any (resets id) frames ≡ true) → (list_any (ends id) (frame ∷ frames) ≡ true)
+    rest : (list_any (ends id) frames ≡ true) ⊎ (list_any (resets id) frames ≡ true)
+        → (list_any (ends id) (frame ∷ frames) ≡ true)
         ⊎ (list_any (resets id) (frame ∷ frames) ≡ true)
     rest (inl ended) = inl (or-right (ends id frame) (list_any (ends id) frames) ended)
     rest (inr was) = inr (or-right (resets id frame) (list_any (resets id) frames) was)
 
-    here : (resets id frame ≡ true) ⊎ (ends id frame ≡ true) → (list_any (ends id) (frame ∷ frames) ≡ true)
+    here : (resets id frame ≡ true) ⊎ (ends id frame ≡ true)
+        → (list_any (ends id) (frame ∷ frames) ≡ true)
         ⊎ (list_any (resets id) (frame ∷ frames) ≡ true)
     here (inl was) = inr (or-left (resets id frame) (list_any (resets id) frames) was)
     here (inr ended) = inl (or-left (ends id frame) (list_any (ends id) frames) ended)
 
-    first : ((resets id frame || ends id frame) ≡ true)
-        ⊎ (list_any (λ (f : Frame). resets id f || ends id f) frames ≡ true) → (list_any (ends id) (frame ∷ frames) ≡ true)
+    first : (list_any (λ (f : Frame). resets id f || ends id f) frames ≡ true
+        → (list_any (ends id) frames ≡ true) ⊎ (list_any (resets id) frames ≡ true))
+        → ((resets id frame || ends id frame) ≡ true)
+        ⊎ (list_any (λ (f : Frame). resets id f || ends id f) frames ≡ true)
+        → (list_any (ends id) (frame ∷ frames) ≡ true)
         ⊎ (list_any (resets id) (frame ∷ frames) ≡ true)
-    first (inl one) = here (either (resets id frame) (ends id frame) one)
-    first (inr other) = rest (any-split id frames other)
+    first later (inl one) = here (either (resets id frame) (ends id frame) one)
+    first later (inr other) = rest (later other)
 
 -- ---- how it ended
 
@@ -414,8 +426,8 @@ pub open-windows : (run : List Step) (id : ℕ) (items : List OutItem) → Strea
     → (list_any (ends id) (frames_of run) ≡ true)
     ⊎ ((was_reset id run ≡ true)
     ⊎ ((has_trailers items ≡ false) × HasAllBut [] run id items))
-open-windows run id items (WasEnded ended) open = inl ended
-open-windows run id items (WasReset was) open = inr (inl was)
-open-windows run id items (WasHeldBack none shut) open =
-    absurd (omega (arith, open shut.0 shut.1, shut.2))
-open-windows run id items (WasLeftOpen none has) open = inr (inr (none, has))
+open-windows run id items (WasEnded ended) flows = inl ended
+open-windows run id items (WasReset was) flows = inr (inl was)
+open-windows run id items (WasHeldBack none shut) flows =
+    absurd (omega (arith, flows shut.0 shut.1, shut.2))
+open-windows run id items (WasLeftOpen none has) flows = inr (inr (none, has))

@@ -1,4 +1,4 @@
-use Rattle.std.proofs.Common.{append-nil, ◌∙◌, sym, refl}
+use Rattle.std.proofs.Common.{◌∙◌, append-nil, false, sym}
 use Rattle.std.proofs.lemmas.List.{append_assoc}
 use Rattle.std.specs.Prelude.{[], ◌∷◌, ◌++◌}
 use Rattle.outwriter.specs.declared.control.WriterOrder.TheVariants.{Close, InputEnded}
