@@ -12,7 +12,7 @@ returns g c = λ end came told put run given heard are is obeys lawful out accou
     call-ended g.M.Answering.known g.M.Answering.names end came told put run given heard are
     (record {
       front = orders_by told ++ InputEnded ∷ [];
-      begins = ([], sym (append-nil (orders_by told ++ InputEnded ∷ [])));
+      begins = ([], append-nil (orders_by told ++ InputEnded ∷ []));
       closed = is ∙ sym (append_assoc (orders_by told) (InputEnded ∷ []) (Close ∷ []));
     })
     (obeys-lost false put run obeys) (InputEnded ∷ Close ∷ []) is obeys.0 lawful out account settled
