@@ -2,7 +2,10 @@
 use Rattle.std.proofs.Common.{
   ◌≡◌,
   ◌≢◌,
+  ◌⊎◌,
   ◌∙◌,
+  inl,
+  inr,
   ◌++◌,
   ◌∷◌,
   ◌≤◌,
@@ -37,6 +40,8 @@ use Rattle.callparts.specs.declared.report.Ending.TheVariants.{OutOfMemory, Read
 use Rattle.handlers.specs.declared.step.MethodStep.{MethodStep as Answer}
 use Rattle.lane.specs.Ring.{put_in, taken}
 use Rattle.outwriter.specs.Drains.{has_failed}
+use Rattle.outwriter.specs.Runs.{IsLawful}
+use Rattle.outwriter.proofs.Drained.{none-is-last}
 use Rattle.outwriter.specs.Steps.{Order, order_of}
 use Rattle.outwriter.specs.Steps.{Step as RunStep}
 use Rattle.outwriter.specs.declared.control.WriterOrder.{WriterOrder}
@@ -51,7 +56,10 @@ use Rattle.readerloop.specs.Reports.{AreAccounts, is_heard_out}
 use Rattle.readerloop.specs.Steps.{Step, events_of, reported}
 use Rattle.writerloop.specs.declared.senders.Senders.{Senders}
 use Rattle.readerloop.proofs.Resets.{calm-more}
+use Rattle.writerloop.specs.Done.{HasFailed, IsDone}
 use Rattle.writerloop.specs.Orders.{Obeys, orders_of, order_in}
+use Rattle.writerloop.specs.Rest.{rest_calls}
+use Rattle.writerloop.specs.Sent.{handed_calls}
 use Rattle.writerloop.specs.Written.{HasSent, HasWritten, IsOver}
 use Rattle.writerloop.proofs.EndSteps.{told-on}
 use Rattle.writerloop.proofs.OrderSteps.{obeys-more}
@@ -111,6 +119,13 @@ none-over : (told : List Step) (front dropped : List Order) (given left : List O
     → Obeys false given run → IsOver run → left ≡ []
 none-over told front dropped given left run parts put obeys over =
     none-left told front dropped given left parts put (took-close given run obeys.0 over.closed)
+
+-- without an error the connection wasn't cut short
+not-cut : {B : Type 0} (run : List RunStep) → IsLawful run → has_failed run ≡ false
+    → HasFailed run ⊎ B → B
+not-cut run lawful clean (inl failed) =
+    absurd (true≢false (sym failed ∙ none-is-last run lawful clean))
+not-cut run lawful clean (inr other) = other
 
 module _ {A B C J M N V W : Type 0} {book : Naming J} {route : Ghosts N}
     (known : ℕ → List (List ℕ) → Bool → Answer → Type 0) (names : List ℕ → ℕ → Type 0)
@@ -204,7 +219,8 @@ module _ {A B C J M N V W : Type 0} {book : Naming J} {route : Ghosts N}
       let steps = ended.0 ++ told in
       let rising = ended.1.reads.calls.rising in
       let shut = ended.1.ordered has.ordered in
-      let tells = sent.told (took-apart steps rising orders shut took front) in
+      let apart = took-apart steps rising orders shut took front in
+      let tells = sent.told apart in
       let aside =
       rest-carried rest sent.senders.handed orders.unput sent.given took sent.orders_are
       sent.senders.all owns in
@@ -226,11 +242,9 @@ module _ {A B C J M N V W : Type 0} {book : Naming J} {route : Ghosts N}
       ∙ (ap (λ os. orders_of os) shut.put
       ∙ map-append (λ one. order_of one) shut.front (control.Close ∷ [])))
       (sent.written.each lacks fails) (sent.written.over lacks fails)) in
-      let clean : is_drained ending ≡ true → has_failed sent.written.run ≡ false =
-      λ drained.
-      (let out : is_heard_out ending ≡ true =
-      ap (λ (e : Ending). is_heard_out e) (drained-is ending drained) in
-      let spared = heard-spared ending out in
+      let clean : is_heard_out ending ≡ true → has_failed sent.written.run ≡ false =
+      λ out.
+      (let spared = heard-spared ending out in
       let lacks : written ≢ Some OutOfMemory = λ lacked. spared.0 (ap Some (is.memory lacked)) in
       let fails : written ≢ Some WriteFailed = λ failing.
       spared.1 (ap Some (is.broken failing (λ lacked. spared.0 (ap Some lacked)))) in
@@ -244,6 +258,14 @@ module _ {A B C J M N V W : Type 0} {book : Naming J} {route : Ghosts N}
       none-failed steps given sent.written.run (calm-more ended.0 told ended.1.calm
       (has.calm (ap (λ (e : Ending). is_heard_out e) (sym (is.input out)) ∙ out)))
       (took-all ∙ whole) (sent.written.each lacks fails).0 (sent.unblamed (is.whole out))) in
+      let done : is_heard_out ending ≡ true
+      → All (IsDone sent.written.run) (rest_calls rest ++ handed_calls sent.senders.handed) =
+      λ out.
+      (let spared = heard-spared ending out in
+      not-cut sent.written.run sent.written.lawful (clean out)
+      (sent.done (λ lacked. spared.0 (ap Some (is.memory lacked)))
+      (λ failing. spared.1 (ap Some (is.broken failing (λ lacked. spared.0 (ap Some lacked)))))
+      apart)) in
       let put : HasWritten contents failed before amount (put_orders orders) (Some ending)
       (is_drained ending) device =
       told-on contents failed before amount given (put_orders orders) written (Some ending) false
@@ -251,7 +273,8 @@ module _ {A B C J M N V W : Type 0} {book : Naming J} {route : Ghosts N}
       (λ lacked. ap Some (is.memory lacked))
       (λ broke spared. ap Some (is.broken broke (λ lacked. spared (ap Some lacked))))
       (λ marked. is.marked (some-is marked))
-      left (sym all) none sent.written clean in
+      left (sym all) none sent.written
+      (λ drained. clean (ap (λ (e : Ending). is_heard_out e) (drained-is ending drained))) in
       let resets =
       resets-none steps (put_orders orders) given left
       (closed-put (orders_by steps ++ InputEnded ∷ []) orders shut) all
@@ -262,13 +285,14 @@ module _ {A B C J M N V W : Type 0} {book : Naming J} {route : Ghosts N}
       un-true (is_heard_out ending) (λ out.
       true≢false (sym (halted stopped (is.whole out))
       ∙ is.dropped (λ lacked. (heard-spared ending out).0 (ap Some lacked))))) within put
-      (accounts-more known names (carried_in gave) (CarriesWhatWasSent put.run) (carries-told steps
-      rising orders shut took front put.run rest sent.senders.handed (subst
+      (accounts-more known names (carried_in gave)
+      (CarriesWhatWasSent (is_heard_out ending) put.run) (carries-told steps
+      rising orders shut took front (is_heard_out ending) put.run rest sent.senders.handed (subst
       (λ (os : List Order). Obeys true os sent.written.run) (sym
       (ap (λ os. orders_of os) sent.orders_are
       ∙ map-append (λ one. order_of one) sent.given (order_in rest.aside)))
       (obeys-more given (orders_of (order_in rest.aside)) sent.written.run sent.written.some))
-      tells) steps (reported steps) (items calls) accounts)
+      tells done) steps (reported steps) (items calls) accounts)
       (are-left steps rising orders shut took front known names put.run rest sent.given
       sent.orders_are sent.senders resets (reported steps) (items calls) accounts)
       (λ code failing.

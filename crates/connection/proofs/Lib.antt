@@ -12,6 +12,7 @@ pub mod Follow
 pub mod Founded
 pub mod RunOrders
 pub mod OpenedOnce
+pub mod StreamEnds
 pub mod Whole
 pub mod Left
 pub mod LeftCalls

@@ -609,6 +609,33 @@ served-among id orders run obeys is =
       many-opens id orders,
     ))
 
+opened-some : (id : ℕ) (run : List RunStep) → 1 ≤ many_taken (opens_stream id) run
+    → is_opened id run ≡ true
+opened-some id [] some = absurd (omega (arith, some))
+opened-some id (Taken order ∷ before) some = elim (cases_Bool (opens_stream id order)) [
+  | inl opens ↦ ap (λ (b : Bool). b || is_opened id before) opens
+  | inr other ↦
+      ap (λ (b : Bool). b || is_opened id before) other
+      ∙ opened-some id before (omega (arith, some, bit-false (opens_stream id order) other))
+]
+opened-some id (Granted stream n ∷ before) some = opened-some id before some
+opened-some id (Written frame ∷ before) some = opened-some id before some
+opened-some id (Returned stream items ∷ before) some = opened-some id before some
+
+-- where all orders are taken, each call that was admitted is opened
+pub admitted-opened : (id : ℕ) (told : List Step) (put rest : List Order) (run : List RunStep)
+    → put ≡ orders_by told ++ rest → HasTaken put run → is_admitted id told ≡ true
+    → is_opened id run ≡ true
+admitted-opened id told put rest run is took known =
+    opened-some id run (omega (
+      arith,
+      took-many (opens_stream id) (opens-none id) put run took,
+      ap (λ (os : List Order). many (opens_stream id) os) is,
+      many-append (opens_stream id) (orders_by told) rest,
+      many-admitted id told,
+      any-many id (admitted told) known,
+    ))
+
 -- ---- of what was heard
 
 module _ (end : Ending) (came : List ℕ) (told : List Step) (put : List Order) (run : List RunStep)

@@ -193,8 +193,8 @@ module _ (known : ℕ → List (List ℕ) → Bool → Answer → Type 0) (names
       → (written :
       HasWritten contents failed before granted (put_orders new) (Some ending)
       (is_drained ending) device)
-      → AreAccounts known names (CarriesWhatWasSent written.run) (cuts ++ told)
-      (reported (cuts ++ told)) (items calls)
+      → AreAccounts known names (CarriesWhatWasSent (is_heard_out ending) written.run)
+      (cuts ++ told) (reported (cuts ++ told)) (items calls)
       → AreLeft (left_in written.run) (items calls)
       → ((code : ErrorCode) → ending ≡ ProtocolError code
       → (read ≡ ProtocolError code) ⊎ ((code ≡ FlowControlError) × WouldOverflow 0 written.run))
@@ -334,7 +334,7 @@ module _ (known : ℕ → List (List ℕ) → Bool → Answer → Type 0) (names
         written = written;
         credit =
             told-within contents failed before granted put (Some ending) device 0 written within;
-        rows = none-accounts (CarriesWhatWasSent written.run) calls none;
+        rows = none-accounts (CarriesWhatWasSent (is_heard_out ending) written.run) calls none;
         left =
             subst (λ (accounts : List CallAccount). AreLeft (left_in written.run) accounts)
             (sym none) (All-nil (λ (account : CallAccount).

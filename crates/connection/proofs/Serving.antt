@@ -98,6 +98,7 @@ use Rattle.outwriter.specs.declared.control.WriterOrder.TheVariants.{
   InputEnded,
   Close,
 }
+use Rattle.outwriter.specs.Calls.{is_served}
 use Rattle.outwriter.specs.Cores.{calls}
 use Rattle.outwriter.specs.Steps.{Order, order_of}
 use Rattle.outwriter.specs.Steps.{Step as RunStep}
@@ -108,6 +109,7 @@ use Rattle.readerloop.specs.Reports.{AreAccounts, IsAccounted, IsSettled}
 use Rattle.readerloop.specs.Steps.{IsRising, Step, WasTold, admitted}
 use Rattle.writerloop.specs.declared.senders.Senders.{Senders}
 use Rattle.writerloop.specs.declared.sends.SendingCall.{SendingCall as SentCall}
+use Rattle.writerloop.specs.Done.{IsDone}
 use Rattle.writerloop.specs.Left.{left_by, left_in}
 use Rattle.writerloop.specs.Orders.{Obeys, order_in, orders_of}
 use Rattle.writerloop.specs.Rest.{rest_calls}
@@ -388,36 +390,52 @@ module _ {A B C J N : Type 0} {book : Naming J} {route : Ghosts N} (told : List 
       (λ (call : CallNumber J book × ℕ). call.1) (opens closed.dropped) _
       (opens-one closed.dropped id opening dropped)))
 
-  module _ (run : List RunStep) (rest : Senders J book) (handed : List (ℕ × ReturningCall J book))
-      (obeys : Obeys true (orders_of took) run)
-      (tells : All (IsTold run) (rest_calls rest ++ handed_calls handed)) where
-    unput-told : (unput : Option (WriterOrder (OpeningCall J book)))
-        → IfSome unput (Contains closed.dropped) → All (IsTold run) (unput_calls unput)
-    unput-told None kept = All-nil (IsTold run)
-    unput-told (Some (Open id opening)) kept =
-        All-cons (IsTold run) (id, got_of opening.sending.value.sender) [] (λ served.
-        absurd (dropped-apart id opening kept (served-among id (orders_of took) run obeys served)))
-        (All-nil (IsTold run))
-    unput-told (Some (Settings settings)) kept = All-nil (IsTold run)
-    unput-told (Some (Ping bytes)) kept = All-nil (IsTold run)
-    unput-told (Some (Probe bytes)) kept = All-nil (IsTold run)
-    unput-told (Some (Window id n)) kept = All-nil (IsTold run)
-    unput-told (Some (Refuse id fields)) kept = All-nil (IsTold run)
-    unput-told (Some (Reset id code written)) kept = All-nil (IsTold run)
-    unput-told (Some (Goaway last cause)) kept = All-nil (IsTold run)
-    unput-told (Some InputEnded) kept = All-nil (IsTold run)
-    unput-told (Some Close) kept = All-nil (IsTold run)
+  module _ (out : Bool) (run : List RunStep) (rest : Senders J book)
+      (handed : List (ℕ × ReturningCall J book)) (obeys : Obeys true (orders_of took) run)
+      (tells : All (IsTold run) (rest_calls rest ++ handed_calls handed))
+      (done : out ≡ true → All (IsDone run) (rest_calls rest ++ handed_calls handed)) where
+    abbrev Carries : ℕ × List OutItem → Type 0
+    Carries call = CarriesWhatWasSent out run call.0 call.1
 
-    -- what is carried so is what the frames tell
+    unserved : (id : ℕ) (items : List OutItem) → (is_served id run ≡ true → ⊥)
+        → Carries (id, items)
+    unserved id items never = record {
+      told = λ served. absurd (never served);
+      done = λ is served there. absurd (never served);
+    }
+
+    unput-told : (unput : Option (WriterOrder (OpeningCall J book)))
+        → IfSome unput (Contains closed.dropped) → All Carries (unput_calls unput)
+    unput-told None kept = All-nil Carries
+    unput-told (Some (Open id opening)) kept =
+        All-cons Carries (id, got_of opening.sending.value.sender) []
+        (unserved id (got_of opening.sending.value.sender) (λ served.
+        dropped-apart id opening kept (served-among id (orders_of took) run obeys served)))
+        (All-nil Carries)
+    unput-told (Some (Settings settings)) kept = All-nil Carries
+    unput-told (Some (Ping bytes)) kept = All-nil Carries
+    unput-told (Some (Probe bytes)) kept = All-nil Carries
+    unput-told (Some (Window id n)) kept = All-nil Carries
+    unput-told (Some (Refuse id fields)) kept = All-nil Carries
+    unput-told (Some (Reset id code written)) kept = All-nil Carries
+    unput-told (Some (Goaway last cause)) kept = All-nil Carries
+    unput-told (Some InputEnded) kept = All-nil Carries
+    unput-told (Some Close) kept = All-nil Carries
+
+    -- what is carried so is what the frames tell, and nothing more was to be written
     pub carries-told : (id : ℕ) (items : List OutItem)
-        → carried_in (all_sent rest handed orders.unput) id items → CarriesWhatWasSent run id items
+        → carried_in (all_sent rest handed orders.unput) id items
+        → CarriesWhatWasSent out run id items
     carries-told id items there =
-        All-contains (λ (one : SentItems). IsTold run (one.id, one.items))
+        All-contains (λ (one : SentItems). Carries (one.id, one.items))
         (all_sent rest handed orders.unput) (record { id = id; items = items })
-        (All-map (λ (one : SentItems). IsTold run (one.id, one.items)) as_sent
+        (All-map (λ (one : SentItems). Carries (one.id, one.items)) as_sent
         (all_calls rest handed orders.unput)
-        (All-append (IsTold run) (rest_calls rest ++ handed_calls handed) (unput_calls orders.unput)
-        tells (unput-told orders.unput closed.kept))) there
+        (All-append Carries (rest_calls rest ++ handed_calls handed) (unput_calls orders.unput)
+        (λ k d within. record {
+          told = tells k d within;
+          done = λ is. done is k d within;
+        }) (unput-told orders.unput closed.kept))) there
 
   -- ---- those that were left
 

@@ -38,18 +38,22 @@ use Rattle.handlers.specs.declared.step.MethodStep.{MethodStep as Answer}
 use Rattle.outwriter.specs.declared.control.WriterOrder.TheVariants.{InputEnded}
 use Rattle.outwriter.specs.Calls.{IsOther, TellOthers, is_served}
 use Rattle.outwriter.specs.Parts.{Mark, Byte, Fields, End, Reset, IsFrontOf, IsPart, spelled}
+use Rattle.outwriter.specs.Histories.{is_stream}
 use Rattle.outwriter.specs.Runs.{is_opened}
+use Rattle.outwriter.specs.Runs.{IsLawful as IsRunLawful}
 use Rattle.outwriter.specs.Steps.{Order, Step}
 use Rattle.session.specs.declared.event.InEvent.{InEvent}
 use Rattle.session.specs.Events.{Events}
 use Rattle.readerloop.specs.Calls.{is_admitted}
 use Rattle.readerloop.specs.Orders.{orders_by}
-use Rattle.readerloop.specs.Reports.{AreHeard, IsSettled}
+use Rattle.readerloop.specs.Reports.{AreHeard, IsSettled, is_heard_out}
 use Rattle.readerloop.specs.Steps.{Step as Heard, events_of}
-use Rattle.writerloop.specs.Orders.{Obeys}
+use Rattle.writerloop.specs.Orders.{HasTaken, Obeys}
+use Rattle.writerloop.specs.Sent.{IsTold}
 use Rattle.connection.specs.Heard.{HasPut}
-use Rattle.connection.specs.Sent.{CarriesWhatWasSent, IsWholeResponse}
-use Rattle.connection.proofs.OpenedOnce.{never-refused, once-opened}
+use Rattle.connection.specs.Sent.{CarriesWhatWasSent, IsWholeResponse, StreamEnd}
+use Rattle.connection.proofs.OpenedOnce.{admitted-opened, never-refused, once-opened}
+use Rattle.connection.proofs.StreamEnds.{stream-end}
 
 -- the end of the stream is among these marks
 abbrev HasEnd : List Mark → Type 0
@@ -210,7 +214,7 @@ ended account part front lawful (inr (some, code, begins, reset)) is =
     absurd (not-reset front some code (sym is ∙ reset))
 
 whole-answer : (run : List Step) (id : ℕ) (account : Account) → IsLawful account
-    → CarriesWhatWasSent run id account.sent → is_served id run ≡ true
+    → IsTold run (id, account.sent) → is_served id run ≡ true
     → (part : List Mark) × IsPart id run part
     × ((front : List Mark) → part ≡ front ++ End ∷ []
     → (account.sent ≡ account.given) × (part ≡ spelled account.given))
@@ -341,7 +345,7 @@ module _ (answers : ℕ → List (List ℕ) → Bool → Answer → Type 0) (nam
 
   pub whole-response : TellOthers run
       → (account : CallAccount)
-      (settled : IsSettled answers names (CarriesWhatWasSent run) told account)
+      (settled : IsSettled answers names (CarriesWhatWasSent (is_heard_out end) run) told account)
       → (part : List Mark) × IsPart account.id run part
       × ((front : List Mark) → part ≡ front ++ End ∷ []
       → IsWholeResponse answers settled.head settled.whole account part)
@@ -356,7 +360,7 @@ module _ (answers : ℕ → List (List ℕ) → Bool → Answer → Type 0) (nam
           once-opened end came told put run given heard are has obeys account.id opened in
           let found =
           whole-answer run account.id settled.whole settled.stands.lawful
-          settled.carried served in (
+          settled.carried.told served in (
             found.0,
             found.1,
             λ front is.
@@ -369,3 +373,15 @@ module _ (answers : ℕ → List (List ℕ) → Bool → Answer → Type 0) (nam
             found.1,
             λ front is. absurd (other-unended account.id found.0 front settled.known found.2 is),
           )
+
+  -- how the stream of a call ended, where all was taken
+  pub call-ended : (rest : List Order) → put ≡ orders_by told ++ rest → HasTaken put run
+      → IsRunLawful run → is_heard_out end ≡ true
+      → (account : CallAccount)
+      (settled : IsSettled answers names (CarriesWhatWasSent (is_heard_out end) run) told account)
+      → is_stream account.id ≡ true → StreamEnd run account.id settled.whole.sent
+  call-ended rest is took lawful out account settled there =
+      stream-end run account.id settled.whole.sent lawful
+      (settled.carried.done out
+      (once-opened end came told put run given heard are has obeys account.id
+      (admitted-opened account.id told put rest run is took settled.known)) there)

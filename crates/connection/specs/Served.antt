@@ -123,9 +123,11 @@ module _ {W V : Type 0} (items : V → List CallAccount) (contents : W → Optio
     -- that were heard (RFC 9113, section 6.9)
     pub credit : updated 0 written.run ≤ counted_told (events_of told)
     -- a lawful account for each call that was admitted, in order; where no worker served the call,
-    -- nothing was fed, taken or given; and what was sent of each call is what its stream carries
+    -- nothing was fed, taken or given; and what was sent of each call is what its stream carries.
+    -- Where all that came was heard, END_STREAM was written on the call's stream, or the stream was
+    -- reset, or its windows were shut, or all that was sent is written, without trailers.
     pub rows :
-        AreAccounts answers names (CarriesWhatWasSent written.run) told
+        AreAccounts answers names (CarriesWhatWasSent (is_heard_out end) written.run) told
         (reported told) (items calls)
     -- a call whose stream was reset with INTERNAL_ERROR was left without trailers, and has no
     -- status (section 7)

@@ -26,6 +26,7 @@ use Rattle.std.proofs.Common.{
   subst,
   ◌||◌,
   if◌then◌else◌,
+  get_or,
 }
 use Rattle.std.specs.Prelude.{All}
 use Rattle.std.proofs.lemmas.List.Elements.{All-append, All-map, All-nil, All-push, All-weaker}
@@ -33,12 +34,13 @@ use Rattle.account.specs.declared.call.OutItem.{OutItem}
 use Rattle.h2frame.specs.declared.error_code.ErrorCode.{ErrorCode}
 use Rattle.h2frame.specs.declared.error_code.ErrorCode.TheVariants.{FlowControlError}
 use Rattle.lane.specs.Ring.{put_in, taken}
-use Rattle.lane.specs.RingLane.{got}
+use Rattle.lane.specs.RingLane.{ahead, got}
 use Rattle.outwriter.specs.declared.control.WriterOrder.{WriterOrder}
 use Rattle.outwriter.specs.declared.control.WriterOrder.TheVariants as control
 use Rattle.outwriter.specs.Calls.{TellFronts, TellOthers, TellReturned, is_fresh, is_served}
 use Rattle.outwriter.specs.Cores.{calls}
 use Rattle.outwriter.specs.Drains.{has_failed}
+use Rattle.outwriter.specs.Polls.{coming}
 use Rattle.outwriter.specs.Runs.{is_opened, opens_stream}
 use Rattle.outwriter.specs.Steps.{Order, Step, Taken, Granted, Returned, Written, frames_of}
 use Rattle.callparts.specs.declared.order.OpeningCall.{OpeningCall}
@@ -53,11 +55,13 @@ use Rattle.writerloop.specs.declared.standing.Standing.TheVariants as stands
 use Rattle.writerloop.specs.declared.senders.Senders.{Senders}
 use Rattle.writerloop.specs.declared.writing.Writing.{Writing}
 use Rattle.writerloop.specs.Blamed.{WouldOverflow, blames_in}
+use Rattle.writerloop.specs.Done.{HasFailed, HaveNoMore, IsDone, TellBack}
 use Rattle.writerloop.specs.Orders.{Obeys, order_in, orders_of}
 use Rattle.writerloop.specs.Rest.{rest_calls}
 use Rattle.writerloop.specs.Sent.{AreApart, HasAll, IsBack, IsTold, got_of, handed_calls, opens}
 use Rattle.writerloop.specs.Spelled.{IsFront, IsAll}
 use Rattle.writerloop.specs.Written.{HasSent, HasWritten, IsFlushed, LedOut, core_of}
+use Rattle.writerloop.proofs.DoneSteps.{done-closed, done-known}
 use Rattle.writerloop.proofs.OrderSteps.{obeys-lost, obeys-more, unopened}
 use Rattle.writerloop.proofs.SentSteps.{apart-last, plain-front}
 use Rattle.writerloop.proofs.WrittenSteps.{among-opens}
@@ -83,6 +87,31 @@ told-none : (run : List Step) (id : ℕ) (items : List OutItem) → is_opened id
     → IsTold run (id, items)
 told-none run id items never served = absurd (true≢false (sym served ∙ unserved id run never))
 
+done-none : (run : List Step) (id : ℕ) (items : List OutItem) → is_opened id run ≡ false
+    → IsDone run (id, items)
+done-none run id items never served = absurd (true≢false (sym served ∙ unserved id run never))
+
+done-back : (run : List Step) (id : ℕ) (sender : Option OutSender) → TellBack run
+    → IsBack run id sender → IsDone run (id, got_of sender)
+done-back run id None tells back = absurd back
+done-back run id (Some sender) tells (inl returned) = λ served there.
+    done-closed run id (got sender.rx) (tells id (got sender.rx) returned served there)
+done-back run id (Some sender) tells (inr never) = done-none run id (got sender.rx) never.0
+
+done-core : (run : List Step) (core : List (ℕ × OutSender))
+    → HaveNoMore got (coming got ahead) run core
+    → HasFailed run ⊎ All (IsDone run) (calls got core)
+done-core run core (inl failed) = inl failed
+done-core run core (inr all) =
+    inr (All-map (IsDone run) (λ (call : ℕ × OutSender). (call.0, got call.1.rx)) core
+    (λ k d within served there.
+    done-known run (get_or core k d).0 (got (get_or core k d).1.rx)
+    (coming got ahead (get_or core k d).1.rx) (all k d within served there)))
+
+done-all : {B C : Type 0} {A : Type 0} → A ⊎ B → (B → C) → A ⊎ C
+done-all (inl one) next = inl one
+done-all (inr other) next = inr (next other)
+
 told-back : (run : List Step) (id : ℕ) (sender : Option OutSender) → TellReturned run
     → IsBack run id sender → IsTold run (id, got_of sender)
 told-back run id None tells back = absurd back
@@ -91,25 +120,32 @@ told-back run id (Some sender) tells (inr never) = told-none run id (got sender.
 
 module _ {J : Type 0} {naming : Ghosts J} where
   -- of an order that was set aside
-  told-aside : (given : List (WriterOrder (OpeningCall J naming)))
-      (aside : Option (WriterOrder (OpeningCall J naming))) (run : List Step)
-      → AreApart (given ++ order_in aside) → Obeys true (orders_of given) run
-      → All (IsTold run) (map (λ call. (call.1, [])) (opens (order_in aside)))
-  told-aside given None run apart obeys = All-nil (IsTold run)
-  told-aside given (Some (control.Open id opening)) run apart obeys =
-      All-push (IsTold run) [] (id, []) (All-nil (IsTold run))
-      (told-none run id [] (unopened true (orders_of given) run id (λ among.
+  aside-unopened : (given : List (WriterOrder (OpeningCall J naming))) (id : ℕ)
+      (opening : OpeningCall J naming) (run : List Step)
+      → AreApart (given ++ control.Open id opening ∷ []) → Obeys true (orders_of given) run
+      → is_opened id run ≡ false
+  aside-unopened given id opening run apart obeys =
+      unopened true (orders_of given) run id (λ among.
       let found = among-opens given id among in
-      apart-last given id opening apart found.0 found.1) obeys))
-  told-aside given (Some (control.Settings settings)) run apart obeys = All-nil (IsTold run)
-  told-aside given (Some (control.Ping bytes)) run apart obeys = All-nil (IsTold run)
-  told-aside given (Some (control.Probe bytes)) run apart obeys = All-nil (IsTold run)
-  told-aside given (Some (control.Window id n)) run apart obeys = All-nil (IsTold run)
-  told-aside given (Some (control.Refuse id fields)) run apart obeys = All-nil (IsTold run)
-  told-aside given (Some (control.Reset id code written)) run apart obeys = All-nil (IsTold run)
-  told-aside given (Some (control.Goaway last cause)) run apart obeys = All-nil (IsTold run)
-  told-aside given (Some control.InputEnded) run apart obeys = All-nil (IsTold run)
-  told-aside given (Some control.Close) run apart obeys = All-nil (IsTold run)
+      apart-last given id opening apart found.0 found.1) obeys
+
+  on-aside : (P : ℕ × List OutItem → Type 0) (given : List (WriterOrder (OpeningCall J naming)))
+      (aside : Option (WriterOrder (OpeningCall J naming))) (run : List Step)
+      → ((id : ℕ) → is_opened id run ≡ false → P (id, []))
+      → AreApart (given ++ order_in aside) → Obeys true (orders_of given) run
+      → All P (map (λ call. (call.1, [])) (opens (order_in aside)))
+  on-aside P given None run is apart obeys = All-nil P
+  on-aside P given (Some (control.Open id opening)) run is apart obeys =
+      All-push P [] (id, []) (All-nil P) (is id (aside-unopened given id opening run apart obeys))
+  on-aside P given (Some (control.Settings settings)) run is apart obeys = All-nil P
+  on-aside P given (Some (control.Ping bytes)) run is apart obeys = All-nil P
+  on-aside P given (Some (control.Probe bytes)) run is apart obeys = All-nil P
+  on-aside P given (Some (control.Window id n)) run is apart obeys = All-nil P
+  on-aside P given (Some (control.Refuse id fields)) run is apart obeys = All-nil P
+  on-aside P given (Some (control.Reset id code written)) run is apart obeys = All-nil P
+  on-aside P given (Some (control.Goaway last cause)) run is apart obeys = All-nil P
+  on-aside P given (Some control.InputEnded) run is apart obeys = All-nil P
+  on-aside P given (Some control.Close) run is apart obeys = All-nil P
 
 module _ {J W : Type 0} {naming : Ghosts J} {conn : ConnGhosts W} (contents : W → Option (List ℕ))
     (failed : W → Bool) where
@@ -146,7 +182,7 @@ module _ {J W : Type 0} {naming : Ghosts J} {conn : ConnGhosts W} (contents : W 
           marked = λ sent. ap failed same ∙ ends.1.marked (broken sent);
           front = front;
           all = λ unmarked. all (sound unmarked) (flushed (sound unmarked));
-          over = λ spared sent. ends.5 (going spared sent);
+          over = λ spared sent. (ends.5 (going spared sent)).over;
           sound = λ is. absurd (true≢false (sym is));
         },
         refl,
@@ -161,12 +197,14 @@ module _ {J W : Type 0} {naming : Ghosts J} {conn : ConnGhosts W} (contents : W 
       → rest.aside ≡ writer.inbox.set_aside → rest.sends ≡ writer.sends
       → rest.core.items ≡ core_of writer
       → TellFronts led.2.0 (calls got (core_of writer)) → TellReturned led.2.0
+      → (told ≢ Some ending.OutOfMemory → told ≢ Some ending.WriteFailed
+      → writer.frames.standing ≡ stands.Going)
       → ((code : ErrorCode) → told ≡ Some (ending.ProtocolError code)
       → (code ≡ FlowControlError) × (writer.blames ≡ true))
       → (told ≡ None → writer.blames ≡ false)
       → HasSent contents failed before credit (taken writer.inbox.ring) rest told device
   has-sent before credit writer rest device told led written same aside sends core fronts
-      returned blames unblamed =
+      returned going blames unblamed =
       let run : List Step = written.run in
       let are : taken writer.inbox.ring ≡ led.0 ++ order_in rest.aside =
       sym led.1
@@ -200,7 +238,9 @@ module _ {J W : Type 0} {naming : Ghosts J} {conn : ConnGhosts W} (contents : W 
             AreApart orders) are apart in
             All-append (IsTold run) (rest_calls rest) (handed_calls has.handed)
             (All-append (IsTold run) (map (λ call. (call.1, [])) (opens (order_in rest.aside)))
-            (calls got rest.core.items) (told-aside led.0 rest.aside run parts obeys) tells)
+            (calls got rest.core.items)
+            (on-aside (IsTold run) led.0 rest.aside run (λ id never. told-none run id [] never)
+            parts obeys) tells)
             (All-map (IsTold run) (λ (one : ℕ × ReturningCall J naming).
             (one.0, got_of one.1.sending.value.sender)) has.handed
             (All-weaker
@@ -208,6 +248,32 @@ module _ {J W : Type 0} {naming : Ghosts J} {conn : ConnGhosts W} (contents : W 
             (λ one. IsTold run (one.0, got_of one.1.sending.value.sender))
             (λ one back. told-back run one.0 one.1.sending.value.sender gives back) has.handed
             (has.back (plain-front led.0 rest.aside parts))));
+        done = λ spared sent apart.
+            let end = led.2.5 (going spared sent) in
+            let parts : AreApart (led.0 ++ order_in rest.aside) =
+            subst (λ (orders : List (WriterOrder (OpeningCall J naming))).
+            AreApart orders) are apart in
+            let back : TellBack run =
+            subst (λ (steps : List Step). TellBack steps) (sym same) end.over.back in
+            let cores : HasFailed run ⊎ All (IsDone run) (calls got rest.core.items) =
+            subst (λ (steps : List Step).
+            HasFailed steps ⊎ All (IsDone steps) (calls got rest.core.items)) (sym same)
+            (subst (λ (senders : List (ℕ × OutSender)).
+            HasFailed led.2.0 ⊎ All (IsDone led.2.0) (calls got senders)) (sym core)
+            (done-core led.2.0 (core_of writer) end.done)) in
+            done-all cores (λ done.
+            All-append (IsDone run) (rest_calls rest) (handed_calls has.handed)
+            (All-append (IsDone run) (map (λ call. (call.1, [])) (opens (order_in rest.aside)))
+            (calls got rest.core.items)
+            (on-aside (IsDone run) led.0 rest.aside run (λ id never. done-none run id [] never)
+            parts obeys) done)
+            (All-map (IsDone run) (λ (one : ℕ × ReturningCall J naming).
+            (one.0, got_of one.1.sending.value.sender)) has.handed
+            (All-weaker
+            (λ (one : ℕ × ReturningCall J naming). IsBack run one.0 one.1.sending.value.sender)
+            (λ one. IsDone run (one.0, got_of one.1.sending.value.sender))
+            (λ one back-there. done-back run one.0 one.1.sending.value.sender back back-there)
+            has.handed (has.back (plain-front led.0 rest.aside parts)))));
         blames = λ code says.
             let found = blames code says in (
               found.0,

@@ -1,6 +1,7 @@
 pub mod BlamedSteps
 pub mod CallSteps
 pub mod CreditSteps
+pub mod DoneSteps
 pub mod EndSteps
 pub mod OpeningSteps
 pub mod OrderSteps

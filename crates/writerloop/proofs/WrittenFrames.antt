@@ -39,6 +39,7 @@ use Rattle.outwriter.specs.Cores.{calls}
 use Rattle.outwriter.specs.Credit.{granted_by}
 use Rattle.outwriter.specs.LeftCalls.{GaveLeft}
 use Rattle.outwriter.specs.Polls.{coming}
+use Rattle.outwriter.specs.Releases.{Releases}
 use Rattle.outwriter.specs.Steps.{Order, Step, Taken, Granted, Returned, Written, order_of}
 use Rattle.callparts.specs.declared.order.OpeningCall.{OpeningCall}
 use Rattle.callparts.specs.declared.order.ReturningCall.{ReturningCall}
@@ -57,6 +58,7 @@ use Rattle.writerloop.specs.declared.order_outcome.OrderOutcome.TheVariants.{
 }
 use Rattle.writerloop.specs.declared.writing.Writing.{Writing}
 use Rattle.writerloop.specs.Blamed.{WouldOverflow, blames_by}
+use Rattle.writerloop.specs.Done.{HaveNoMore}
 use Rattle.writerloop.specs.Left.{left_by, left_in}
 use Rattle.writerloop.specs.Orders.{
   IsAmong,
@@ -74,6 +76,7 @@ use Rattle.writerloop.specs.Written.{
   Begins,
   Ends,
   FrameWriter,
+  IsAtEnd,
   Parts,
   PassesOver,
   Runs,
@@ -84,6 +87,7 @@ use Rattle.writerloop.specs.Written.{
 }
 use Rattle.writerloop.specs.Wrote.{Wrote, WritesOn, Fills}
 use Rattle.writerloop.proofs.BlamedSteps.{overflow-later}
+use Rattle.writerloop.proofs.DoneSteps.{done-less, failed-or, no-more, tell-back}
 use Rattle.writerloop.proofs.OrderSteps.{
   given-next,
   obeys-closing,
@@ -171,7 +175,21 @@ module _ {J W : Type 0} {naming : Ghosts J} {conn : ConnGhosts W} (contents : W 
         obeys-frames lost (orders_of orders) found.0 runs.0 runs.2,
         goes found.0 orders runs.0 runs.3,
         granted-frames found.0 runs.0 credit runs.4,
-        λ going. record { closed = found.1.leads.closed ∙ rest.1; answered = rest.0.answered },
+        λ going. record {
+          over = record {
+            closed = found.1.leads.closed ∙ rest.1;
+            answered = rest.0.answered;
+            ended =
+                failed-or got (map Written found.0 ++ runs.0) new.frames.core found.1.leads rest.2
+                rest.0.ended;
+            back =
+                tell-back got (map Written found.0 ++ runs.0) new.frames.core found.1.leads rest.2;
+          };
+          lives = rest.2;
+          done =
+              no-more got (map Written found.0 ++ runs.0) new.frames.core found.1.leads rest.2
+              (coming got ahead) rest.0;
+        },
       )
 
   stopped-filled : (old new : Writing J W naming conn)
@@ -233,12 +251,24 @@ module _ {J W : Type 0} {naming : Ghosts J} {conn : ConnGhosts W} (contents : W 
   runs-same lost old new on goes orders before credit runs =
       (runs.0, on before runs.0 runs.1, runs.2, goes orders runs.0 runs.3, runs.4)
 
+  at-end-same : (run : List Step) (old new : Writing J W naming conn)
+      → new.frames.core.is_dead ≡ old.frames.core.is_dead → core_of new ≡ core_of old
+      → IsAtEnd run old → IsAtEnd run new
+  at-end-same run old new lives same was = record {
+    over = was.over;
+    lives = lives ∙ was.lives;
+    done =
+        subst (λ (senders : List (ℕ × OutSender)).
+        HaveNoMore got (coming got ahead) run senders) (sym same) was.done;
+  }
+
   -- no step, of a writer that stands as it did
   pub still-on : (lost : Bool) (old new : Writing J W naming conn)
       → WritesOn got contents failed [] old.frames new.frames → GoesOn [] old new
+      → new.frames.core.is_dead ≡ old.frames.core.is_dead → core_of new ≡ core_of old
       → (new.frames.standing ≡ stands.Going → old.frames.standing ≡ stands.Going)
       → StaysOn contents failed lost lost old new
-  still-on lost old new on goes still = record {
+  still-on lost old new on goes lives same still = record {
     runs = runs-same lost old new on goes;
     ends = λ orders before credit ends. (
       ends.0,
@@ -246,7 +276,7 @@ module _ {J W : Type 0} {naming : Ghosts J} {conn : ConnGhosts W} (contents : W 
       ends.2,
       goes orders ends.0 ends.3,
       ends.4,
-      λ going. ends.5 (still going),
+      λ going. at-end-same ends.0 old new lives same (ends.5 (still going)),
     );
   }
 
@@ -254,38 +284,60 @@ module _ {J W : Type 0} {naming : Ghosts J} {conn : ConnGhosts W} (contents : W 
   pub flushes-on : {A E : Type 0} (lost : Bool) (result : Result A E)
       (old new : Writing J W naming conn)
       → WritesOn got contents failed [] old.frames new.frames → GoesOn [] old new
+      → new.frames.core ≡ old.frames.core
       → OnOk result (new.frames.standing ≡ old.frames.standing)
       → OnErr result (new.frames.standing ≡ stands.Broken)
       → StaysOn contents failed lost lost old new
-  flushes-on lost (Ok one) old new on goes stood broken =
-      still-on lost old new on goes (λ going. sym stood ∙ going)
-  flushes-on lost (Err fault) old new on goes stood broken =
-      still-on lost old new on goes (λ going. absurd (broken-going (sym broken ∙ going)))
+  flushes-on lost (Ok one) old new on goes same stood broken =
+      still-on lost old new on goes (ap (λ core. core.is_dead) same)
+      (ap (λ core. core.sending.senders.items) same) (λ going. sym stood ∙ going)
+  flushes-on lost (Err fault) old new on goes same stood broken =
+      still-on lost old new on goes (ap (λ core. core.is_dead) same)
+      (ap (λ core. core.sending.senders.items) same)
+      (λ going. absurd (broken-going (sym broken ∙ going)))
 
   -- a sender is given back
-  pub returns-on : (lost : Bool) (id : ℕ) (items : List OutItem) (old new : Writing J W naming conn)
-      → WritesOn got contents failed (Returned id items ∷ []) old.frames new.frames
-      → GoesOn (Returned id items ∷ []) old new → new.frames.standing ≡ old.frames.standing
+  pub returns-on : (lost : Bool) (id : ℕ) (sender : OutSender) (old new : Writing J W naming conn)
+      → WritesOn got contents failed (Returned id (got sender.rx) ∷ []) old.frames new.frames
+      → GoesOn (Returned id (got sender.rx) ∷ []) old new
+      → Releases id sender (core_of old) (core_of new)
+      → new.frames.core.is_dead ≡ old.frames.core.is_dead
+      → new.frames.standing ≡ old.frames.standing
       → StaysOn contents failed lost lost old new
-  returns-on lost id items old new on goes still = record {
-    runs = λ orders before credit runs. (
-      Returned id items ∷ runs.0,
-      on before runs.0 runs.1,
-      obeys-returned lost (orders_of orders) id items runs.0 runs.2,
-      goes orders runs.0 runs.3,
-      granted-none (Returned id items) runs.0 credit refl runs.4,
-    );
-    ends = λ orders before credit ends. (
-      Returned id items ∷ ends.0,
-      on before ends.0 ends.1,
-      obeys-returned lost (orders_of orders) id items ends.0 ends.2,
-      goes orders ends.0 ends.3,
-      granted-none (Returned id items) ends.0 credit refl ends.4,
-      λ going.
-          let over = ends.5 (sym still ∙ going) in
-          record { closed = over.closed; answered = over.answered },
-    );
-  }
+  returns-on lost id sender old new on goes releases lives still =
+      let items : List OutItem = got sender.rx in
+      record {
+        runs = λ orders before credit runs. (
+          Returned id items ∷ runs.0,
+          on before runs.0 runs.1,
+          obeys-returned lost (orders_of orders) id items runs.0 runs.2,
+          goes orders runs.0 runs.3,
+          granted-none (Returned id items) runs.0 credit refl runs.4,
+        );
+        ends = λ orders before credit ends. (
+          Returned id items ∷ ends.0,
+          on before ends.0 ends.1,
+          obeys-returned lost (orders_of orders) id items ends.0 ends.2,
+          goes orders ends.0 ends.3,
+          granted-none (Returned id items) ends.0 credit refl ends.4,
+          λ going.
+              let was = ends.5 (sym still ∙ going) in
+              record {
+                over = record {
+                  closed = was.over.closed;
+                  answered = was.over.answered;
+                  ended = was.over.ended;
+                  back =
+                      tell-back got (Returned id items ∷ ends.0) new.frames.core
+                      (on before ends.0 ends.1).leads (lives ∙ was.lives);
+                };
+                lives = lives ∙ was.lives;
+                done =
+                    done-less got (coming got ahead) id sender ends.0 (core_of old) (core_of new)
+                    releases was.done;
+              },
+        );
+      }
 
   -- the last word of a core
   pub parts-on : (last : ℕ) (lost : Bool) (old new : Writing J W naming conn)
@@ -347,7 +399,10 @@ module _ {J W : Type 0} {naming : Ghosts J} {conn : ConnGhosts W} (contents : W 
         (ap (λ (writes : FrameWriter W). writes.core.sending.senders.items) frames)
         orders ends.0 ends.3,
     ends.4,
-    λ going. ends.5 (sym (ap (λ (writes : FrameWriter W). writes.standing) frames) ∙ going),
+    λ going.
+        at-end-same ends.0 old new (ap (λ (writes : FrameWriter W). writes.core.is_dead) frames)
+        (ap (λ (writes : FrameWriter W). writes.core.sending.senders.items) frames)
+        (ends.5 (sym (ap (λ (writes : FrameWriter W). writes.standing) frames) ∙ going)),
   )
 
   -- ---- orders

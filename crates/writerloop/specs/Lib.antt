@@ -1,4 +1,5 @@
 pub mod Blamed
+pub mod Done
 pub mod Endings
 pub mod Keys
 pub mod Left

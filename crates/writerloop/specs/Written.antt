@@ -3,6 +3,7 @@
 use Rattle.std.specs.Prelude.{
   ◌≡◌,
   ◌≢◌,
+  ◌⊎◌,
   ◌||◌,
   All,
   ℕ,
@@ -25,14 +26,15 @@ use Rattle.lane.specs.declared.ring_lane.RingLaneIn.{RingLaneIn}
 use Rattle.lane.specs.declared.ring_lane.RingLaneOut.{RingLaneOut}
 use Rattle.lane.specs.declared.ring_lane.RingLaneShut.{RingLaneShut}
 use Rattle.lane.specs.Ring.{in_name, out_name, put_in}
-use Rattle.lane.specs.RingLane.{got}
+use Rattle.lane.specs.RingLane.{ahead, got}
 use Rattle.h2frame.specs.declared.error_code.ErrorCode.{ErrorCode}
 use Rattle.h2frame.specs.declared.error_code.ErrorCode.TheVariants.{FlowControlError}
 use Rattle.outwriter.specs.declared.control.WriterOrder.{WriterOrder}
-use Rattle.outwriter.specs.Calls.{TellOthers, is_closed}
+use Rattle.outwriter.specs.Calls.{TellEnds, TellOthers, is_closed}
 use Rattle.outwriter.specs.Cores.{calls}
 use Rattle.outwriter.specs.Credit.{granted}
 use Rattle.outwriter.specs.Drains.{has_failed}
+use Rattle.outwriter.specs.Polls.{coming}
 use Rattle.outwriter.specs.Runs.{IsLawful}
 use Rattle.outwriter.specs.RunState.{IsAnswered}
 use Rattle.outwriter.specs.Steps.{Step, Order, frames_of, order_of}
@@ -56,6 +58,7 @@ use Rattle.writerloop.specs.declared.steps.AfterWrite.TheVariants as rests
 use Rattle.writerloop.specs.declared.senders.Senders.{Senders}
 use Rattle.writerloop.specs.declared.writing.Writing.{Writing}
 use Rattle.writerloop.specs.Blamed.{WouldOverflow, blames_by, blames_in}
+use Rattle.writerloop.specs.Done.{HasFailed, HaveNoMore, IsDone, TellBack}
 use Rattle.writerloop.specs.Orders.{HasGiven, Obeys, closes, ends_input, order_in, orders_of}
 use Rattle.writerloop.specs.Rest.{rest_calls}
 use Rattle.writerloop.specs.Sent.{AreApart, HasAll, IsTold, handed_calls, ids_of}
@@ -63,10 +66,14 @@ use Rattle.writerloop.specs.Spelled.{IsFront, IsAll}
 use Rattle.writerloop.specs.Wrote.{Wrote}
 
 -- No more orders come, and the frames have all that the orders ask for: each SETTINGS and each PING
--- is acknowledged, and each header block is whole, unless the last frame is a GOAWAY with an error.
+-- is acknowledged, each header block is whole, and the end of each stream that was called off is
+-- written, unless the last frame is a GOAWAY with an error. Each sender that was given back had
+-- ended, or was reset.
 pub record IsOver (run : List Step) : Type 0 where
   pub closed : is_closed run ≡ true
   pub answered : IsAnswered run
+  pub ended : HasFailed run ⊎ TellEnds run
+  pub back : TellBack run
 
 -- what writes the frames of a connection whose calls are answered over rings
 abbrev pub FrameWriter : Type 0 → Type 0
@@ -97,6 +104,13 @@ module _ {J W : Type 0} {naming : Ghosts J} {conn : ConnGhosts W} where
     pub input : writer.inbox.has_lost ≡ false → writer.input_ended ≡ list_any ends_input orders
     pub closed : writer.closed ≡ list_any closes orders
 
+  -- the run is over, and each call whose sender the core has is done, with what was found ahead of
+  -- the sender
+  pub record IsAtEnd (run : List Step) (writer : Writing J W naming conn) : Type 0 where
+    pub over : IsOver run
+    pub lives : writer.frames.core.is_dead ≡ false
+    pub done : HaveNoMore got (coming got ahead) run (core_of writer)
+
   -- what the writer knows changes only by what this order ends
   pub record Heeds (order : Order) (old new : Writing J W naming conn) : Type 0 where
     pub input : new.input_ended ≡ (ends_input order || old.input_ended)
@@ -113,13 +127,13 @@ module _ {J W : Type 0} {naming : Ghosts J} {conn : ConnGhosts W} (contents : W 
       × Obeys lost (orders_of orders) run × Holds orders run writer
       × (granted 0 run ≡ credit)
 
-  -- some run led to the writer so, and it is over, unless the writer makes no more frames
+  -- some run led to the writer so, and it is at its end, unless the writer makes no more frames
   abbrev pub Ends : Bool → List (WriterOrder (OpeningCall J naming)) → Option (List ℕ) → ℕ
       → Writing J W naming conn → Type 0
   Ends lost orders before credit writer =
       (run : List Step) × Wrote got contents failed before run writer.frames
       × Obeys lost (orders_of orders) run × Holds orders run writer
-      × (granted 0 run ≡ credit) × (writer.frames.standing ≡ Going → IsOver run)
+      × (granted 0 run ≡ credit) × (writer.frames.standing ≡ Going → IsAtEnd run writer)
 
   -- the run goes on, and where it was over it stays over
   pub record StaysOn (lost loses : Bool) (old new : Writing J W naming conn) : Type 0 where
@@ -272,6 +286,11 @@ pub record HasSent {J W : Type 0} {naming : Ghosts J} (contents : W → Option (
       HasAll given written.run rest.sends.calls.items rest.core.items (put_in rest.sends.home)
   pub told : AreApart orders
       → All (IsTold written.run) (rest_calls rest ++ handed_calls senders.handed)
+  -- Where memory didn't run out and the connection doesn't end by a failed write, each of these calls
+  -- is done, unless the connection has failed.
+  pub done : ending ≢ Some OutOfMemory → ending ≢ Some WriteFailed → AreApart orders
+      → HasFailed written.run
+      ⊎ All (IsDone written.run) (rest_calls rest ++ handed_calls senders.handed)
   -- the connection ended with no error but for its own window, or for an initial size
   pub blames : (code : ErrorCode) → ending ≡ Some (ProtocolError code)
       → (code ≡ FlowControlError) × WouldOverflow 0 written.run

@@ -63,12 +63,13 @@ module _ {L In Out Shut W : Type 0} where
       (before : Option (List ℕ)) (run : List Step) → Wrote got contents failed before run old
       → Wrote got contents failed before (steps ++ run) new
 
-  -- Why the buffer isn't filled further: nothing more comes only where a Close was taken, and
-  -- nothing comes now where none was.
+  -- Why the buffer isn't filled further: nothing more comes only where a Close was taken, of a core
+  -- that lives, and nothing comes now where none was.
   abbrev pub Rests : (Out → List OutItem) → FillEnd → List Step → Frames L W In Out Shut → Type 0
   Rests ahead Full run writer = Unit {0}
   Rests ahead Idle run writer = IsAtRest ahead run writer.core × (writer.core.closed ≡ false)
-  Rests ahead Over run writer = IsAtRest ahead run writer.core × (writer.core.closed ≡ true)
+  Rests ahead Over run writer =
+      IsAtRest ahead run writer.core × (writer.core.closed ≡ true) × (writer.core.is_dead ≡ false)
   Rests ahead Stopped run writer = writer.standing ≢ Going
 
   abbrev pub RestsIf : (Out → List OutItem) → Option FillEnd → List Step

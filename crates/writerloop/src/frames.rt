@@ -270,6 +270,7 @@ impl<L: Lane<Item = OutItem>, W: ConnWrite> Frames<L, W> {
         ensures none { IfNone result (IsThrough id self.old.core
             → HasNone id self.old.core.sending.senders.items) }
         ensures unchanged { IfNone result (self.new ≡ self.old) }
+        ensures lives { self.new.core.is_dead ≡ self.old.core.is_dead }
         ensures rest { self.new ≡ record self.old { core = self.new.core } }
     {
         self.core.release(id)
@@ -373,6 +374,7 @@ impl<L: Lane<Item = OutItem>, W: ConnWrite> Frames<L, W> {
         ensures room { length self.old.buffer.items ≤ 114751
             → length self.new.buffer.items ≤ 114751 }
         ensures unsaid { result ≡ false → self.new.buffer.items ≡ self.old.buffer.items }
+        ensures lives { self.new.core.is_dead ≡ self.old.core.is_dead }
         ensures rest { self.new ≡ record
             self.old { core = self.new.core; buffer = self.new.buffer } }
     {

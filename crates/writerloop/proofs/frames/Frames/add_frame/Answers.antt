@@ -67,6 +67,7 @@ returns-in-Ok-Over-clause-wrote g c = λ before run w.
         (subst (λ (next : Next). RestsNext (coming g.L.Lane.got g.L.Lane.ahead) run next after)
             c.in-Ok-Over.field-0-is (c.in-Ok-Over.ensures.rests run w.leads)).0,
         c.in-Ok-Over.ensures.over c.in-Ok-Over.field-0-is,
+        c.in-Ok-Over.ensures.lives,
       ),
     )
 

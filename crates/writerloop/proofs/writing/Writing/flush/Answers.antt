@@ -11,5 +11,6 @@ returns-clause-stays g c =
     (flushes-on g.W.ConnWrite.contents g.W.ConnWrite.failed c.args.self.now.inbox.has_lost
     c.flush.result c.args.self.now _ c.flush.ensures.wrote
     (goes-none c.args.self.now _ (record { numbers = refl; way = refl }) refl
-    (ap (λ core. core.sending.senders.items) c.flush.ensures.core)) c.flush.ensures.stands
+    (ap (λ core. core.sending.senders.items) c.flush.ensures.core)) c.flush.ensures.core
+    c.flush.ensures.stands
     c.flush.ensures.broken)

@@ -1,6 +1,5 @@
 use Rattle.std.proofs.Common.{◌∙◌, ap, refl, subst, sym}
 use Rattle.lane.specs.Ring.{in_name, put_in}
-use Rattle.lane.specs.RingLane.{got}
 use Rattle.writerloop.specs.Sent.{IsFirstOf, core_keys, keys, numbers}
 use Rattle.writerloop.proofs.CallSteps.{aligned-out, first-of, hands-of}
 use Rattle.writerloop.proofs.WrittenFrames.{returns-on}
@@ -64,7 +63,7 @@ returns-in-Some g c = record {
         way = c.hand_back.ensures.name ∙ c.has_place.ensures.name;
       })
       (returns-on g.W.ConnWrite.contents g.W.ConnWrite.failed c.args.self.now.inbox.has_lost
-      c.args.id (got c.in-Some.sender.rx) c.args.self.now _ c.in-Some.ensures.wrote
+      c.args.id c.in-Some.sender c.args.self.now _ c.in-Some.ensures.wrote
       (goes-returned c.args.id c.in-Some.sender c.args.self.now _
       (hands-of c.args.id c.in-Some.sender c.has_place.new.self.calls.items
       c.args.self.now.sends.calls.items c.hand_back.new.self.calls.items
@@ -73,6 +72,7 @@ returns-in-Some g c = record {
       (ap (λ calls. calls.items) c.has_place.ensures.calls) c.has_place.ensures.put
       c.hand_back.ensures.home)
       c.in-Some.ensures.releases refl)
+      c.in-Some.ensures.releases c.release.ensures.lives
       (ap (λ w. w.standing) c.release.ensures.rest));
 }
 

@@ -1,4 +1,4 @@
-use Rattle.std.proofs.Common.{Bool, ap, refl, subst, true, true≢false}
+use Rattle.std.proofs.Common.{◌∙◌, Bool, ap, refl, subst, sym, true, true≢false}
 use Rattle.lane.specs.RingLane.{got}
 use Rattle.writerloop.specs.OwnOrders.{parting}
 use Rattle.writerloop.specs.Wrote.{WritesOn}
@@ -19,4 +19,20 @@ returns-then-part g c = record {
       c.args.self.now.frames c.part.new.self) c.if-part.true c.part.ensures.wrote)
       (ap (λ senders. senders.items) c.part.ensures.senders) (record { numbers = refl; way = refl })
       refl (c.part.ensures.dead c.if-part.true).0 (ap (λ w. w.standing) c.part.ensures.rest));
+}
+
+pub returns-else-part : goal.returns-else-part
+returns-else-part g c = record {
+  stays =
+      stays-by g.W.ConnWrite.contents g.W.ConnWrite.failed c.args.self.now _ refl (λ kept. kept)
+      (record { input = refl; closed = refl; way = refl })
+      (still-on g.W.ConnWrite.contents g.W.ConnWrite.failed c.args.self.now.inbox.has_lost
+      c.args.self.now _
+      (subst (λ (said : Bool).
+      WritesOn got g.W.ConnWrite.contents g.W.ConnWrite.failed (parting c.args.last said)
+      c.args.self.now.frames c.part.new.self) c.if-part.false c.part.ensures.wrote)
+      (goes-none c.args.self.now _ (record { numbers = refl; way = refl }) refl
+      (ap (λ senders. senders.items) c.part.ensures.senders)) c.part.ensures.lives
+      (ap (λ senders. senders.items) c.part.ensures.senders)
+      (λ going. sym (ap (λ w. w.standing) c.part.ensures.rest) ∙ going));
 }
