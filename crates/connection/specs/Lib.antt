@@ -9,3 +9,4 @@ pub mod Served
 pub mod Sent
 pub mod Causes
 pub mod News
+pub mod Methods

@@ -4,11 +4,10 @@
 ghost use Rattle.std.specs.Prelude.{◌≡◌, ◌∷◌, ℕ, List, [], IfSome, false, true};
 ghost use Rattle.std.specs.Io.KnownBytes.{Consumes, IsAtEnd};
 ghost use Rattle.lane.specs.Ring.{taken};
-ghost use Rattle.callparts.specs.Workers.{IsKnown};
 ghost use Rattle.callparts.specs.declared.report.Ending.TheVariants as ending;
 ghost use Rattle.handlers.specs.Listed.{listed};
 ghost use Rattle.session.specs.declared.event.InEvent.TheVariants as events;
-ghost use Rattle.readerloop.specs.Calls.{AreNames, IsFirstWith, SentItems, carried_in};
+ghost use Rattle.readerloop.specs.Calls.{SentItems, carried_in};
 ghost use Rattle.readerloop.specs.Readings.{KeepsNext, Reads, goaway_in, order_in};
 ghost use Rattle.readerloop.specs.Steps.{Lacks, Step};
 ghost use Rattle.connection.specs.Heard.{
@@ -23,6 +22,7 @@ ghost use Rattle.connection.specs.Heard.{
   ReadsWith,
 };
 ghost use Rattle.connection.specs.Limits.{Covers};
+ghost use Rattle.connection.specs.Methods.{AreKnownBy};
 ghost use Rattle.connection.specs.Puts.{IsOwn, IsSame};
 
 mod end;
@@ -135,14 +135,8 @@ where
         input: &mut I,
         methods: &Arc<Methods>,
     ) -> Ending
-        requires known { IsKnown M.known (λ m. answers (m.vtable, m.value))
-            (listed methods.now.value) }
-        requires named { AreNames
-            (IsFirstWith (λ m. (⟦<dyn Method as Method>⟧ m.vtable).name m.value)
-            (listed methods.now.value)) M.names }
-        requires unnamed { AreNames M.names
-            (IsFirstWith (λ m. (⟦<dyn Method as Method>⟧ m.vtable).name m.value)
-            (listed methods.now.value)) }
+        requires methods { AreKnownBy ⟦<dyn Method as Method>⟧ (listed methods.now.value)
+            M.known M.names }
         requires uncounted { (intake.old.calls ≡ 0) × (intake.old.came ≡ 0) }
         ensures grows { Grows self.old.reading self.new.reading }
         ensures heard { (sent : List SentItems) → AreCarried sent (taken self.new.reading.home)
@@ -247,14 +241,8 @@ where
         events: Vec<InEvent>,
         methods: &Arc<Methods>,
     ) -> Option<Ending>
-        requires known { IsKnown M.known (λ m. answers (m.vtable, m.value))
-            (listed methods.now.value) }
-        requires named { AreNames
-            (IsFirstWith (λ m. (⟦<dyn Method as Method>⟧ m.vtable).name m.value)
-            (listed methods.now.value)) M.names }
-        requires unnamed { AreNames M.names
-            (IsFirstWith (λ m. (⟦<dyn Method as Method>⟧ m.vtable).name m.value)
-            (listed methods.now.value)) }
+        requires methods { AreKnownBy ⟦<dyn Method as Method>⟧ (listed methods.now.value)
+            M.known M.names }
         ensures reads { ReadsWith M.known M.names intake.old intake.new events.items result
             self.old.reading self.old.orders self.new.reading self.new.orders }
     {
@@ -291,14 +279,8 @@ where
         events: Vec<InEvent>,
         methods: &Arc<Methods>,
     ) -> Option<Ending>
-        requires known { IsKnown M.known (λ m. answers (m.vtable, m.value))
-            (listed methods.now.value) }
-        requires named { AreNames
-            (IsFirstWith (λ m. (⟦<dyn Method as Method>⟧ m.vtable).name m.value)
-            (listed methods.now.value)) M.names }
-        requires unnamed { AreNames M.names
-            (IsFirstWith (λ m. (⟦<dyn Method as Method>⟧ m.vtable).name m.value)
-            (listed methods.now.value)) }
+        requires methods { AreKnownBy ⟦<dyn Method as Method>⟧ (listed methods.now.value)
+            M.known M.names }
         ensures reads { ReadsWith M.known M.names intake.old intake.new events.items result
             self.old.reading self.old.orders self.new.reading self.new.orders }
     {
@@ -318,14 +300,8 @@ where
         event: InEvent,
         methods: &Arc<Methods>,
     ) -> Option<Ending>
-        requires known { IsKnown M.known (λ m. answers (m.vtable, m.value))
-            (listed methods.now.value) }
-        requires named { AreNames
-            (IsFirstWith (λ m. (⟦<dyn Method as Method>⟧ m.vtable).name m.value)
-            (listed methods.now.value)) M.names }
-        requires unnamed { AreNames M.names
-            (IsFirstWith (λ m. (⟦<dyn Method as Method>⟧ m.vtable).name m.value)
-            (listed methods.now.value)) }
+        requires methods { AreKnownBy ⟦<dyn Method as Method>⟧ (listed methods.now.value)
+            M.known M.names }
         ensures reads { ReadsWith M.known M.names intake.old intake.new (event ∷ []) result
             self.old.reading self.old.orders self.new.reading self.new.orders }
     {

@@ -22,17 +22,17 @@ ghost use Rattle.std.specs.Prelude.{
 };
 ghost use Rattle.std.specs.Io.KnownBytes.{Consumes, IsAtEnd};
 ghost use Rattle.callparts.specs.Blocks.{items_of};
-ghost use Rattle.callparts.specs.Workers.{IsWithin, answers_by};
 ghost use Rattle.callparts.specs.declared.report.Ending.TheVariants as ending;
 ghost use Rattle.handlers.specs.Listed.{listed};
 ghost use Rattle.lane.specs.Ring.{in_name, out_name, put_in, taken};
-ghost use Rattle.readerloop.specs.Calls.{AreNames, IsFirstWith, SentItems, carried_in};
+ghost use Rattle.readerloop.specs.Calls.{SentItems, carried_in};
 ghost use Rattle.readerloop.specs.Readings.{Reads};
 ghost use Rattle.readerloop.specs.Reports.{AreAccounts};
 ghost use Rattle.readerloop.specs.Steps.{Step, reported};
 ghost use Rattle.connection.specs.Endings.{ended_by, unless_lacked};
 ghost use Rattle.connection.specs.Heard.{AreCarried, HasRead, Hears, IsOfInput, KeptFor};
 ghost use Rattle.connection.specs.Limits.{Covers};
+ghost use Rattle.connection.specs.Methods.{AreKnownBy, answers_of, paths_of};
 ghost use Rattle.connection.specs.Puts.{put_of};
 ghost use Rattle.connection.specs.Rest.{CarriesOpen, CarriesRest};
 ghost use Rattle.connection.specs.Served.{IsServed};
@@ -91,9 +91,8 @@ where
     // Over one list of what was heard, one of what was ordered, and one run of the writer.
     ensures served { (came : List ℕ) × Consumes (I.remaining input.old) (I.remaining input.new) came
         × IsServed (λ calls. items_of calls.full calls.last) O.contents O.failed
-        (answers_by (λ method. answers (method.vtable, method.value)) (listed methods.value))
-        (IsFirstWith (λ method. (⟦<dyn Method as Method>⟧ method.vtable).name method.value)
-        (listed methods.value))
+        (answers_of ⟦<dyn Method as Method>⟧ (listed methods.value))
+        (paths_of ⟦<dyn Method as Method>⟧ (listed methods.value))
         came (I.remaining input.new) (O.contents output) (I.failed input.new)
         result.report.ending result.report.calls result.output }
 {
@@ -119,9 +118,8 @@ where
     R: Threads + Wait + Clock + Copy + Send + Sync + Drop + 'static,
     ensures served { (came : List ℕ) × Consumes (I.remaining input.old) (I.remaining input.new) came
         × IsServed (λ calls. items_of calls.full calls.last) O.contents O.failed
-        (answers_by (λ method. answers (method.vtable, method.value)) (listed methods.value))
-        (IsFirstWith (λ method. (⟦<dyn Method as Method>⟧ method.vtable).name method.value)
-        (listed methods.value))
+        (answers_of ⟦<dyn Method as Method>⟧ (listed methods.value))
+        (paths_of ⟦<dyn Method as Method>⟧ (listed methods.value))
         came (I.remaining input.new) (O.contents output) (I.failed input.new)
         result.report.ending result.report.calls result.output }
 {
@@ -152,9 +150,8 @@ where
     requires announced { (blanks.2.name ≡ C.name) × (blanks.2.parts ≡ C.parts) × (0 < C.parts) }
     ensures served { (came : List ℕ) × Consumes (I.remaining input.old) (I.remaining input.new) came
         × IsServed (λ calls. items_of calls.full calls.last) O.contents O.failed
-        (answers_by (λ method. answers (method.vtable, method.value)) (listed methods.value))
-        (IsFirstWith (λ method. (⟦<dyn Method as Method>⟧ method.vtable).name method.value)
-        (listed methods.value))
+        (answers_of ⟦<dyn Method as Method>⟧ (listed methods.value))
+        (paths_of ⟦<dyn Method as Method>⟧ (listed methods.value))
         came (I.remaining input.new) (O.contents output) (I.failed input.new)
         result.report.ending result.report.calls result.output }
 {
@@ -260,14 +257,8 @@ where
     requires came { (seat.came.parts ≡ A.parts) × (0 < A.parts) × (seat.came.amount ≡ 0) }
     requires calls { (seat.calls.parts ≡ B.parts) × (0 < B.parts) × (seat.calls.amount ≡ 0) }
     requires told { (seat.announced.parts ≡ C.parts) × (0 < C.parts) × (seat.announced.amount ≡ 0) }
-    requires known { IsWithin M.known
-        (answers_by (λ method. answers (method.vtable, method.value)) (listed methods.value)) }
-    requires named { AreNames
-        (IsFirstWith (λ method. (⟦<dyn Method as Method>⟧ method.vtable).name method.value)
-        (listed methods.value)) M.names }
-    requires unnamed { AreNames M.names
-        (IsFirstWith (λ method. (⟦<dyn Method as Method>⟧ method.vtable).name method.value)
-        (listed methods.value)) }
+    requires methods { AreKnownBy ⟦<dyn Method as Method>⟧ (listed methods.value)
+        M.known M.names }
     requires book { register.seen.book ≡ J.book }
     ensures served { (came : List ℕ) × Consumes (I.remaining input.old) (I.remaining input.new) came
         × IsServed (λ calls. items_of calls.full calls.last) O.contents O.failed M.known M.names
@@ -309,14 +300,8 @@ where
     requires came { (seat.came.parts ≡ A.parts) × (0 < A.parts) × (seat.came.amount ≡ 0) }
     requires calls { (seat.calls.parts ≡ B.parts) × (0 < B.parts) × (seat.calls.amount ≡ 0) }
     requires told { (seat.announced.parts ≡ C.parts) × (0 < C.parts) × (seat.announced.amount ≡ 0) }
-    requires known { IsWithin M.known
-        (answers_by (λ method. answers (method.vtable, method.value)) (listed methods.value)) }
-    requires named { AreNames
-        (IsFirstWith (λ method. (⟦<dyn Method as Method>⟧ method.vtable).name method.value)
-        (listed methods.value)) M.names }
-    requires unnamed { AreNames M.names
-        (IsFirstWith (λ method. (⟦<dyn Method as Method>⟧ method.vtable).name method.value)
-        (listed methods.value)) }
+    requires methods { AreKnownBy ⟦<dyn Method as Method>⟧ (listed methods.value)
+        M.known M.names }
     requires rings { (N.ring ≡ Some (in_name rings.orders.0))
         × (in_name rings.orders.0 ≡ out_name rings.orders.1)
         × (in_name rings.senders.0 ≡ out_name rings.senders.1) }

@@ -2,14 +2,14 @@
 
 ghost use Rattle.callhead.specs.declared.head.CallHead.{CallHead as Head};
 ghost use Rattle.std.specs.Prelude.{◌≡◌, ◌∷◌, [], IfSome, true};
-ghost use Rattle.callparts.specs.Workers.{IsKnown};
+ghost use Rattle.callparts.specs.Workers.{IsWithin};
 ghost use Rattle.handlers.specs.Listed.{listed};
 ghost use Rattle.session.specs.declared.event.InEvent.TheVariants as events;
-ghost use Rattle.readerloop.specs.Calls.{AreNames, IsFirstWith};
 ghost use Rattle.readerloop.specs.Readings.{IsNext, KeepsNext};
 ghost use Rattle.readerloop.specs.WorkerHandles.{HasPlacesAt};
 ghost use Rattle.connection.specs.Heard.{Collects, ReadsWith};
 ghost use Rattle.connection.specs.Limits.{MayTurnAway, Tally, one_more};
+ghost use Rattle.connection.specs.Methods.{AreKnownBy, answers_of};
 
 use super::Reader;
 use crate::intake::Intake;
@@ -49,14 +49,8 @@ where
         head: CallHead,
         methods: &Arc<Methods>,
     ) -> Option<Ending>
-        requires known { IsKnown M.known (λ m. answers (m.vtable, m.value))
-            (listed methods.now.value) }
-        requires named { AreNames
-            (IsFirstWith (λ m. (⟦<dyn Method as Method>⟧ m.vtable).name m.value)
-            (listed methods.now.value)) M.names }
-        requires unnamed { AreNames M.names
-            (IsFirstWith (λ m. (⟦<dyn Method as Method>⟧ m.vtable).name m.value)
-            (listed methods.now.value)) }
+        requires methods { AreKnownBy ⟦<dyn Method as Method>⟧ (listed methods.now.value)
+            M.known M.names }
         ensures reads { ReadsWith M.known M.names intake.old intake.new
             (events.Open id head ∷ []) result
             self.old.reading self.old.orders self.new.reading self.new.orders }
@@ -80,8 +74,8 @@ where
         request: Request,
         methods: &Arc<Methods>,
     ) -> Option<Ending>
-        requires known { IsKnown M.known (λ m. answers (m.vtable, m.value))
-            (listed methods.now.value) }
+        requires known { IsWithin M.known
+            (answers_of ⟦<dyn Method as Method>⟧ (listed methods.now.value)) }
         requires named { M.names request.head.path request.index }
         requires next { IsNext request.id self.old.reading }
         ensures reads { ReadsWith M.known M.names intake.old intake.new
@@ -132,8 +126,8 @@ where
     /// are as many as calls may be live, one of them is at a call that is no longer live, and soon
     /// is free. Once the writer was seen to have stopped no call begins.
     fn start(&mut self, request: Request, methods: &Arc<Methods>) -> Option<Ending>
-        requires known { IsKnown M.known (λ m. answers (m.vtable, m.value))
-            (listed methods.now.value) }
+        requires known { IsWithin M.known
+            (answers_of ⟦<dyn Method as Method>⟧ (listed methods.now.value)) }
         requires named { M.names request.head.path request.index }
         requires next { IsNext request.id self.old.reading }
         ensures reads { (tally : Tally) → ReadsWith M.known M.names tally (one_more tally)
@@ -212,8 +206,8 @@ where
 
     /// Starts one more worker.
     fn hire(&mut self, methods: &Arc<Methods>) -> Result<(), AllocError>
-        requires known { IsKnown M.known (λ m. answers (m.vtable, m.value))
-            (listed methods.now.value) }
+        requires known { IsWithin M.known
+            (answers_of ⟦<dyn Method as Method>⟧ (listed methods.now.value)) }
         ensures reading { self.new.reading
             ≡ record self.old.reading { workers = self.new.reading.workers } }
         ensures orders { self.new.orders ≡ self.old.orders }
