@@ -10,3 +10,4 @@ pub mod Sent
 pub mod Causes
 pub mod News
 pub mod Methods
+pub mod Readers

@@ -30,10 +30,11 @@ ghost use Rattle.readerloop.specs.Readings.{Reads};
 ghost use Rattle.readerloop.specs.Reports.{AreAccounts};
 ghost use Rattle.readerloop.specs.Steps.{Step, reported};
 ghost use Rattle.connection.specs.Endings.{ended_by, unless_lacked};
-ghost use Rattle.connection.specs.Heard.{AreCarried, HasRead, Hears, IsOfInput, KeptFor};
+ghost use Rattle.connection.specs.Heard.{AreCarried, HasRead, Hears, IsOfInput};
 ghost use Rattle.connection.specs.Limits.{Covers};
 ghost use Rattle.connection.specs.Methods.{AreKnownBy, answers_of, paths_of};
 ghost use Rattle.connection.specs.Puts.{put_of};
+ghost use Rattle.connection.specs.Readers.{HasFollowed};
 ghost use Rattle.connection.specs.Rest.{CarriesOpen, CarriesRest};
 ghost use Rattle.connection.specs.Served.{IsServed};
 
@@ -378,8 +379,8 @@ where
     requires unused { (put_in rings.orders.0 ≡ []) × (taken rings.orders.1 ≡ []) }
     requires unsent { (put_in rings.senders.0 ≡ []) × (taken rings.senders.1 ≡ []) }
     requires book { register.seen.book ≡ J.book }
-    ensures kept { IfOk result (λ begun. (sent : List SentItems) → KeptFor M.known M.names sent []
-        begun.reader.reading begun.reader.orders) }
+    ensures kept { IfOk result (λ begun. (sent : List SentItems)
+        → HasFollowed M.known M.names sent [] begun.reader) }
     ensures none_home { IfOk result (λ begun. taken begun.reader.reading.home ≡ []) }
     ensures uncounted { IfOk result (λ begun. (begun.intake.calls ≡ 0)
         × (begun.intake.came ≡ 0)) }

@@ -9,9 +9,10 @@ ghost use Rattle.readerloop.specs.Kept.{unsettled};
 ghost use Rattle.readerloop.specs.Readings.{KeepsNext, Reads};
 ghost use Rattle.readerloop.specs.Reports.{AreAccounts};
 ghost use Rattle.readerloop.specs.Steps.{Step, reported};
-ghost use Rattle.connection.specs.Heard.{AreCarried, Collects, CutsSome, Grows, HasEnded};
+ghost use Rattle.connection.specs.Heard.{AreCarried, Collects, Grows, HasEnded};
 ghost use Rattle.outwriter.specs.declared.control.WriterOrder.TheVariants as orders;
 ghost use Rattle.connection.specs.Puts.{put_of};
+ghost use Rattle.connection.specs.Readers.{ActsAlone};
 ghost use Rattle.connection.specs.Rest.{CarriesOpen, CarriesRest};
 
 use super::Reader;
@@ -216,8 +217,7 @@ where
 
     /// After the last event: cuts the calls whose halves the client neither ended nor reset.
     fn cut_all(&mut self)
-        ensures cuts { CutsSome M.known M.names true self.old.reading self.old.orders
-            self.new.reading self.new.orders }
+        ensures cuts { ActsAlone M.known M.names true self.old self.new }
     {
         'places: for place in 0..self.reading.unsettled() {
             self.cut_at(place);
@@ -226,8 +226,7 @@ where
 
     /// Cuts the call at this place, if its client neither ended nor reset its half.
     fn cut_at(&mut self, place: usize)
-        ensures cuts { CutsSome M.known M.names true self.old.reading self.old.orders
-            self.new.reading self.new.orders }
+        ensures cuts { ActsAlone M.known M.names true self.old self.new }
     {
         if let Some(decided) = self.reading.cut_off(place) {
             self.act(decided);

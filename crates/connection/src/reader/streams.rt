@@ -7,9 +7,10 @@ ghost use Rattle.handlers.specs.Listed.{listed};
 ghost use Rattle.session.specs.declared.event.InEvent.TheVariants as events;
 ghost use Rattle.readerloop.specs.Readings.{IsNext, KeepsNext};
 ghost use Rattle.readerloop.specs.WorkerHandles.{HasPlacesAt};
-ghost use Rattle.connection.specs.Heard.{Collects, ReadsWith};
+ghost use Rattle.connection.specs.Heard.{Collects};
 ghost use Rattle.connection.specs.Limits.{MayTurnAway, Tally, one_more};
 ghost use Rattle.connection.specs.Methods.{AreKnownBy, answers_of};
+ghost use Rattle.connection.specs.Readers.{FollowsWith};
 
 use super::Reader;
 use crate::intake::Intake;
@@ -51,9 +52,8 @@ where
     ) -> Option<Ending>
         requires methods { AreKnownBy ⟦<dyn Method as Method>⟧ (listed methods.now.value)
             M.known M.names }
-        ensures reads { ReadsWith M.known M.names intake.old intake.new
-            (events.Open id head ∷ []) result
-            self.old.reading self.old.orders self.new.reading self.new.orders }
+        ensures reads { FollowsWith M.known M.names intake.old intake.new
+            (events.Open id head ∷ []) result self.old self.new }
     {
         let rt = self.rt;
         let index = methods.find(head.path.as_slice());
@@ -78,9 +78,8 @@ where
             (answers_of ⟦<dyn Method as Method>⟧ (listed methods.now.value)) }
         requires named { M.names request.head.path request.index }
         requires next { IsNext request.id self.old.reading }
-        ensures reads { ReadsWith M.known M.names intake.old intake.new
-            (events.Open request.id request.head ∷ []) result
-            self.old.reading self.old.orders self.new.reading self.new.orders }
+        ensures reads { FollowsWith M.known M.names intake.old intake.new
+            (events.Open request.id request.head ∷ []) result self.old self.new }
     {
         let rt = self.rt;
         match intake.admit(&rt, request.id) {
@@ -92,8 +91,8 @@ where
     /// A call isn't admitted. If that is because the server drains, GOAWAY is ordered first.
     fn turn_away(&mut self, id: StreamId, fault: AdmitFault) -> Option<Ending>
         ensures reads { (head : Head) (tally : Tally) → MayTurnAway tally.calls true fault
-            → ReadsWith M.known M.names tally tally (events.Open id head ∷ []) result
-            self.old.reading self.old.orders self.new.reading self.new.orders }
+            → FollowsWith M.known M.names tally tally (events.Open id head ∷ []) result
+            self.old self.new }
     {
         match fault {
             AdmitFault::Draining => self.turn_away_drained(id),
@@ -104,8 +103,8 @@ where
     /// A call isn't admitted because the server drains. GOAWAY is ordered first.
     fn turn_away_drained(&mut self, id: StreamId) -> Option<Ending>
         ensures reads { (head : Head) (tally : Tally)
-            → ReadsWith M.known M.names tally tally (events.Open id head ∷ []) result
-            self.old.reading self.old.orders self.new.reading self.new.orders }
+            → FollowsWith M.known M.names tally tally (events.Open id head ∷ []) result
+            self.old self.new }
     {
         self.drain();
         self.decline(id, AdmitFault::Draining)
@@ -115,8 +114,8 @@ where
     fn decline(&mut self, id: StreamId, fault: AdmitFault) -> Option<Ending>
         ensures reads { (head : Head) (tally : Tally)
             → MayTurnAway tally.calls self.old.reading.is_draining fault
-            → ReadsWith M.known M.names tally tally (events.Open id head ∷ []) result
-            self.old.reading self.old.orders self.new.reading self.new.orders }
+            → FollowsWith M.known M.names tally tally (events.Open id head ∷ []) result
+            self.old self.new }
     {
         let decided = self.reading.turn_away(id, fault);
         self.act(decided)
@@ -130,9 +129,8 @@ where
             (answers_of ⟦<dyn Method as Method>⟧ (listed methods.now.value)) }
         requires named { M.names request.head.path request.index }
         requires next { IsNext request.id self.old.reading }
-        ensures reads { (tally : Tally) → ReadsWith M.known M.names tally (one_more tally)
-            (events.Open request.id request.head ∷ []) result
-            self.old.reading self.old.orders self.new.reading self.new.orders }
+        ensures reads { (tally : Tally) → FollowsWith M.known M.names tally (one_more tally)
+            (events.Open request.id request.head ∷ []) result self.old self.new }
     {
         let rt = self.rt;
         let (id, method) = (request.id, request.index);
@@ -193,9 +191,8 @@ where
         requires named { M.names request.head.path request.index }
         requires next { IsNext request.id self.old.reading }
         requires places { HasPlacesAt number self.old.reading.workers }
-        ensures reads { (tally : Tally) → ReadsWith M.known M.names tally (one_more tally)
-            (events.Open request.id request.head ∷ []) result
-            self.old.reading self.old.orders self.new.reading self.new.orders }
+        ensures reads { (tally : Tally) → FollowsWith M.known M.names tally (one_more tally)
+            (events.Open request.id request.head ∷ []) result self.old self.new }
     {
         let (id, method) = (request.id, request.index);
         match self.reading.engage(number, request) {
@@ -226,8 +223,8 @@ where
     fn lose(&mut self, id: StreamId, method: usize) -> Option<Ending>
         requires next { IsNext id self.old.reading }
         ensures reads { (head : Head) (tally : Tally) → M.names head.path method
-            → ReadsWith M.known M.names tally (one_more tally) (events.Open id head ∷ []) result
-            self.old.reading self.old.orders self.new.reading self.new.orders }
+            → FollowsWith M.known M.names tally (one_more tally) (events.Open id head ∷ []) result
+            self.old self.new }
     {
         self.gate.settled(&CallAccount::unserved(id, method));
         let decided = self.reading.lose(id, method);
@@ -239,8 +236,8 @@ where
         requires next { IsNext id self.old.reading }
         requires stopped { self.old.orders.has_stopped ≡ true }
         ensures reads { (head : Head) (tally : Tally) → M.names head.path method
-            → ReadsWith M.known M.names tally (one_more tally) (events.Open id head ∷ []) result
-            self.old.reading self.old.orders self.new.reading self.new.orders }
+            → FollowsWith M.known M.names tally (one_more tally) (events.Open id head ∷ []) result
+            self.old self.new }
     {
         self.gate.settled(&CallAccount::unserved(id, method));
         let decided = self.reading.pass_over(id, method);

@@ -1,0 +1,44 @@
+-- What the reader of a connection has followed: the words of `Heard`, of the reader before and
+-- after.
+use Rattle.std.specs.Prelude.{ℕ, Bool, List, Option}
+use Rattle.callparts.specs.declared.register.Naming.{Ghosts as Naming}
+use Rattle.callparts.specs.declared.report.Ending.{Ending}
+use Rattle.handlers.specs.declared.step.MethodStep.{MethodStep as Answer}
+use Rattle.session.specs.declared.event.InEvent.{InEvent}
+use Rattle.readerloop.specs.declared.decision.Decision.{Decision}
+use Rattle.readerloop.specs.Calls.{SentItems}
+use Rattle.readerloop.specs.Steps.{Step}
+use Rattle.connection.specs.declared.orders.Route.{Ghosts}
+use Rattle.connection.specs.declared.reader.Reader.{Reader}
+use Rattle.connection.specs.Heard.{Acts, CutsSome, KeptFor, ReadsTo, ReadsWith}
+use Rattle.connection.specs.Limits.{Tally}
+
+module _ {A B C J M N R G : Type 0} {book : Naming J} {route : Ghosts N}
+    (known : ℕ → List (List ℕ) → Bool → Answer → Type 0) (names : List ℕ → ℕ → Type 0) where
+  -- it has followed these steps, and the input goes on (`KeptFor`)
+  abbrev pub HasFollowed : List SentItems → List Step → Reader A B C J M N R G book route → Type 0
+  HasFollowed sent told reader = KeptFor known names sent told reader.reading reader.orders
+
+  -- it follows these events, and ends the connection so, if it does (`ReadsTo`)
+  abbrev pub Follows : List InEvent → Option Ending → Reader A B C J M N R G book route
+      → Reader A B C J M N R G book route → Type 0
+  Follows given end old new =
+      ReadsTo known names given end old.reading old.orders new.reading new.orders
+
+  -- so it does, and this is what it has counted, before and after (`ReadsWith`)
+  abbrev pub FollowsWith : Tally → Tally → List InEvent → Option Ending
+      → Reader A B C J M N R G book route → Reader A B C J M N R G book route → Type 0
+  FollowsWith tally tally_new given end old new =
+      ReadsWith known names tally tally_new given end old.reading old.orders new.reading new.orders
+
+  -- It follows no event: it cuts calls, where the input has ended, or the server drains
+  -- (`CutsSome`).
+  abbrev pub ActsAlone : Bool → Reader A B C J M N R G book route
+      → Reader A B C J M N R G book route → Type 0
+  ActsAlone ended old new =
+      CutsSome known names ended old.reading old.orders new.reading new.orders
+
+  -- it does what was decided (`Acts`)
+  abbrev pub Does : Decision J book → Reader A B C J M N R G book route
+      → Reader A B C J M N R G book route → Type 0
+  Does decided old new = Acts known names decided old.reading old.orders new.reading new.orders
