@@ -1,8 +1,10 @@
 -- What the reader of a connection has followed: the words of `Heard`, of the reader before and
 -- after.
-use Rattle.std.specs.Prelude.{ℕ, Bool, List, Option}
+use Rattle.std.specs.Prelude.{◌≡◌, ℕ, Bool, true, false, List, Option}
+use Rattle.std.specs.Io.KnownBytes.{IsAtEnd}
 use Rattle.callparts.specs.declared.register.Naming.{Ghosts as Naming}
 use Rattle.callparts.specs.declared.report.Ending.{Ending}
+use Rattle.callparts.specs.declared.report.Ending.TheVariants.{ReadFailed}
 use Rattle.handlers.specs.declared.step.MethodStep.{MethodStep as Answer}
 use Rattle.session.specs.declared.event.InEvent.{InEvent}
 use Rattle.readerloop.specs.declared.decision.Decision.{Decision}
@@ -10,8 +12,8 @@ use Rattle.readerloop.specs.Calls.{SentItems}
 use Rattle.readerloop.specs.Steps.{Step}
 use Rattle.connection.specs.declared.orders.Route.{Ghosts}
 use Rattle.connection.specs.declared.reader.Reader.{Reader}
-use Rattle.connection.specs.Heard.{Acts, CutsSome, KeptFor, ReadsTo, ReadsWith}
-use Rattle.connection.specs.Limits.{Tally}
+use Rattle.connection.specs.Heard.{Acts, CutsSome, HasRead, IsOfInput, KeptFor, ReadsTo, ReadsWith}
+use Rattle.connection.specs.Limits.{Covers, Tally}
 
 module _ {A B C J M N R G : Type 0} {book : Naming J} {route : Ghosts N}
     (known : ℕ → List (List ℕ) → Bool → Answer → Type 0) (names : List ℕ → ℕ → Type 0) where
@@ -42,3 +44,16 @@ module _ {A B C J M N R G : Type 0} {book : Naming J} {route : Ghosts N}
   abbrev pub Does : Decision J book → Reader A B C J M N R G book route
       → Reader A B C J M N R G book route → Type 0
   Does decided old new = Acts known names decided old.reading old.orders new.reading new.orders
+
+  -- It has read to the end: of the bytes that came it has followed these steps, and it has counted
+  -- no more than they have. The input has the rest.
+  pub record HasReadOut (sent : List SentItems) (end : Ending) (came : List ℕ)
+      (rest : Option (List ℕ)) (read_failed : Bool) (tally : Tally)
+      (reader : Reader A B C J M N R G book route) : Type 0 where
+    pub told : List Step
+    pub read : HasRead known names sent end came told reader.reading reader.orders
+    pub covered : Covers told tally
+    -- a read failed only where it has that mark
+    pub failed : end ≡ ReadFailed → read_failed ≡ true
+    -- the input is at its end where the connection ended with it, and the writer didn't stop
+    pub over : IsOfInput end → reader.orders.has_stopped ≡ false → IsAtEnd rest

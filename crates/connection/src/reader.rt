@@ -2,19 +2,24 @@
 //! decides (the crate `readerloop`).
 
 ghost use Rattle.std.specs.Prelude.{◌≡◌, ◌∷◌, ℕ, List, [], IfSome, false, true};
-ghost use Rattle.std.specs.Io.KnownBytes.{Consumes, IsAtEnd};
+ghost use Rattle.std.specs.Io.KnownBytes.{Consumes};
 ghost use Rattle.lane.specs.Ring.{taken};
-ghost use Rattle.callparts.specs.declared.report.Ending.TheVariants as ending;
 ghost use Rattle.handlers.specs.Listed.{listed};
 ghost use Rattle.session.specs.declared.event.InEvent.TheVariants as events;
 ghost use Rattle.readerloop.specs.Calls.{SentItems, carried_in};
 ghost use Rattle.readerloop.specs.Readings.{KeepsNext, Reads, goaway_in, order_in};
 ghost use Rattle.readerloop.specs.Steps.{Lacks, Step};
-ghost use Rattle.connection.specs.Heard.{AreCarried, Grows, HasRead, IsOfInput};
-ghost use Rattle.connection.specs.Limits.{Covers};
+ghost use Rattle.connection.specs.Heard.{AreCarried, Grows};
 ghost use Rattle.connection.specs.Methods.{AreKnownBy};
 ghost use Rattle.connection.specs.Puts.{IsOwn, IsSame};
-ghost use Rattle.connection.specs.Readers.{ActsAlone, Does, Follows, FollowsWith, HasFollowed};
+ghost use Rattle.connection.specs.Readers.{
+  ActsAlone,
+  Does,
+  Follows,
+  FollowsWith,
+  HasFollowed,
+  HasReadOut,
+};
 
 mod end;
 mod streams;
@@ -130,18 +135,11 @@ where
             M.known M.names }
         requires uncounted { (intake.old.calls ≡ 0) × (intake.old.came ≡ 0) }
         ensures grows { Grows self.old.reading self.new.reading }
-        ensures heard { (sent : List SentItems) → AreCarried sent (taken self.new.reading.home)
+        ensures read { (sent : List SentItems) → AreCarried sent (taken self.new.reading.home)
             → HasFollowed M.known M.names sent [] self.old
             → (came : List ℕ) × Consumes (I.remaining input.old) (I.remaining input.new) came
-            × ((told : List Step) × HasRead M.known M.names sent result came told
-            self.new.reading self.new.orders × Covers told intake.new) }
-        ensures failed { (sent : List SentItems) → AreCarried sent (taken self.new.reading.home)
-            → HasFollowed M.known M.names sent [] self.old
-            → result ≡ ending.ReadFailed → I.failed input.new ≡ true }
-        ensures over { (sent : List SentItems) → AreCarried sent (taken self.new.reading.home)
-            → HasFollowed M.known M.names sent [] self.old
-            → IsOfInput result → self.new.orders.has_stopped ≡ false
-            → IsAtEnd (I.remaining input.new) }
+            × HasReadOut M.known M.names sent result came (I.remaining input.new)
+            (I.failed input.new) intake.new self.new }
     {
         let mut core = InCore::new(self.alloc);
         let rt = self.rt;

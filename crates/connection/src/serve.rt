@@ -20,7 +20,7 @@ ghost use Rattle.std.specs.Prelude.{
   length,
   true,
 };
-ghost use Rattle.std.specs.Io.KnownBytes.{Consumes, IsAtEnd};
+ghost use Rattle.std.specs.Io.KnownBytes.{Consumes};
 ghost use Rattle.callparts.specs.Blocks.{items_of};
 ghost use Rattle.callparts.specs.declared.report.Ending.TheVariants as ending;
 ghost use Rattle.handlers.specs.Listed.{listed};
@@ -30,11 +30,10 @@ ghost use Rattle.readerloop.specs.Readings.{Reads};
 ghost use Rattle.readerloop.specs.Reports.{AreAccounts};
 ghost use Rattle.readerloop.specs.Steps.{Step, reported};
 ghost use Rattle.connection.specs.Endings.{ended_by, unless_lacked};
-ghost use Rattle.connection.specs.Heard.{AreCarried, HasRead, Hears, IsOfInput};
-ghost use Rattle.connection.specs.Limits.{Covers};
+ghost use Rattle.connection.specs.Heard.{AreCarried, Hears};
 ghost use Rattle.connection.specs.Methods.{AreKnownBy, answers_of, paths_of};
 ghost use Rattle.connection.specs.Puts.{put_of};
-ghost use Rattle.connection.specs.Readers.{HasFollowed};
+ghost use Rattle.connection.specs.Readers.{HasFollowed, HasReadOut};
 ghost use Rattle.connection.specs.Rest.{CarriesOpen, CarriesRest};
 ghost use Rattle.connection.specs.Served.{IsServed};
 
@@ -474,11 +473,8 @@ where
     // The connection is served, whatever was heard, for the senders that came back by then. The
     // report has an account for each call that was admitted.
     ensures served { (sent : List SentItems) × AreCarried sent (taken reader.reading.home)
-        × ((came : List ℕ) (rest : Option (List ℕ)) (told : List Step) (read_failed : Bool)
-        → HasRead M.known M.names sent read came told reader.reading reader.orders
-        → Covers told intake
-        → (read ≡ ending.ReadFailed → read_failed ≡ true)
-        → (IsOfInput read → reader.orders.has_stopped ≡ false → IsAtEnd rest)
+        × ((came : List ℕ) (rest : Option (List ℕ)) (read_failed : Bool)
+        → HasReadOut M.known M.names sent read came rest read_failed intake reader
         → IsServed (λ calls. items_of calls.full calls.last) O.contents O.failed M.known M.names
         came rest (O.contents writing.promise.device.value) read_failed result.report.ending
         result.report.calls result.output

@@ -44,7 +44,7 @@ returns g c =
         gave-there known names (λ (calls : Accounts). items_of calls.full calls.last) contents
             failed reading mid old orders c.end.ensures.grows c.end.ensures.ended c.requires.heard
             before amount took written.senders told written.device sent is.came is.obeyed,
-        λ came rest heard read_failed has covers unread over. (
+        λ came rest read_failed has. (
           served-by known names (λ (calls : Accounts). items_of calls.full calls.last) contents
               failed came rest before read_failed report.ending report.calls written.device
               c.meet_writer.result.output is.output
@@ -52,18 +52,19 @@ returns g c =
               (λ (calls : Accounts). items_of calls.full calls.last) contents failed reading
               mid old orders c.end.ensures.grows c.end.ensures.ended c.requires.heard before
               amount took written.senders told written.device sent is.came is.obeyed
-              c.args.read report.ending report.calls came rest heard read_failed
+              c.args.read report.ending report.calls came rest has.told read_failed
               (λ (unbroken : c.args.read ≢ WriteFailed).
               subst (λ (ending : Ending). Meets c.args.read ending told orders.has_dropped)
               (sym is.ending) (meets c.args.read written.ending orders.has_dropped unbroken))
-              is.accounts has (omega (arith, c.audit.ensures.within, covers.came)) unread over
+              is.accounts has.read (omega (arith, c.audit.ensures.within, has.covered.came))
+              has.failed has.over
               (λ stopped none. is.halted stopped (untold written.ending none))),
-          le_trans covers.calls
+          le_trans has.covered.calls
               (ended-accounted known names
               (λ (calls : Accounts). items_of calls.full calls.last) contents failed reading mid
               old orders c.end.ensures.grows c.end.ensures.ended c.requires.heard before amount
               took written.senders told written.device sent is.came is.obeyed
-              report.calls heard is.accounts has.reads),
+              report.calls has.told is.accounts has.read.reads),
         ),
       );
     }
