@@ -29,7 +29,7 @@ ghost use Rattle.readerloop.specs.Calls.{SentItems, carried_in};
 ghost use Rattle.readerloop.specs.Readings.{Reads};
 ghost use Rattle.readerloop.specs.Reports.{AreAccounts};
 ghost use Rattle.readerloop.specs.Steps.{Step, reported};
-ghost use Rattle.connection.specs.Endings.{ended_by, unless_lacked};
+ghost use Rattle.connection.specs.Endings.{EndsAs, ended_by, unless_lacked};
 ghost use Rattle.connection.specs.Heard.{AreCarried, Hears};
 ghost use Rattle.connection.specs.Methods.{AreKnownBy, answers_of, paths_of};
 ghost use Rattle.connection.specs.Puts.{put_of};
@@ -520,10 +520,8 @@ where
         → AreAccounts M.known M.names (carried_in sent) told (reported told)
         (items_of result.report.calls.full result.report.calls.last) }
     ensures output { result.output ≡ written.device }
-    ensures ending { result.report.ending
-        ≡ ended_by read written.ending reader.orders.has_dropped }
-    ensures halted { reader.orders.has_stopped ≡ true → written.ending ≡ None
-        → reader.orders.has_dropped ≡ true }
+    ensures ends { EndsAs read written.ending reader.orders.has_stopped reader.orders.has_dropped
+        result.report.ending }
 {
     let WriterResult {
         ending,
@@ -559,8 +557,8 @@ where
     ensures obeyed { IsPrefix (taken rx) (put_of orders) }
     ensures output { result.output ≡ output }
     ensures calls { result.report.calls ≡ calls }
-    ensures ending { result.report.ending ≡ ended_by read written orders.has_dropped }
-    ensures halted { orders.has_stopped ≡ true → written ≡ None → orders.has_dropped ≡ true }
+    ensures ends { EndsAs read written orders.has_stopped orders.has_dropped
+        result.report.ending }
 {
     let (has_dropped, has_stopped) = (orders.has_dropped, orders.has_stopped);
     orders.meet(rx);

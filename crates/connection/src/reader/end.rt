@@ -1,7 +1,7 @@
 //! What the reading thread takes back of calls, and how it ends.
 
 ghost use mathlib.Core.List.{IsPrefix};
-ghost use Rattle.std.specs.Prelude.{◌≡◌, ◌++◌, ◌∷◌, List, [], IfSome, true};
+ghost use Rattle.std.specs.Prelude.{◌≡◌, ◌++◌, ◌∷◌, List, [], None, IfSome, true};
 ghost use Rattle.lane.specs.Ring.{in_name, out_name, put_in, taken};
 ghost use Rattle.callparts.specs.Blocks.{items_of};
 ghost use Rattle.readerloop.specs.Calls.{SentItems, carried_in};
@@ -11,7 +11,7 @@ ghost use Rattle.readerloop.specs.Reports.{AreAccounts};
 ghost use Rattle.readerloop.specs.Steps.{Step, reported};
 ghost use Rattle.connection.specs.Heard.{AreCarried, Collects, Grows, HasEnded};
 ghost use Rattle.outwriter.specs.declared.control.WriterOrder.TheVariants as orders;
-ghost use Rattle.connection.specs.Puts.{put_of};
+ghost use Rattle.connection.specs.Puts.{DropsNone, put_of};
 ghost use Rattle.connection.specs.Readers.{ActsAlone};
 ghost use Rattle.connection.specs.Rest.{CarriesOpen, CarriesRest};
 
@@ -79,9 +79,7 @@ where
         ensures collects { Collects M.known M.names self.old.reading self.new.reading }
         ensures put { put_of self.new.orders ≡ put_of self.old.orders ++ orders.Close ∷ [] }
         ensures none_left { self.new.orders.backlog.items ≡ [] }
-        ensures stopped { self.new.orders.has_stopped ≡ self.old.orders.has_stopped }
-        ensures dropped { self.new.orders.has_dropped ≡ self.old.orders.has_dropped }
-        ensures unput { self.new.orders.unput ≡ self.old.orders.unput }
+        ensures drops { DropsNone self.old.orders self.new.orders }
     {
         let rt = self.rt;
         'tries: for _ in rt.forever() {
@@ -110,10 +108,7 @@ where
             → Reads M.known M.names (carried_in sent) told self.reading
             → AreAccounts M.known M.names (carried_in sent) told (reported told)
             (items_of result.0.full result.0.last) }
-        ensures outbox { result.1.outbox ≡ self.orders.outbox }
-        ensures backlog { result.1.backlog ≡ self.orders.backlog }
-        ensures stopped { result.1.has_stopped ≡ self.orders.has_stopped }
-        ensures dropped { result.1.has_dropped ≡ self.orders.has_dropped }
+        ensures orders { result.1 ≡ record self.orders { unput = None } }
     {
         let mut reader = self;
         reader.take_unput();
@@ -136,10 +131,7 @@ where
             → IfSome self.old.orders.unput (CarriesOpen sent)
             → Reads M.known M.names (carried_in sent) told self.old.reading
             → Reads M.known M.names (carried_in sent) told self.new.reading }
-        ensures outbox { self.new.orders.outbox ≡ self.old.orders.outbox }
-        ensures backlog { self.new.orders.backlog ≡ self.old.orders.backlog }
-        ensures stopped { self.new.orders.has_stopped ≡ self.old.orders.has_stopped }
-        ensures dropped { self.new.orders.has_dropped ≡ self.old.orders.has_dropped }
+        ensures orders { self.new.orders ≡ record self.old.orders { unput = None } }
     {
         if let Some(WriterOrder::Open(_, opening)) = self.orders.unput.take() {
             let OpeningCall { sending, .. } = opening;

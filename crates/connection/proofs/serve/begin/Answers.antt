@@ -53,7 +53,7 @@ returns-in-Err-clause-served g c = λ rest read_failed.
     let written = parted.written in
     let sent = c.in-Err.ensures.sent in
     let lacked : c.meet.result.report.ending ≡ OutOfMemory =
-    is.ending ∙ lacked-by written.ending c.start.new.orders.has_dropped in
+    is.ends.ending ∙ lacked-by written.ending c.start.new.orders.has_dropped in
     let left = orders_of (order_in written.senders.aside) ++ orders_of is.obeyed.0 in
     let all : put_orders c.start.new.orders ≡ orders_of sent.given ++ left =
     given-first sent.given (order_in written.senders.aside) (taken written.orders) is.obeyed.0

@@ -55,10 +55,10 @@ returns g c =
               c.args.read report.ending report.calls came rest has.told read_failed
               (λ (unbroken : c.args.read ≢ WriteFailed).
               subst (λ (ending : Ending). Meets c.args.read ending told orders.has_dropped)
-              (sym is.ending) (meets c.args.read written.ending orders.has_dropped unbroken))
+              (sym is.ends.ending) (meets c.args.read written.ending orders.has_dropped unbroken))
               is.accounts has.read (omega (arith, c.audit.ensures.within, has.covered.came))
               has.failed has.over
-              (λ stopped none. is.halted stopped (untold written.ending none))),
+              (λ stopped none. is.ends.halted stopped (untold written.ending none))),
           le_trans has.covered.calls
               (ended-accounted known names
               (λ (calls : Accounts). items_of calls.full calls.last) contents failed reading mid

@@ -27,7 +27,7 @@ returns-in-Err-clause-sent g c =
 pub returns-in-Err-clause-put : goal.returns-in-Err-clause-put
 returns-in-Err-clause-put g c = λ ordered.
     closed-behind (InputEnded ∷ []) c.put.new.self c.close.new.self c.close.ensures.put
-    c.close.ensures.dropped c.close.ensures.unput
+    c.close.ensures.drops.dropped c.close.ensures.drops.unput
     (ordered-put [] InputEnded c.args.orders.now c.put.new.self c.put.ensures.puts tt ordered)
 
 pub spawn_with-requires-clause-keeps : goal.spawn_with-requires-clause-keeps

@@ -20,9 +20,9 @@ returns-clause-ended g c = λ sent told carried reads.
     (collects-then _ _ _ (collects-seats _ _ c.end.ensures.rest) (collects-then _ _ _
     (collects-seats _ _ c.join_all.ensures.reading) c.close.ensures.collects)) in
     let same : c.close.new.self.orders.has_stopped ≡ c.put.new.self.has_stopped =
-    c.close.ensures.stopped
+    c.close.ensures.drops.stopped
     ∙ (ap (λ orders. orders.has_stopped) c.join_all.ensures.orders
-    ∙ c.wake_writer.ensures.stopped) in (
+    ∙ c.wake_writer.ensures.same.4) in (
       cuts.0,
       record {
         silent = cuts.1.silent;
@@ -32,16 +32,11 @@ returns-clause-ended g c = λ sent told carried reads.
         ordered = λ ordered.
             let all = orders_by (cuts.0 ++ told) ++ InputEnded ∷ [] in
             closed-behind all c.join_all.new.self.orders c.close.new.self.orders c.close.ensures.put
-            c.close.ensures.dropped c.close.ensures.unput
+            c.close.ensures.drops.dropped c.close.ensures.drops.unput
             (ordered-same all c.wake_writer.new.self c.join_all.new.self.orders
             (same-of c.wake_writer.new.self c.join_all.new.self.orders c.join_all.ensures.orders)
-            (ordered-same all c.put.new.self c.wake_writer.new.self (
-              c.wake_writer.ensures.outbox,
-              c.wake_writer.ensures.dropped,
-              c.wake_writer.ensures.unput,
-              c.wake_writer.ensures.backlog,
-              c.wake_writer.ensures.stopped,
-            )
+            (ordered-same all c.put.new.self c.wake_writer.new.self
+            c.wake_writer.ensures.same
             (ordered-put (orders_by (cuts.0 ++ told)) _ c.cut_all.new.self.orders c.put.new.self
             c.put.ensures.puts tt (cuts.1.ordered ordered))));
         stops = λ was. same ∙ c.put.ensures.stops (cuts.1.stops was);
