@@ -11,3 +11,4 @@ pub mod Causes
 pub mod News
 pub mod Methods
 pub mod Readers
+pub mod History
