@@ -1,11 +1,18 @@
 -- What the reader of a connection has followed: the words of `Heard`, of the reader before and
 -- after.
-use Rattle.std.specs.Prelude.{◌≡◌, ℕ, Bool, true, false, List, Option}
+use Rattle.std.specs.Prelude.{◌≡◌, ℕ, Bool, true, false, List, [], Option, Some}
 use Rattle.std.specs.Io.KnownBytes.{IsAtEnd}
+use Rattle.lane.specs.Ring.{in_name, out_name, taken}
+use Rattle.lane.specs.RingEnds.{RingName}
+use Rattle.lane.specs.declared.ring.RingIn.{RingIn}
+use Rattle.lane.specs.declared.ring.RingOut.{RingOut}
+use Rattle.callparts.specs.declared.order.OpeningCall.{OpeningCall}
+use Rattle.callparts.specs.declared.order.ReturningCall.{ReturningCall}
 use Rattle.callparts.specs.declared.register.Naming.{Ghosts as Naming}
 use Rattle.callparts.specs.declared.report.Ending.{Ending}
 use Rattle.callparts.specs.declared.report.Ending.TheVariants.{ReadFailed}
 use Rattle.handlers.specs.declared.step.MethodStep.{MethodStep as Answer}
+use Rattle.outwriter.specs.declared.control.WriterOrder.{WriterOrder}
 use Rattle.session.specs.declared.event.InEvent.{InEvent}
 use Rattle.readerloop.specs.declared.decision.Decision.{Decision}
 use Rattle.readerloop.specs.Calls.{SentItems}
@@ -57,3 +64,15 @@ module _ {A B C J M N R G : Type 0} {book : Naming J} {route : Ghosts N}
     pub failed : end ≡ ReadFailed → read_failed ≡ true
     -- the input is at its end where the connection ended with it, and the writer didn't stop
     pub over : IsOfInput end → reader.orders.has_stopped ≡ false → IsAtEnd rest
+
+  -- A connection has begun: its reader has followed nothing yet, and counted nothing; it shares this
+  -- ring of orders and this ring of senders with the writer. The device is as it was before.
+  pub record HasBegun (ring : Option RingName) (before now : Option (List ℕ))
+      (taking : RingOut (WriterOrder (OpeningCall J book))) (home : RingIn (ReturningCall J book))
+      (tally : Tally) (reader : Reader A B C J M N R G book route) : Type 0 where
+    pub kept : (sent : List SentItems) → HasFollowed sent [] reader
+    pub none_home : taken reader.reading.home ≡ []
+    pub uncounted : (tally.calls ≡ 0) × (tally.came ≡ 0)
+    pub device : now ≡ before
+    pub route : ring ≡ Some (out_name taking)
+    pub way : out_name reader.reading.home ≡ in_name home

@@ -33,7 +33,7 @@ ghost use Rattle.connection.specs.Endings.{EndsAs, ended_by, unless_lacked};
 ghost use Rattle.connection.specs.Heard.{AreCarried, Hears};
 ghost use Rattle.connection.specs.Methods.{AreKnownBy, answers_of, paths_of};
 ghost use Rattle.connection.specs.Puts.{put_of};
-ghost use Rattle.connection.specs.Readers.{HasFollowed, HasReadOut};
+ghost use Rattle.connection.specs.Readers.{HasBegun, HasReadOut};
 ghost use Rattle.connection.specs.Rest.{CarriesOpen, CarriesRest};
 ghost use Rattle.connection.specs.Served.{IsServed};
 
@@ -378,17 +378,9 @@ where
     requires unused { (put_in rings.orders.0 ≡ []) × (taken rings.orders.1 ≡ []) }
     requires unsent { (put_in rings.senders.0 ≡ []) × (taken rings.senders.1 ≡ []) }
     requires book { register.seen.book ≡ J.book }
-    ensures kept { IfOk result (λ begun. (sent : List SentItems)
-        → HasFollowed M.known M.names sent [] begun.reader) }
-    ensures none_home { IfOk result (λ begun. taken begun.reader.reading.home ≡ []) }
-    ensures uncounted { IfOk result (λ begun. (begun.intake.calls ≡ 0)
-        × (begun.intake.came ≡ 0)) }
-    ensures device { IfOk result (λ begun. O.contents begun.writing.promise.device.value
-        ≡ O.contents output) }
-    ensures route { IfOk result (λ begun. N.ring
-        ≡ Some (out_name begun.writing.promise.orders.value)) }
-    ensures way { IfOk result (λ begun. out_name begun.reader.reading.home
-        ≡ in_name begun.writing.promise.home.value) }
+    ensures begun { IfOk result (λ begun. HasBegun M.known M.names N.ring (O.contents output)
+        (O.contents begun.writing.promise.device.value) begun.writing.promise.orders.value
+        begun.writing.promise.home.value begun.intake begun.reader) }
     ensures served { IfErr result (λ served. (rest : Option (List ℕ)) (read_failed : Bool)
         → IsServed
         (λ calls. items_of calls.full calls.last) O.contents O.failed M.known M.names

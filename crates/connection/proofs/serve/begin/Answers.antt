@@ -2,7 +2,7 @@ use Rattle.std.proofs.Common.{◌≡◌, ◌≢◌, ◌∙◌, ◌++◌, arith, 
 use Rattle.callparts.specs.Blocks.{items_of}
 use Rattle.callparts.specs.declared.report.Ending.{Ending}
 use Rattle.callparts.specs.declared.report.Ending.TheVariants.{Drained, OutOfMemory, WriteFailed}
-use Rattle.lane.specs.Ring.{taken}
+use Rattle.lane.specs.Ring.{in_name, out_name, taken}
 use Rattle.outwriter.specs.declared.control.WriterOrder.TheVariants.{InputEnded}
 use Rattle.writerloop.specs.Endings.{ending_told}
 use Rattle.writerloop.specs.Orders.{order_in, orders_of}
@@ -28,13 +28,26 @@ not-drained one lacked drained = cc
 spare : {P : Type 0} (one : Ending) → one ≡ OutOfMemory → (Some one ≢ Some OutOfMemory) → P
 spare one lacked other = absurd (other (ap Some lacked))
 
-pub returns-in-Ok-start-clause-kept : goal.returns-in-Ok-start-clause-kept
-returns-in-Ok-start-clause-kept g c = λ sent.
-    kept-none sent _ _ (c.new-in-Ok-start.ensures.reads sent)
-    (ap put_of (c.new-in-Ok-start.ensures.orders ∙ c.in-Ok-start.ensures.same)
-    ∙ c.new-orders.ensures.put c.requires.unused.0)
-    (ap (λ orders. orders.unput) (c.new-in-Ok-start.ensures.orders ∙ c.in-Ok-start.ensures.same)
-    ∙ c.new-orders.ensures.unput)
+pub returns-in-Ok-start-clause-begun : goal.returns-in-Ok-start-clause-begun
+returns-in-Ok-start-clause-begun g c =
+    let begun = c.in-Ok-start.ensures.begun in
+    let orders = c.new-in-Ok-start.ensures.orders ∙ c.in-Ok-start.ensures.same in
+    record {
+      kept = λ sent.
+          kept-none sent _ _ (c.new-in-Ok-start.ensures.reads sent)
+          (ap put_of orders ∙ c.new-orders.ensures.put c.requires.unused.0)
+          (ap (λ orders. orders.unput) orders ∙ c.new-orders.ensures.unput);
+      none_home = ap taken c.new-in-Ok-start.ensures.home ∙ c.requires.unsent.1;
+      uncounted = (
+        c.new-intake.ensures.calls ∙ c.requires.calls.2,
+        c.new-intake.ensures.came ∙ c.requires.came.2,
+      );
+      device = begun.2;
+      route = c.requires.rings.0 ∙ ap Some (c.requires.rings.1 ∙ sym (ap out_name begun.0));
+      way =
+          ap out_name c.new-in-Ok-start.ensures.home
+          ∙ (sym c.requires.rings.2 ∙ sym (ap in_name begun.1));
+    }
 
 pub returns-in_default-clause-served : goal.returns-in_default-clause-served
 returns-in_default-clause-served g c = λ rest read_failed.
@@ -70,7 +83,7 @@ returns-in-Err-clause-served g c = λ rest read_failed.
     absurd (not-drained c.meet.result.report.ending lacked
     (drained-is c.meet.result.report.ending drained))) in
     let ordered = closed-put (InputEnded ∷ []) c.start.new.orders
-    (c.in-Err.ensures.put (ordered-none c.new-orders.result
+    (c.in-Err.ensures.closed.1 (ordered-none c.new-orders.result
     (c.new-orders.ensures.put c.requires.unused.0) c.new-orders.ensures.unput)) in
     served-by _ _ (λ calls. items_of calls.full calls.last) contents failed _ rest _
     _ _ _ _ _ is.output

@@ -24,11 +24,14 @@ returns-in-Err-clause-sent g c =
     parted.written.senders (ending_told parted.written.ending) parted.written.device)
     (ap contents c.of.ensures) kept
 
-pub returns-in-Err-clause-put : goal.returns-in-Err-clause-put
-returns-in-Err-clause-put g c = λ ordered.
-    closed-behind (InputEnded ∷ []) c.put.new.self c.close.new.self c.close.ensures.put
-    c.close.ensures.drops.dropped c.close.ensures.drops.unput
-    (ordered-put [] InputEnded c.args.orders.now c.put.new.self c.put.ensures.puts tt ordered)
+pub returns-in-Err-clause-closed : goal.returns-in-Err-clause-closed
+returns-in-Err-clause-closed g c = (
+  c.close.ensures.none_left,
+  λ ordered.
+      closed-behind (InputEnded ∷ []) c.put.new.self c.close.new.self c.close.ensures.put
+      c.close.ensures.drops.dropped c.close.ensures.drops.unput
+      (ordered-put [] InputEnded c.args.orders.now c.put.new.self c.put.ensures.puts tt ordered),
+)
 
 pub spawn_with-requires-clause-keeps : goal.spawn_with-requires-clause-keeps
 spawn_with-requires-clause-keeps g c = λ κs within r claims.
