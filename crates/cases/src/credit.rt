@@ -16,7 +16,7 @@ ghost use Rattle.std.specs.Prelude.{◌≡◌, ◌<◌, ◌≤◌, IsSome, OnOk,
 ghost use Rattle.flow.specs.Books.{call_at, window_of};
 ghost use Rattle.cases.specs.Windows.{IsPast};
 
-use figures::{ByteCount, GroupedNumber};
+use crate::phrase::{Value, write_phrase};
 use flow::{Book, BookFault};
 use h2frame::{MAX_PAYLOAD, StreamId};
 use std::alloc::Global;
@@ -249,40 +249,33 @@ impl fmt::Display for WindowViolation {
                 stream,
                 length,
                 window,
-            } => {
-                let (length, window) = (
-                    ByteCount(u64::from(length)),
-                    GroupedNumber(u64::from(window)),
-                );
-                write!(
-                    f,
-                    "DATA of {length} on stream {stream} exceeds its window of {window} (RFC 9113, 6.9.1)"
-                )
-            }
-            WindowViolation::Connection { length, window } => {
-                let (length, window) = (
-                    ByteCount(u64::from(length)),
-                    GroupedNumber(u64::from(window)),
-                );
-                write!(
-                    f,
-                    "DATA of {length} exceeds the connection's window of {window} (RFC 9113, 6.9.1)"
-                )
-            }
-            WindowViolation::Overflow { stream, increment } => {
-                let increment = GroupedNumber(u64::from(increment));
-                write!(
-                    f,
-                    "WINDOW_UPDATE of {increment} on stream {stream} takes its window past 2,147,483,647 (RFC 9113, 6.9.1)"
-                )
-            }
-            WindowViolation::InitialOverflow { size } => {
-                let size = GroupedNumber(u64::from(size));
-                write!(
-                    f,
-                    "SETTINGS_INITIAL_WINDOW_SIZE of {size} takes a window past 2,147,483,647 (RFC 9113, 6.9.2)"
-                )
-            }
+            } => write_phrase(
+                f,
+                "DATA of {} on stream {} exceeds its window of {} (RFC 9113, 6.9.1)",
+                &[
+                    Value::Bytes(u64::from(length)),
+                    Value::Stream(stream),
+                    Value::Grouped(u64::from(window)),
+                ],
+            ),
+            WindowViolation::Connection { length, window } => write_phrase(
+                f,
+                "DATA of {} exceeds the connection's window of {} (RFC 9113, 6.9.1)",
+                &[
+                    Value::Bytes(u64::from(length)),
+                    Value::Grouped(u64::from(window)),
+                ],
+            ),
+            WindowViolation::Overflow { stream, increment } => write_phrase(
+                f,
+                "WINDOW_UPDATE of {} on stream {} takes its window past 2,147,483,647 (RFC 9113, 6.9.1)",
+                &[Value::Grouped(u64::from(increment)), Value::Stream(stream)],
+            ),
+            WindowViolation::InitialOverflow { size } => write_phrase(
+                f,
+                "SETTINGS_INITIAL_WINDOW_SIZE of {} takes a window past 2,147,483,647 (RFC 9113, 6.9.2)",
+                &[Value::Grouped(u64::from(size))],
+            ),
         }
     }
 }
