@@ -52,7 +52,7 @@ pub enum WindowViolation {
 }
 
 /// How the client gives credit.
-#[derive(Clone, Copy, Debug, PartialEq, Eq)]
+#[derive(Clone, Copy, PartialEq, Eq)]
 pub enum Windows {
     /// It lets the windows run low first, so that a server is seen to keep each.
     Held,

@@ -169,12 +169,6 @@ impl<T: Drop> From<AllocFailed<T>> for Fault {
     }
 }
 
-impl From<Violation> for Fault {
-    fn from(violation: Violation) -> Fault {
-        Fault::Violation(violation)
-    }
-}
-
 impl From<FrameViolation> for Fault {
     fn from(violation: FrameViolation) -> Fault {
         Fault::Violation(Violation::Frame(violation))
@@ -208,23 +202,5 @@ impl From<PingViolation> for Fault {
 impl From<BlockViolation> for Fault {
     fn from(violation: BlockViolation) -> Fault {
         Fault::Violation(Violation::Block(violation))
-    }
-}
-
-impl From<StatusFault> for Fault {
-    fn from(fault: StatusFault) -> Fault {
-        Fault::Status(fault)
-    }
-}
-
-impl From<ReplyFault> for Fault {
-    fn from(fault: ReplyFault) -> Fault {
-        Fault::Reply(fault)
-    }
-}
-
-impl From<EchoFault> for Fault {
-    fn from(fault: EchoFault) -> Fault {
-        Fault::Echo(fault)
     }
 }

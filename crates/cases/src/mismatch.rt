@@ -216,17 +216,15 @@ impl fmt::Display for ReplyFault {
                 reply,
                 length,
                 fault,
-            } => {
-                write_phrase(
-                    f,
-                    "reply {}: no message in {}: ",
-                    &[
-                        Value::Number(reply as u64),
-                        Value::Bytes(length as u64),
-                    ],
-                )?;
-                fault.fmt(f)
-            }
+            } => write_phrase(
+                f,
+                "reply {}: no message in {}: {}",
+                &[
+                    Value::Number(reply as u64),
+                    Value::Bytes(length as u64),
+                    Value::Proto(fault),
+                ],
+            ),
             ReplyFault::Flag { reply, flag } => write_phrase(
                 f,
                 "reply {}: its flag is {}, wanted 00 (gRPC over HTTP/2, Length-Prefixed-Message)",

@@ -5,8 +5,10 @@
 
 use figures::{ByteCount, ErrorName, FrameName, GroupedNumber, KindName, section_of};
 use h2frame::{FrameHead, FrameKind, StreamId};
+use hpack_codec::HpackFault;
 use std::fmt;
 use std::fmt::Display;
+use testproto::ProtoFault;
 
 /// A value in a sentence.
 #[derive(Clone, Copy)]
@@ -32,6 +34,10 @@ pub enum Value<'a> {
     Code(u32),
     /// The name of an error code.
     Error(u32),
+    /// What is wrong with a header block.
+    Hpack(HpackFault),
+    /// What is wrong with a message.
+    Proto(ProtoFault),
 }
 
 impl<'a> Value<'a> {
@@ -65,6 +71,8 @@ impl<'a> fmt::Display for Value<'a> {
             Value::Kind(kind) => KindName(kind).fmt(f),
             Value::Code(code) => write!(f, "{code}"),
             Value::Error(code) => ErrorName(code).fmt(f),
+            Value::Hpack(fault) => fault.fmt(f),
+            Value::Proto(fault) => fault.fmt(f),
         }
     }
 }

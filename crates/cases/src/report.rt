@@ -13,7 +13,7 @@ use std::alloc::{AllocError, AllocFailed, Global};
 use std::io::Write;
 
 /// What came of a case.
-#[derive(Clone, Copy, Debug, PartialEq, Eq)]
+#[derive(Clone, Copy)]
 pub struct Outcome {
     pub case: Case,
     pub answer: Result<(), CaseFault>,
@@ -29,7 +29,7 @@ impl Outcome {
 }
 
 /// Why cases were not reported.
-#[derive(Clone, Copy, Debug, PartialEq, Eq)]
+#[derive(Clone, Copy)]
 pub enum ReportFault {
     /// A line could not be written.
     WriteFailed,

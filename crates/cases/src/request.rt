@@ -9,7 +9,7 @@ use testproto::{
 };
 
 /// A status that the server is asked to end a call with.
-#[derive(Clone, Copy, Debug)]
+#[derive(Clone, Copy)]
 pub struct AskedStatus {
     pub code: i32,
     pub text: &'static str,

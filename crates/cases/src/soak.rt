@@ -19,7 +19,7 @@ use h2frame::StreamId;
 use std::alloc::Global;
 
 /// A soak.
-#[derive(Clone, Copy, Debug, PartialEq, Eq)]
+#[derive(Clone, Copy, PartialEq, Eq)]
 pub enum Soak {
     /// Its calls share a connection.
     Rpc,
@@ -56,7 +56,7 @@ impl Soak {
 }
 
 /// What a call of a soak asks.
-#[derive(Clone, Copy, Debug, PartialEq, Eq)]
+#[derive(Clone, Copy)]
 pub struct SoakSizes {
     /// How many bytes the body of a request and that of a response has.
     pub request: usize,

@@ -126,15 +126,16 @@ impl fmt::Display for BlockViolation {
                 stream,
                 length,
                 fault,
-            } => {
-                write_phrase(
-                    f,
-                    "the header block of stream {}, of {}: ",
-                    &[Value::Stream(stream), Value::Bytes(length as u64)],
-                )?;
-                fault.fmt(f)?;
-                write_phrase(f, " ({})", &[Value::Text(section_of(fault))])
-            }
+            } => write_phrase(
+                f,
+                "the header block of stream {}, of {}: {} ({})",
+                &[
+                    Value::Stream(stream),
+                    Value::Bytes(length as u64),
+                    Value::Hpack(fault),
+                    Value::Text(section_of(fault)),
+                ],
+            ),
         }
     }
 }
