@@ -6,7 +6,7 @@ use results::Level;
 use std::alloc::{AllocError, Global};
 
 /// A case.
-#[derive(Clone, Copy, Debug)]
+#[derive(Clone, Copy)]
 pub struct Case {
     pub group: Group,
     /// Its place in the group, from 1 on.

@@ -23,7 +23,7 @@ use crate::server_settings::ServerSettings;
 use std::alloc::Global;
 
 /// For what the lines of a case are read.
-#[derive(Clone, Copy, Debug, PartialEq, Eq)]
+#[derive(Clone, Copy)]
 pub struct Reading {
     pub announced: ServerSettings,
     /// Whether without the fault.

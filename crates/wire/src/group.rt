@@ -3,7 +3,7 @@
 use crate::rows;
 
 /// What a group of cases is about.
-#[derive(Clone, Copy, Debug, PartialEq, Eq)]
+#[derive(Clone, Copy)]
 pub enum Group {
     /// The preface and the first frame.
     Start,

@@ -25,7 +25,7 @@ const KEPT_PINGS: usize = 1_000;
 const TOLD: usize = 4;
 
 /// A frame that came.
-#[derive(Clone, Copy, Debug, PartialEq, Eq)]
+#[derive(Clone, Copy)]
 pub struct SeenFrame {
     pub head: FrameHead,
     /// The error of RST_STREAM or GOAWAY.

@@ -14,7 +14,7 @@ use session::Parameter;
 use std::alloc::{AllocError, Global};
 
 /// The server's SETTINGS (RFC 9113, section 6.5.2); what it said nothing of has its first value.
-#[derive(Clone, Copy, Debug, PartialEq, Eq)]
+#[derive(Clone, Copy)]
 pub struct ServerSettings {
     pub table: u32,
     pub streams: Option<u32>,
@@ -24,7 +24,7 @@ pub struct ServerSettings {
 }
 
 /// A setting, as rows name it.
-#[derive(Clone, Copy, Debug, PartialEq, Eq)]
+#[derive(Clone, Copy)]
 enum Setting {
     Table,
     Streams,
@@ -34,14 +34,14 @@ enum Setting {
 }
 
 /// What a case needs of the server's SETTINGS.
-#[derive(Clone, Copy, Debug, PartialEq, Eq)]
+#[derive(Clone, Copy)]
 pub struct Need {
     setting: Setting,
     bound: Bound,
 }
 
 /// In what range a setting's value has to be.
-#[derive(Clone, Copy, Debug, PartialEq, Eq)]
+#[derive(Clone, Copy)]
 enum Bound {
     AtLeast(u64),
     AtMost(u64),

@@ -41,7 +41,7 @@ const FIRST_WINDOW: u64 = 65_535;
 const NO_PUSH: [u8; 6] = [0, 2, 0, 0, 0, 0];
 
 /// What a wait ended with.
-#[derive(Clone, Copy, Debug, PartialEq, Eq)]
+#[derive(Clone, Copy, PartialEq, Eq)]
 pub enum WaitEnd {
     Frame,
     /// Nothing came in time.
@@ -59,7 +59,7 @@ enum Next {
 }
 
 /// What is known of how far the server has read.
-#[derive(Clone, Copy, Debug, PartialEq, Eq)]
+#[derive(Clone, Copy, PartialEq, Eq)]
 enum Fence {
     /// Something was said after which no PING was sent.
     Open,
