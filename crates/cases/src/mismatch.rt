@@ -255,10 +255,7 @@ impl fmt::Display for EchoFault {
             EchoFault::Initial(Some(value)) => write_phrase(
                 f,
                 "x-grpc-test-echo-initial is {}, wanted {}",
-                &[
-                    Value::Quoted(value.as_str()),
-                    Value::Quoted(INITIAL_VALUE),
-                ],
+                &[Value::Quoted(value.as_str()), Value::Quoted(INITIAL_VALUE)],
             ),
             EchoFault::Trailing(None) => f.write_str(
                 "no x-grpc-test-echo-trailing-bin in the trailers, wanted \"q6ur\"",

@@ -69,7 +69,9 @@ pub enum Request<'a> {
         status: Option<AskedStatus>,
     },
     /// A part of what is summed up.
-    Input { body_len: usize },
+    Input {
+        body_len: usize,
+    },
 }
 
 impl<'a> Request<'a> {

@@ -185,10 +185,7 @@ fn run_calls<S: Line>(
     }
 }
 
-fn client_streaming<S: Line>(
-    connection: &mut Connection<S>,
-    call: &mut Call,
-) -> Result<(), Fault> {
+fn client_streaming<S: Line>(connection: &mut Connection<S>, call: &mut Call) -> Result<(), Fault> {
     call.begin(
         connection,
         FIRST,
@@ -377,10 +374,7 @@ fn timeout_on_sleeping_server<S: Line>(
 
 /// Two calls with one request, which has only the time, in nanoseconds. That both bodies are equal
 /// is up to a proxy that caches (gRPC's clients send GET for it), not to a server.
-fn cacheable_unary<S: Line>(
-    connection: &mut Connection<S>,
-    call: &mut Call,
-) -> Result<(), Fault> {
+fn cacheable_unary<S: Line>(connection: &mut Connection<S>, call: &mut Call) -> Result<(), Fault> {
     let plan = CallPlan {
         method: Method::CacheableUnaryCall,
         asked: HeadExtra::UserAddress,

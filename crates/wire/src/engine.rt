@@ -103,10 +103,7 @@ pub fn try_case<V: Server>(
 /// Whether the preface and SETTINGS are the case's own.
 fn is_bare(alloc: Global, case: Case, reading: &Reading) -> Result<bool, WireFault> {
     let script = read_script(alloc, case.script, reading)?;
-    Ok(matches!(
-        script.steps.as_slice().first(),
-        Some(WireStep::Bare)
-    ))
+    Ok(matches!(script.steps.as_slice().first(), Some(WireStep::Bare)))
 }
 
 /// Plays a case over a connection, and puts the lawful reactions into `lawful`.
