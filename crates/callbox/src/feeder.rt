@@ -118,12 +118,3 @@ impl<L: Lane<Item = InPiece>> Feeder<L> {
         FedShut { shut, kind, fed }
     }
 }
-
-impl<L: Lane<Item = InPiece>> FedShut<L> {
-    /// Whether the shut was put after the pieces.
-    pub fn placed(&self) -> bool
-        ensures { result ≡ L.was_placed self.now.shut }
-    {
-        L::placed(&self.shut)
-    }
-}

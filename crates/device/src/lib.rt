@@ -1,4 +1,4 @@
-//! The readers and writers of a connection, each with a mark of failure.
+//! The readers and writers of a connection, each of which remembers that it failed.
 //!
 //! A device says of a fault only that there was one, and remembers it by a mark that nothing
 //! clears. So a contract can demand of an answer "the input failed" that the mark of that reader is

@@ -1,4 +1,4 @@
-//! Names of frames and errors, numbers in words, and the rule that a field breaks.
+//! Names of frames and errors, numbers as text, and the rule that a field breaks.
 //!
 //! Read `numbers` for counts and lengths, `names` for frames and error codes (RFC 9113, sections 6
 //! and 7), `rules` for what is wanted of a frame by itself, `fields` for which rule a field breaks,

@@ -1,4 +1,4 @@
-//! Lists that contracts see as lists, and `Field`, a field of a header block.
+//! Bytes and sequences that contracts see as plain lists, and `Field`, a field of a header block.
 //!
 //! A definition speaks of a list of numbers; a program has a `Vec<u8>`, or bytes of its own text.
 //! The types of this crate are made from either without memory, and a clause sees only the list.

@@ -1,5 +1,5 @@
-//! Where the results of a run go while it goes on: standard output, files, and a line that counts
-//! on a terminal.
+//! Writes the results of a run to standard output and to files while it goes on, and counts on a
+//! terminal.
 //!
 //! - `sinks`: all of them, from the first case to the last.
 //! - `files`: what is written and read whole; `saved`: the bytes of a case that failed.

@@ -1,4 +1,4 @@
-//! The words of the command line, read by `clap`.
+//! Reads the arguments of the command line by `clap`.
 //!
 //! `read_words` reads them by `clap`; its contract is `clap`'s meaning of the command line that
 //! `specs/Words.antt` defines.

@@ -1,4 +1,4 @@
-//! Bytes that may end with zeros which take no memory, and a buffer that appends such zeros.
+//! Bytes whose trailing zeros take no memory, and a buffer that appends them.
 //!
 //! The payloads of this server are zeros. `zero_tail` has the bytes of a message: the first ones,
 //! and how many zeros follow. `zero_buffer` has the bytes that are to be written to a connection:
