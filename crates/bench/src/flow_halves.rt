@@ -1,11 +1,11 @@
 //! Judging frames by the receiving halves of their streams, where few are open and where many are.
 
 ghost use Rattle.std.specs.Prelude.{◌<◌};
-ghost use Rattle.flow.specs.Halves.{IsJudged};
+ghost use Rattle.streamstates.specs.Halves.{IsJudged};
 
 use crate::sizes::{number16, number32};
 use anyhow::Result;
-use flow::{FrameAction, Halves};
+use streamstates::{FrameAction, Halves};
 use h2frame::{Flags, FrameHead, FrameKind, StreamId};
 use std::alloc::{AllocError, Global};
 use std::rt::Clock;

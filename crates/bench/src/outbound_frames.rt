@@ -8,7 +8,7 @@ use account::OutItem;
 use anyhow::{Context, Result};
 use bytes::Bytes;
 use callbox::{Giver, InPiece, Sender, open_call};
-use flow::{INITIAL_WINDOW, MAX_WINDOW};
+use limits::{INITIAL_WINDOW, MAX_WINDOW};
 use h2frame::{PeerSetting, PeerSettings};
 use lane::RingLane;
 use lists::{Field, Octets, Sequence};

@@ -17,10 +17,10 @@ use crate::streams::Streams;
 use crate::violation::Violation;
 use bytes::Bytes;
 use device::write_all;
-use flow::SendWindows;
 use h2frame::{Frame, FrameHead, MAX_PAYLOAD, StreamId, write_frame};
 use hpack_codec::{Decoder, Encoder};
 use lists::Field;
+use sendwindows::SendWindows;
 use std::alloc::Global;
 use std::collections::VecDeque;
 

@@ -13,11 +13,11 @@
 //! server goes past them.
 
 ghost use Rattle.std.specs.Prelude.{◌≡◌, ◌<◌, ◌≤◌, IsSome, OnOk, IfErr};
-ghost use Rattle.flow.specs.Books.{call_at, window_of};
+ghost use Rattle.creditbook.specs.Books.{call_at, window_of};
 ghost use Rattle.cases.specs.Windows.{IsPast};
 
+use creditbook::{Book, BookFault};
 use figures::{ByteCount, GroupedNumber};
-use flow::{Book, BookFault};
 use h2frame::{MAX_PAYLOAD, StreamId};
 use std::alloc::Global;
 use std::fmt;

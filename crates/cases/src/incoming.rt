@@ -15,12 +15,12 @@ use crate::silence::WaitGoal;
 use crate::violation::{BlockViolation, Violation};
 use bytes::Bytes;
 use figures::shown;
-use flow::WindowFault;
 use h2frame::{
     Flags, Frame, FrameHead, FrameKind, MAX_PAYLOAD, PeerSetting, StreamId, increment, ping_bytes,
 };
 use hpack_codec::HpackFault;
 use lists::Field;
+use sendwindows::WindowFault;
 use session::{FragmentFault, HeaderBlock};
 
 /// The bytes of a parameter in SETTINGS.

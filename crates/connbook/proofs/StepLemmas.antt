@@ -39,10 +39,10 @@ use Rattle.std.specs.Option.{option_map_or}
 use Rattle.std.specs.Map.{lookup, keys_of, values_of}
 use Rattle.std.proofs.lemmas.Bool.Decides.{nat_tests}
 use Rattle.std.proofs.lemmas.List.Sums.{sum_by-cons}
-use Rattle.flow.specs.declared.book.Call.{Call}
-use Rattle.flow.specs.declared.book.fault.BookFault.{BookFault}
-use Rattle.flow.specs.declared.book.fault.BookFault.TheVariants as faults
-use Rattle.flow.specs.Books.{
+use Rattle.creditbook.specs.declared.book.Call.{Call}
+use Rattle.creditbook.specs.declared.book.fault.BookFault.{BookFault}
+use Rattle.creditbook.specs.declared.book.fault.BookFault.TheVariants as faults
+use Rattle.creditbook.specs.Books.{
   Books,
   IsLawful,
   IsLive,
@@ -61,8 +61,8 @@ use Rattle.flow.specs.Books.{
   unreturned,
   unreturned_of,
 }
-use Rattle.flow.proofs.Entries.{lookup-set}
-use Rattle.flow.proofs.BookLemmas.{live_at}
+use Rattle.limits.proofs.Entries.{lookup-set}
+use Rattle.creditbook.proofs.BookLemmas.{live_at}
 use Rattle.connbook.specs.declared.answers.Receipt.{Receipt}
 use Rattle.connbook.specs.declared.answers.Receipt.TheVariants.{Feed, Discard, CallWindow, Overrun}
 use Rattle.connbook.specs.Receipts.{receipt_of, receipt_on, counted_of, after_stop}

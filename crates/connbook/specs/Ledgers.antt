@@ -1,6 +1,6 @@
 -- What ledgers beside a credit book rest on.
 use Rattle.std.specs.Prelude.{◌≡◌, ℕ, ◌≤◌, Bool, true, length}
-use Rattle.flow.specs.Books.{Books, IsLawful}
+use Rattle.creditbook.specs.Books.{Books, IsLawful}
 
 -- A shared credit book while its lock is free: the law of the book; what came and was announced on
 -- the connection is what the ledgers count, and no more calls are live than were admitted; once the

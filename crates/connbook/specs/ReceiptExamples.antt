@@ -1,6 +1,6 @@
 -- Worked histories of a shared credit book.
 use Rattle.std.specs.Prelude.{◌≡◌, true, [], refl}
-use Rattle.flow.specs.Books.{new_book, after_admit, after_end_local}
+use Rattle.creditbook.specs.Books.{new_book, after_admit, after_end_local}
 use Rattle.connbook.specs.declared.answers.Receipt.TheVariants.{Feed, Discard, CallWindow, Overrun}
 use Rattle.connbook.specs.Receipts.{
   receipt_of,

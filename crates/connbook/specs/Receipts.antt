@@ -18,9 +18,9 @@ use Rattle.std.specs.Prelude.{
   length,
 }
 use Rattle.std.specs.Option.{option_map_or}
-use Rattle.flow.specs.declared.TheConstants.{MAX_LIVE}
-use Rattle.flow.specs.declared.book.Call.{Call}
-use Rattle.flow.specs.Books.{
+use Rattle.limits.specs.declared.TheConstants.{MAX_LIVE}
+use Rattle.creditbook.specs.declared.book.Call.{Call}
+use Rattle.creditbook.specs.Books.{
   Books,
   IsOdd,
   call_at,

@@ -20,7 +20,7 @@ ghost use Rattle.std.specs.Prelude.{
   OnErr,
 };
 ghost use Rattle.std.specs.Map.{keys_of};
-ghost use Rattle.flow.specs.Books.{
+ghost use Rattle.creditbook.specs.Books.{
   new_book,
   call_at,
   Meets,
@@ -47,7 +47,7 @@ ghost use Rattle.connbook.specs.declared.answers.AdmitFault.TheVariants as refus
 
 use crate::answers::{AdmitFault, Receipt};
 use crate::steps;
-use flow::{Book, BookFault};
+use creditbook::{Book, BookFault};
 use h2frame::StreamId;
 use std::alloc::Global;
 use std::sync::ledger;

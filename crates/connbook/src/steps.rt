@@ -13,7 +13,7 @@ ghost use Rattle.std.specs.Prelude.{
   OnOk,
   OnErr,
 };
-ghost use Rattle.flow.specs.Books.{
+ghost use Rattle.creditbook.specs.Books.{
   IsLawful,
   call_at,
   window_of,
@@ -37,7 +37,7 @@ ghost use Rattle.connbook.specs.Receipts.{
 ghost use Rattle.connbook.specs.Ledgers.{IsQuiet};
 
 use crate::answers::{AdmitFault, Receipt};
-use flow::{Book, MAX_LIVE};
+use creditbook::{Book, BookFault};
 use h2frame::StreamId;
 
 /// The receipt of `flow` bytes of DATA.
@@ -191,11 +191,9 @@ pub(crate) fn admit(book: &mut Book, id: StreamId) -> Result<(), AdmitFault>
     if id % 2 == 0 || id <= book.last() {
         return Err(AdmitFault::NotNew);
     }
-    if book.closing() {
-        return Err(AdmitFault::Draining);
-    }
-    if book.live() >= MAX_LIVE as u32 {
-        return Err(AdmitFault::TooMany);
-    }
-    book.admit(id).map_err(|_| AdmitFault::OutOfMemory)
+    book.admit(id).map_err(|fault| match fault {
+        BookFault::Draining => AdmitFault::Draining,
+        BookFault::TooMany => AdmitFault::TooMany,
+        _ => AdmitFault::OutOfMemory,
+    })
 }

@@ -23,12 +23,14 @@ use Rattle.std.proofs.Common.{
   refl,
   subst,
   sym,
+  ◌+◌,
 }
 use Rattle.std.specs.Prelude.{◌==◌, ◌||◌, if◌then◌else◌, length}
 use Rattle.std.specs.List.{list_any}
 use Rattle.std.proofs.lemmas.Bool.{eq-eqb}
 use Rattle.std.proofs.lemmas.List.{append_assoc}
 use Rattle.std.proofs.lemmas.List.Folds.{list_any-append}
+use Rattle.limits.specs.declared.TheConstants.{MAX_STREAMS}
 use Rattle.callhead.specs.declared.fault.HeadFault.{HeadFault}
 use Rattle.callhead.specs.declared.head.CallHead.{CallHead}
 use Rattle.callhead.specs.StatusFields.{refusal_of, unknown_method}
@@ -290,7 +292,7 @@ one-more step told order is =
 last-caused : (told : List Step) (id : ℕ) (draining : Bool) (before : List ℕ)
     → AreCaused told (last_stream id draining before)
 last-caused told id true before = tt
-last-caused told id false before = by (length before == 4095)
+last-caused told id false before = by ((1 + length before) == MAX_STREAMS)
   where
     by : (b : Bool) → AreCaused told (if b then Goaway id (reason.Code error.NoError) ∷ [] else [])
     by true = (tt, tt)

@@ -23,9 +23,11 @@ use Rattle.std.proofs.Common.{
   ap,
   refl,
   sym,
+  ◌+◌,
 }
 use Rattle.std.specs.Prelude.{◌||◌, length}
 use Rattle.std.specs.List.{list_any}
+use Rattle.limits.specs.declared.TheConstants.{MAX_STREAMS}
 use Rattle.callhead.specs.declared.fault.HeadFault.{HeadFault}
 use Rattle.callhead.specs.StatusFields.{refusal_of}
 use Rattle.connbook.specs.declared.answers.AdmitFault.TheVariants as refused
@@ -345,7 +347,7 @@ open-named id false = refl
 open-last : (id : ℕ) (draining : Bool) (ids : List ℕ)
     → list_any closes (last_stream id draining ids) ≡ false
 open-last id true ids = refl
-open-last id false ids = open-named id (length ids == 4095)
+open-last id false ids = open-named id ((1 + length ids) == MAX_STREAMS)
 
 open-event : (before : List Step) (event : InEvent) (fate : Fate)
     → list_any closes (orders_at before (Told event fate)) ≡ false
@@ -469,7 +471,7 @@ mild-named id false = refl
 mild-last : (id : ℕ) (draining : Bool) (ids : List ℕ)
     → list_any fails (last_stream id draining ids) ≡ false
 mild-last id true ids = refl
-mild-last id false ids = mild-named id (length ids == 4095)
+mild-last id false ids = mild-named id ((1 + length ids) == MAX_STREAMS)
 
 mild-event : (before : List Step) (event : InEvent) (fate : Fate) → ends_at (Told event fate) ≡ None
     → list_any fails (orders_at before (Told event fate)) ≡ false

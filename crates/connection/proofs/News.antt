@@ -21,6 +21,7 @@ use Rattle.std.proofs.Common.{
   filter,
   refl,
   sym,
+  ◌+◌,
 }
 use Rattle.std.specs.Prelude.{◌==◌, if◌then◌else◌, length, not}
 use Rattle.std.specs.List.{list_any}
@@ -29,6 +30,7 @@ use Rattle.std.proofs.lemmas.List.Elements.{filter-append}
 use Rattle.std.proofs.lemmas.Grind.{flat_map-append}
 use mathlib.Core.List.{IsPrefix}
 use Rattle.account.specs.Accounts.{Begins}
+use Rattle.limits.specs.declared.TheConstants.{MAX_STREAMS}
 use Rattle.callhead.specs.StatusFields.{refusal_of}
 use Rattle.callhead.specs.declared.fault.HeadFault.{HeadFault}
 use Rattle.connbook.specs.declared.answers.AdmitFault.TheVariants as refused
@@ -127,7 +129,7 @@ news-append first more = filter-append is_news first more
 last-news : (id : ℕ) (draining : Bool) (before : List ℕ)
     → news_in (last_stream id draining before) ≡ []
 last-news id true before = refl
-last-news id false before = by (length before == 4095)
+last-news id false before = by ((1 + length before) == MAX_STREAMS)
   where
     by : (b : Bool) → news_in (if b then Goaway id (reason.Code error.NoError) ∷ [] else []) ≡ []
     by true = refl

@@ -33,6 +33,7 @@ use Rattle.std.specs.List.{list_any}
 use Rattle.std.proofs.lemmas.Bool.{cases_Bool, eq-eqb}
 use Rattle.std.proofs.lemmas.Grind.{flat_map-append}
 use mathlib.Core.List.{IsPrefix}
+use Rattle.limits.specs.declared.TheConstants.{MAX_STREAMS}
 use Rattle.callhead.specs.declared.fault.HeadFault.{HeadFault}
 use Rattle.callhead.specs.StatusFields.{refusal_of}
 use Rattle.callparts.specs.declared.report.Ending.{Ending}
@@ -205,7 +206,7 @@ touches-append id orders more = omega
 last-none : (id stream : ℕ) (drains : Bool) (before : List ℕ)
     → touches id (last_stream stream drains before) ≡ 0
 last-none id stream true before = refl
-last-none id stream false before = by (length before == 4095)
+last-none id stream false before = by ((1 + length before) == MAX_STREAMS)
   where
     by : (b : Bool) → touches id (if b then Goaway stream (reason.Code NoError) ∷ [] else []) ≡ 0
     by true = refl

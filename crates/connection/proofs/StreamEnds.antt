@@ -44,8 +44,8 @@ use Rattle.hpack_codec.specs.Table.{Table}
 use Rattle.lists.specs.declared.field.Field.{Field}
 use Rattle.outwriter.specs.declared.control.WriterOrder.TheVariants as order
 use Rattle.outwriter.specs.Frames.{ends, ends_block, ends_stream, is_reset, resets}
-use Rattle.flow.specs.WindowHistory.{room_after}
-use Rattle.flow.specs.WindowHistory.{Step as WindowStep}
+use Rattle.sendwindows.specs.WindowHistory.{room_after}
+use Rattle.sendwindows.specs.WindowHistory.{Step as WindowStep}
 use Rattle.outwriter.specs.Histories.{HasHistory, resets_stream, was_reset}
 use Rattle.outwriter.specs.Parts.{
   Adds,

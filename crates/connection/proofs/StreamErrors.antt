@@ -51,18 +51,18 @@ use Rattle.callhead.specs.declared.fault.HeadFault.TheVariants.{
   NotPost,
   OutOfMemory,
 }
-use Rattle.flow.specs.declared.halves.FrameAction.{FrameAction}
-use Rattle.flow.specs.declared.halves.FrameAction.TheVariants.{
+use Rattle.streamstates.specs.declared.halves.FrameAction.{FrameAction}
+use Rattle.streamstates.specs.declared.halves.FrameAction.TheVariants.{
   Open,
   Accept,
   Discard,
   StreamError,
   ConnectionError,
 }
-use Rattle.flow.specs.declared.TheConstants.{MAX_STREAMS}
-use Rattle.flow.specs.declared.halves.HalfState.{HalfState}
-use Rattle.flow.specs.declared.halves.HalfState.TheVariants.{Opened, Ended, Reset}
-use Rattle.flow.specs.Halves.{
+use Rattle.limits.specs.declared.TheConstants.{MAX_STREAMS}
+use Rattle.streamstates.specs.declared.halves.HalfState.{HalfState}
+use Rattle.streamstates.specs.declared.halves.HalfState.TheVariants.{Opened, Ended, Reset}
+use Rattle.streamstates.specs.Halves.{
   Begun,
   Event,
   Idle,

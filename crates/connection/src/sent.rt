@@ -5,8 +5,8 @@ ghost use Rattle.std.specs.Prelude.{◌≡◌, ◌⊎◌, ◌<◌, ◌∷◌, �
 ghost use Rattle.std.specs.List.{list_any};
 ghost use Rattle.account.specs.declared.call.OutItem.{OutItem};
 ghost use Rattle.callbox.specs.OutSides.{has_trailers};
-ghost use Rattle.flow.specs.WindowHistory.{room_after};
-ghost use Rattle.flow.specs.WindowHistory.{Step as WindowStep};
+ghost use Rattle.sendwindows.specs.WindowHistory.{room_after};
+ghost use Rattle.sendwindows.specs.WindowHistory.{Step as WindowStep};
 ghost use Rattle.callparts.specs.declared.call_account.CallAccount.{CallAccount};
 ghost use Rattle.callparts.specs.declared.report.Ending.{Ending as Ended};
 ghost use Rattle.outwriter.specs.Calls.{TellOthers, is_served};

@@ -8,11 +8,12 @@ use crate::line::Event;
 use crate::place::place_of;
 use crate::text::escaped;
 use crate::walk::{Part, fragment_of};
-use flow::{FrameAction, MAX_WINDOW};
 use h2frame::{ErrorCode, Flags, FrameFault, FrameHead, FrameKind, SettingId, StreamId};
 use hpack_codec::HpackFault;
+use limits::MAX_WINDOW;
 use lists::Field;
 use std::alloc::AllocError;
+use streamstates::FrameAction;
 
 /// The most bytes of a header block.
 const MOST_BLOCK: usize = 65_536;

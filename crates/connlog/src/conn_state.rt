@@ -8,11 +8,12 @@ use crate::call::{Call, MethodName};
 use crate::cause::{Cause, ServerCause, StreamCause};
 use crate::known_block::KnownBlock;
 use crate::line::{CallWait, ConnEnding, Event, Line, Status, Traffic};
-use flow::{FrameAction, Halves, INITIAL_WINDOW};
 use h2frame::{ErrorCode, Flags, FrameHead, FrameKind, StreamId};
 use hpack_codec::Decoder;
 use indexmap::IndexMap;
+use limits::INITIAL_WINDOW;
 use std::alloc::{AllocError, Global};
+use streamstates::{FrameAction, Halves};
 
 /// How many seconds a call waits before a line says so.
 const PATIENCE: u64 = 5;

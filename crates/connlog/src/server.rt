@@ -6,10 +6,11 @@ use crate::line::Status;
 use crate::tables::keeps_tables;
 use crate::walk::Part;
 use callhead::{first_value, read_status};
-use flow::{FrameAction, MAX_WINDOW};
 use h2frame::{ErrorCode, Flags, FrameHead, FrameKind};
+use limits::MAX_WINDOW;
 use lists::Field;
 use std::alloc::{AllocError, Global};
+use streamstates::FrameAction;
 
 impl ConnState {
     /// The server sent this.

@@ -18,8 +18,8 @@ use crate::line::Line;
 use crate::rules::Rules;
 use crate::step::Setting;
 use bytes::Bytes;
-use flow::{SendWindows, WindowFault};
 use h2frame::{MAX_PAYLOAD, PeerSetting, StreamId};
+use sendwindows::{SendWindows, WindowFault};
 use session::read_settings;
 use std::alloc::{AllocError, Global};
 

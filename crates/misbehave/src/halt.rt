@@ -5,9 +5,9 @@ use crate::breach::{
     WINDOW_TOO_LARGE, WRONG_STREAM, ZERO_INCREMENT,
 };
 use crate::lack::{ClientLack, LONG_FIELDS, LONG_INTEGER};
-use flow::WindowFault;
 use h2frame::FrameFault;
 use hpack_codec::HpackFault;
+use sendwindows::WindowFault;
 use session::{BadPreface, FragmentFault, SettingsFault};
 use std::alloc::{AllocError, AllocFailed};
 

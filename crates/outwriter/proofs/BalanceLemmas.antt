@@ -59,15 +59,15 @@ use Rattle.std.proofs.lemmas.Int.{ints}
 use Rattle.std.proofs.lemmas.List.Sums.{AllPass-from_list_all, list_all-from_AllPass}
 use Rattle.std.proofs.lemmas.Map.Entries.{lookup-filter-keys}
 use Rattle.std.proofs.lemmas.Map.Views.{All-values_from_lookup, IfSome-lookup_from_All}
-use Rattle.flow.specs.declared.TheConstants.{MAX_WINDOW}
-use Rattle.flow.specs.declared.send_windows.WindowFault.{WindowFault}
-use Rattle.flow.specs.declared.send_windows.WindowFault.TheVariants.{
+use Rattle.limits.specs.declared.TheConstants.{MAX_WINDOW}
+use Rattle.sendwindows.specs.declared.send_windows.WindowFault.{WindowFault}
+use Rattle.sendwindows.specs.declared.send_windows.WindowFault.TheVariants.{
   Overflow,
   NoRoom,
   Unknown,
   OutOfMemory,
 }
-use Rattle.flow.specs.WindowHistory.{
+use Rattle.sendwindows.specs.WindowHistory.{
   CanCredit,
   CanResize,
   Closing,
@@ -77,8 +77,8 @@ use Rattle.flow.specs.WindowHistory.{
   Spending,
   room_after,
 }
-use Rattle.flow.specs.WindowHistory.{Step as WindowStep}
-use Rattle.flow.specs.Windows.{
+use Rattle.sendwindows.specs.WindowHistory.{Step as WindowStep}
+use Rattle.sendwindows.specs.Windows.{
   CreditFault,
   Fits,
   Meets,
@@ -88,7 +88,7 @@ use Rattle.flow.specs.Windows.{
   lesser,
   room,
 }
-use Rattle.flow.proofs.WindowSteps.{
+use Rattle.sendwindows.proofs.WindowSteps.{
   CanCredit-stream,
   CanResize-fits,
   Follows-closing,

@@ -2,7 +2,7 @@
 use Rattle.std.proofs.Common.{ℕ, ◌+◌, ◌≤◌, ◌==◌, Bool, true, false, List, [], ◌∷◌, arith, min}
 use Rattle.std.specs.Prelude.{◌&&◌, if◌then◌else◌}
 use Rattle.std.proofs.lemmas.List.Sums.{sum_by-cons}
-use Rattle.flow.specs.declared.TheConstants.{MAX_WINDOW}
+use Rattle.limits.specs.declared.TheConstants.{MAX_WINDOW}
 use Rattle.outwriter.specs.Credit.{granted, granted_by, updated}
 use Rattle.outwriter.specs.Frames.{update_on}
 use Rattle.outwriter.specs.Histories.{is_stream, resets_stream}

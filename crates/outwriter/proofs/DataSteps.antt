@@ -22,7 +22,7 @@ use Rattle.std.proofs.Common.{
 }
 use Rattle.std.specs.Prelude.{drop, take, map, IfNone, IfSome}
 use Rattle.std.proofs.lemmas.List.{length-take-le, take-append-drop}
-use Rattle.flow.specs.Windows.{SharedWindow, Windows, room}
+use Rattle.sendwindows.specs.Windows.{SharedWindow, Windows, room}
 use Rattle.h2frame.specs.declared.frame.Frame.{Frame}
 use Rattle.outwriter.specs.declared.sending.Sending.{Sending}
 use Rattle.outwriter.specs.declared.outbound.Outbound.{Outbound}

@@ -49,9 +49,9 @@ use Rattle.std.proofs.lemmas.Bool.{eqb-true, eq-eqb, ne_eqb}
 use Rattle.h2frame.specs.Faults.{increment_of}
 use Rattle.hpack_codec.proofs.Bits.{small_mod}
 use Rattle.std.proofs.lemmas.List.Elements.{All-head}
-use Rattle.flow.specs.WindowHistory.{Follows, Closing, room_after}
-use Rattle.flow.specs.WindowHistory.{Step as WindowStep}
-use Rattle.flow.specs.Windows.{Windows}
+use Rattle.sendwindows.specs.WindowHistory.{Follows, Closing, room_after}
+use Rattle.sendwindows.specs.WindowHistory.{Step as WindowStep}
+use Rattle.sendwindows.specs.Windows.{Windows}
 use Rattle.h2frame.specs.declared.error_code.ErrorCode.{ErrorCode}
 use Rattle.h2frame.specs.declared.frame.Frame.{Frame}
 use Rattle.outwriter.specs.declared.blocks.HeaderBlock.{HeaderBlock}

@@ -1,8 +1,8 @@
 -- Why a control is a fault of the peer, and why it is none.
 use Rattle.std.proofs.Common.{◌≡◌, ℕ, List, Option, sym, subst}
-use Rattle.flow.specs.WindowHistory.{Step as WindowStep}
-use Rattle.flow.specs.WindowHistory.{Follows, CanCredit, CanResize}
-use Rattle.flow.specs.Windows.{Windows}
+use Rattle.sendwindows.specs.WindowHistory.{Step as WindowStep}
+use Rattle.sendwindows.specs.WindowHistory.{Follows, CanCredit, CanResize}
+use Rattle.sendwindows.specs.Windows.{Windows}
 use Rattle.std.specs.Prelude.{All}
 use Rattle.h2frame.specs.declared.settings.PeerSetting.{PeerSetting}
 use Rattle.outwriter.specs.declared.control.WriterOrder.{WriterOrder}

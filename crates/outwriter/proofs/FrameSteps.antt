@@ -32,8 +32,8 @@ use Rattle.std.specs.Prelude.{filter, not, flat_map, ◌||◌, ◌&&◌, is_some
 use Rattle.std.specs.List.{list_any}
 use Rattle.std.proofs.lemmas.List.Elements.{filter-append}
 use Rattle.account.specs.Accounts.{Begins}
-use Rattle.flow.specs.WindowHistory.{Step as WindowStep}
-use Rattle.flow.specs.Windows.{Windows}
+use Rattle.sendwindows.specs.WindowHistory.{Step as WindowStep}
+use Rattle.sendwindows.specs.Windows.{Windows}
 use Rattle.h2frame.specs.declared.error_code.ErrorCode.{ErrorCode}
 use Rattle.h2frame.specs.declared.frame.Frame.{Frame}
 use Rattle.h2frame.specs.declared.kind.FrameKind.TheVariants as kind

@@ -29,8 +29,8 @@ use Rattle.std.specs.Int.{from_be_bytes, w32}
 use Rattle.std.proofs.lemmas.Bool.{eqb-true}
 use Rattle.std.proofs.lemmas.List.Elements.{All-cons, All-nil}
 use Rattle.account.specs.Accounts.{Begins}
-use Rattle.flow.specs.WindowHistory.{CanResize, Opening, Resizing, room_after}
-use Rattle.flow.specs.WindowHistory.{Step as WindowStep}
+use Rattle.sendwindows.specs.WindowHistory.{CanResize, Opening, Resizing, room_after}
+use Rattle.sendwindows.specs.WindowHistory.{Step as WindowStep}
 use Rattle.h2frame.specs.declared.error_code.ErrorCode.{ErrorCode}
 use Rattle.h2frame.specs.declared.error_code.ErrorCode.TheVariants.{Cancel, InternalError, NoError}
 use Rattle.h2frame.specs.declared.fault.FrameFault.{FrameFault}

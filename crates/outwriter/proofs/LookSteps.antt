@@ -21,7 +21,7 @@ use Rattle.account.specs.declared.call.OutItem.{OutItem}
 use Rattle.callbox.specs.declared.sender.Sender.{Sender}
 use Rattle.h2frame.specs.declared.frame.Frame.{Frame}
 use Rattle.hpack_codec.specs.Codec.{Encoding}
-use Rattle.flow.specs.Windows.{SharedWindow, room}
+use Rattle.sendwindows.specs.Windows.{SharedWindow, room}
 use Rattle.outwriter.specs.declared.sending.Sending.{Sending}
 use Rattle.outwriter.specs.declared.outbound.Outbound.{Outbound}
 use Rattle.outwriter.specs.declared.states.Stream.{Stream}

@@ -43,8 +43,8 @@ use Rattle.std.proofs.lemmas.List.Elements.{
 }
 use Rattle.std.proofs.lemmas.List.Sums.{sum_by-cons}
 use Rattle.indexmap.proofs.ReorderLemmas.{map-reverse}
-use Rattle.flow.specs.Windows.{Windows, Fits, balance}
-use Rattle.flow.specs.WindowHistory.{
+use Rattle.sendwindows.specs.Windows.{Windows, Fits, balance}
+use Rattle.sendwindows.specs.WindowHistory.{
   Step,
   Resizing,
   credit_to,

@@ -29,10 +29,10 @@ use Rattle.std.specs.Prelude.{IfSome, All, is_some, flat_map, ◌||◌, ◌&&◌
 use Rattle.std.proofs.lemmas.Bool.{eqb-true, ne_eqb, eq-eqb}
 use Rattle.std.proofs.lemmas.Grind.{flat_map-append}
 use Rattle.std.proofs.lemmas.List.Elements.{All-append, All-tail, All-weaker}
-use Rattle.flow.specs.declared.TheConstants.{MAX_WINDOW}
-use Rattle.flow.specs.WindowHistory.{Follows}
-use Rattle.flow.specs.WindowHistory.{Step as WindowStep}
-use Rattle.flow.specs.Windows.{Windows}
+use Rattle.limits.specs.declared.TheConstants.{MAX_WINDOW}
+use Rattle.sendwindows.specs.WindowHistory.{Follows}
+use Rattle.sendwindows.specs.WindowHistory.{Step as WindowStep}
+use Rattle.sendwindows.specs.Windows.{Windows}
 use Rattle.h2frame.specs.declared.error_code.ErrorCode.{ErrorCode}
 use Rattle.h2frame.specs.declared.frame.Frame.{Frame}
 use Rattle.lists.specs.declared.field.Field.{Field}

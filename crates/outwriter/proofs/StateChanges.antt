@@ -44,9 +44,9 @@ use Rattle.outwriter.specs.declared.stream_state.StreamState.{StreamState}
 use Rattle.outwriter.specs.declared.stream_state.StreamState.TheVariants.{Reset}
 use Rattle.outwriter.specs.declared.states.Stream.{Stream}
 use Rattle.outwriter.specs.declared.stream.OpenStream.{OpenStream}
-use Rattle.flow.specs.WindowHistory.{Follows, Opening}
-use Rattle.flow.specs.WindowHistory.{Step as WindowStep}
-use Rattle.flow.specs.Windows.{SharedWindow, Windows}
+use Rattle.sendwindows.specs.WindowHistory.{Follows, Opening}
+use Rattle.sendwindows.specs.WindowHistory.{Step as WindowStep}
+use Rattle.sendwindows.specs.Windows.{SharedWindow, Windows}
 use Rattle.outwriter.specs.OpenStreams.{Closes, Shown, kept, shown, shows}
 use Rattle.outwriter.specs.States.{
   States,

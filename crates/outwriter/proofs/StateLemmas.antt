@@ -48,7 +48,7 @@ use Rattle.outwriter.specs.declared.stream_state.Over.{Over}
 use Rattle.outwriter.specs.declared.stream_state.StreamState.{StreamState}
 use Rattle.outwriter.specs.declared.stream_state.StreamState.TheVariants.{Call, Reset}
 use Rattle.outwriter.specs.declared.states.Stream.{Stream}
-use Rattle.flow.specs.Windows.{SharedWindow}
+use Rattle.sendwindows.specs.Windows.{SharedWindow}
 use Rattle.outwriter.specs.States.{
   States,
   Hears,

@@ -48,11 +48,11 @@ use Rattle.outwriter.specs.declared.stream_state.Change.TheVariants as change_by
 use Rattle.outwriter.specs.declared.stream_state.StreamState.{StreamState}
 use Rattle.outwriter.specs.declared.stream_state.StreamState.TheVariants.{NoCall, Call, Reset}
 use Rattle.outwriter.specs.declared.states.Stream.{Stream}
-use Rattle.flow.specs.WindowHistory.{Closing, Follows}
-use Rattle.flow.specs.WindowHistory.{Step as WindowStep}
-use Rattle.flow.specs.Windows.{SharedWindow}
-use Rattle.flow.specs.declared.send_windows.WindowFault.{WindowFault}
-use Rattle.flow.specs.declared.send_windows.WindowFault.TheVariants.{Unknown}
+use Rattle.sendwindows.specs.WindowHistory.{Closing, Follows}
+use Rattle.sendwindows.specs.WindowHistory.{Step as WindowStep}
+use Rattle.sendwindows.specs.Windows.{SharedWindow}
+use Rattle.sendwindows.specs.declared.send_windows.WindowFault.{WindowFault}
+use Rattle.sendwindows.specs.declared.send_windows.WindowFault.TheVariants.{Unknown}
 use Rattle.account.specs.declared.call.OutItem.{OutItem}
 use Rattle.callbox.specs.declared.sender.Sender.{Sender}
 use Rattle.hpack_codec.specs.Codec.{Encoding}

@@ -23,7 +23,7 @@ use Rattle.std.specs.Prelude.{get_or, ◌≢◌, is_some, if◌then◌else◌}
 use Rattle.std.specs.Option.{option_map}
 use Rattle.std.proofs.lemmas.Bool.{eq-eqb, ne_eqb}
 use Rattle.account.specs.declared.call.OutItem.{OutItem}
-use Rattle.flow.specs.Windows.{Windows, room}
+use Rattle.sendwindows.specs.Windows.{Windows, room}
 use Rattle.outwriter.specs.declared.sending.Sending.{Sending}
 use Rattle.outwriter.specs.declared.outbound.Outbound.{Outbound}
 use Rattle.outwriter.specs.declared.stream.OpenStream.{OpenStream}

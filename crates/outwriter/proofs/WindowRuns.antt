@@ -45,15 +45,15 @@ use Rattle.std.specs.Prelude.{
   reverse,
 }
 use Rattle.std.specs.Option.{option_map}
-use Rattle.flow.specs.declared.send_windows.WindowFault.{WindowFault}
-use Rattle.flow.specs.declared.send_windows.WindowFault.TheVariants.{
+use Rattle.sendwindows.specs.declared.send_windows.WindowFault.{WindowFault}
+use Rattle.sendwindows.specs.declared.send_windows.WindowFault.TheVariants.{
   Overflow,
   NoRoom,
   Unknown,
   OutOfMemory,
 }
-use Rattle.flow.specs.declared.TheConstants.{MAX_WINDOW}
-use Rattle.flow.specs.WindowHistory.{
+use Rattle.limits.specs.declared.TheConstants.{MAX_WINDOW}
+use Rattle.sendwindows.specs.WindowHistory.{
   Opening,
   Credit,
   Resizing,
@@ -66,8 +66,8 @@ use Rattle.flow.specs.WindowHistory.{
   CanResize,
   Follows,
 }
-use Rattle.flow.specs.WindowHistory.{Step as WindowStep}
-use Rattle.flow.specs.Windows.{Windows, window, balance, CreditFault, Meets}
+use Rattle.sendwindows.specs.WindowHistory.{Step as WindowStep}
+use Rattle.sendwindows.specs.Windows.{Windows, window, balance, CreditFault, Meets}
 use Rattle.outwriter.specs.declared.control.WriterOrder.TheVariants.{Window, Settings, Open, Reset}
 use Rattle.h2frame.specs.declared.error_code.ErrorCode.{ErrorCode}
 use Rattle.h2frame.specs.declared.settings.PeerSetting.{PeerSetting}

@@ -22,7 +22,7 @@ use Rattle.std.specs.Prelude.{
 }
 use Rattle.account.specs.declared.call.OutItem.{OutItem}
 use Rattle.callbox.specs.declared.sender.Sender.{Sender}
-use Rattle.flow.specs.Windows.{room}
+use Rattle.sendwindows.specs.Windows.{room}
 use Rattle.reasons.specs.declared.Reason.{Reason}
 use Rattle.outwriter.specs.States.{open_at, pays}
 use Rattle.outwriter.specs.declared.control.WriterOrder.{WriterOrder}

@@ -21,9 +21,9 @@ use Rattle.std.specs.Prelude.{
   None,
   Some,
 }
-use Rattle.flow.specs.Windows.{SharedWindow, Windows, lesser, room}
-use Rattle.flow.specs.WindowHistory.{Follows, room_after}
-use Rattle.flow.specs.WindowHistory.{Step as WindowStep}
+use Rattle.sendwindows.specs.Windows.{SharedWindow, Windows, lesser, room}
+use Rattle.sendwindows.specs.WindowHistory.{Follows, room_after}
+use Rattle.sendwindows.specs.WindowHistory.{Step as WindowStep}
 use Rattle.outwriter.specs.declared.states.Stream.{Stream}
 use Rattle.outwriter.specs.declared.stream.OpenStream.{OpenStream}
 use Rattle.outwriter.specs.declared.stream.MessageInHand.{MessageInHand}

@@ -2,7 +2,7 @@
 use Rattle.std.proofs.Common.{inl}
 use Rattle.std.specs.Prelude.{◌≡◌, false, true, refl, List, [], ◌∷◌, ◌++◌, Some, None}
 use Rattle.account.specs.declared.call.OutItem.TheVariants.{Head, Message, Trailers}
-use Rattle.flow.specs.WindowHistory.{Spending, Closing}
+use Rattle.sendwindows.specs.WindowHistory.{Spending, Closing}
 use Rattle.h2frame.specs.declared.error_code.ErrorCode.TheVariants.{Cancel, NoError}
 use Rattle.h2frame.specs.declared.kind.FrameKind.TheVariants as kind
 use Rattle.h2frame.specs.Spelling.{spelled as spelling}

@@ -35,7 +35,7 @@ use Rattle.h2frame.specs.declared.kind.FrameKind.TheVariants.{
 }
 use Rattle.h2frame.specs.ErrorCode.{error_number}
 use Rattle.h2frame.specs.Faults.{frame_fault, increment_of}
-use Rattle.flow.specs.declared.TheConstants.{MAX_LIVE}
+use Rattle.limits.specs.declared.TheConstants.{MAX_LIVE}
 use Rattle.h2frame.specs.declared.setting.SettingId.TheVariants.{
   MaxConcurrentStreams,
   MaxHeaderListSize,

@@ -24,8 +24,8 @@ use Rattle.std.specs.Prelude.{
   if◌then◌else◌,
 }
 use Rattle.std.specs.List.{list_any}
-use Rattle.flow.specs.declared.TheConstants.{MAX_WINDOW}
-use Rattle.flow.specs.WindowHistory.{
+use Rattle.limits.specs.declared.TheConstants.{MAX_WINDOW}
+use Rattle.sendwindows.specs.WindowHistory.{
   Opening,
   Credit,
   Spending,
@@ -35,7 +35,7 @@ use Rattle.flow.specs.WindowHistory.{
   CanCredit,
   CanResize,
 }
-use Rattle.flow.specs.WindowHistory.{Step as WindowStep}
+use Rattle.sendwindows.specs.WindowHistory.{Step as WindowStep}
 use Rattle.h2frame.specs.declared.frame.Frame.{Frame}
 use Rattle.outwriter.specs.declared.control.WriterOrder.TheVariants.{
   Settings,

@@ -17,7 +17,7 @@ use Rattle.std.specs.Prelude.{
 use Rattle.std.specs.Map.{lookup, set_value}
 use Rattle.account.specs.declared.call.OutItem.{OutItem}
 use Rattle.callbox.specs.declared.sender.Sender.{Sender}
-use Rattle.flow.specs.Windows.{SharedWindow}
+use Rattle.sendwindows.specs.Windows.{SharedWindow}
 use Rattle.hpack_codec.specs.Codec.{Encoding}
 use Rattle.outwriter.specs.declared.stream_state.Change.TheVariants as change
 use Rattle.outwriter.specs.declared.stream_state.Over.TheVariants as end_by

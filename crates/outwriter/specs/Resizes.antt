@@ -17,8 +17,8 @@ use Rattle.std.specs.Prelude.{
   None,
   IfSome,
 }
-use Rattle.flow.specs.declared.TheConstants.{MAX_WINDOW}
-use Rattle.flow.specs.Windows.{Windows, Fits, balance}
+use Rattle.limits.specs.declared.TheConstants.{MAX_WINDOW}
+use Rattle.sendwindows.specs.Windows.{Windows, Fits, balance}
 
 -- the greatest and the last of these sizes
 abbrev pub IsSeen : List ℕ → ℕ → Option ℕ → Type 0

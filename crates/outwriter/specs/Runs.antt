@@ -31,9 +31,9 @@ use Rattle.std.specs.Prelude.{
 use Rattle.std.specs.List.{list_any}
 use Rattle.std.specs.Option.{option_map}
 use Rattle.account.specs.Accounts.{Begins}
-use Rattle.flow.specs.declared.TheConstants.{MAX_WINDOW}
-use Rattle.flow.specs.WindowHistory.{room_after}
-use Rattle.flow.specs.WindowHistory.{Step as WindowStep}
+use Rattle.limits.specs.declared.TheConstants.{MAX_WINDOW}
+use Rattle.sendwindows.specs.WindowHistory.{room_after}
+use Rattle.sendwindows.specs.WindowHistory.{Step as WindowStep}
 use Rattle.h2frame.specs.declared.error_code.ErrorCode.{ErrorCode}
 use Rattle.h2frame.specs.declared.frame.Frame.{Frame}
 use Rattle.h2frame.specs.declared.kind.FrameKind.{FrameKind}

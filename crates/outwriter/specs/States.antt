@@ -45,11 +45,11 @@ use Rattle.std.specs.Prelude.{
 use Rattle.std.specs.Map.{lookup, set_value}
 use Rattle.std.specs.Option.{option_map}
 use Rattle.indexmap.specs.IndexMap.{insert_entry, set_value_at}
-use Rattle.flow.specs.declared.TheConstants.{MAX_WINDOW}
-use Rattle.flow.specs.WindowHistory.{Step, Follows, Opening, Closing}
-use Rattle.flow.specs.declared.send_windows.WindowFault.{WindowFault}
-use Rattle.flow.specs.declared.send_windows.WindowFault.TheVariants.{Overflow, Unknown}
-use Rattle.flow.specs.Windows.{
+use Rattle.limits.specs.declared.TheConstants.{MAX_WINDOW}
+use Rattle.sendwindows.specs.WindowHistory.{Step, Follows, Opening, Closing}
+use Rattle.sendwindows.specs.declared.send_windows.WindowFault.{WindowFault}
+use Rattle.sendwindows.specs.declared.send_windows.WindowFault.TheVariants.{Overflow, Unknown}
+use Rattle.sendwindows.specs.Windows.{
   SharedWindow,
   Windows,
   Fits as FitsWindow,

@@ -22,7 +22,7 @@ use Rattle.std.specs.Prelude.{
 use Rattle.account.specs.declared.call.OutItem.{OutItem}
 use Rattle.account.specs.declared.call.OutItem.TheVariants as item
 use Rattle.callbox.specs.declared.sender.Sender.{Sender}
-use Rattle.flow.specs.Windows.{room}
+use Rattle.sendwindows.specs.Windows.{room}
 use Rattle.h2frame.specs.declared.frame.Frame.{Frame}
 use Rattle.lists.specs.declared.field.Field.{Field}
 use Rattle.hpack_codec.specs.Codec.{Encoding, Writes}

@@ -17,8 +17,8 @@ ghost use Rattle.outwriter.specs.Frames.{
 
 use crate::out_frame::OutFrame;
 use bytes::Bytes;
-use flow::MAX_LIVE;
 use h2frame::{ErrorCode, Flags, FrameKind, SmallContents, StreamId};
+use limits::MAX_LIVE;
 use reasons::Reason;
 use std::alloc::AllocError;
 use zeros::ZeroTail;

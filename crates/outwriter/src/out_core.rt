@@ -41,7 +41,7 @@ ghost use Rattle.outwriter.specs.Cores.{
 ghost use Rattle.outwriter.specs.declared.control.OutFault.TheVariants as out_fault;
 ghost use Rattle.outwriter.specs.Runs.{may_owe};
 ghost use Rattle.outwriter.specs.RunState.{Blames, Concerns, HasRoom, is_held};
-ghost use Rattle.flow.specs.Windows.{room};
+ghost use Rattle.sendwindows.specs.Windows.{room};
 ghost use Rattle.outwriter.specs.Calls.{TellFronts, TellReturned, TellOthers};
 ghost use Rattle.outwriter.specs.Drains.{has_failed, is_going_away, was_probed};
 ghost use Rattle.outwriter.specs.Frames.{IsSound, goaway_frame, is_last};

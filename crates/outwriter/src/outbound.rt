@@ -31,8 +31,8 @@ ghost use Rattle.std.specs.Prelude.{
   OnErr,
   IfErr,
 };
-ghost use Rattle.flow.specs.WindowHistory.{Follows, CanCredit, CanResize, Closing};
-ghost use Rattle.flow.specs.WindowHistory.{Step as WindowStep};
+ghost use Rattle.sendwindows.specs.WindowHistory.{Follows, CanCredit, CanResize, Closing};
+ghost use Rattle.sendwindows.specs.WindowHistory.{Step as WindowStep};
 ghost use Rattle.outwriter.specs.States.{
   Moves,
   SameOpen,
@@ -50,18 +50,19 @@ ghost use Rattle.outwriter.specs.OpenStreams.{stream_at};
 ghost use Rattle.outwriter.specs.Histories.{is_stream as is_number, table_sizes};
 ghost use Rattle.outwriter.specs.TableLimits.{limited_by};
 ghost use Rattle.outwriter.specs.ToldByNow.{SpellsOf};
-ghost use Rattle.flow.specs.declared.send_windows.WindowFault.TheVariants as window_fault;
+ghost use Rattle.sendwindows.specs.declared.send_windows.WindowFault.TheVariants as window_fault;
 
 use crate::blocks::HeaderBlock;
 use crate::control::{OutFault, WriterOrder};
 use crate::due::Due;
 use crate::resize::resize;
 use crate::states::StreamStates;
-use flow::{MAX_WINDOW, WindowFault};
 use h2frame::{ErrorCode, PeerSetting, PeerSettings, SmallContents, StreamId};
 use hpack_codec::Encoder;
+use limits::MAX_WINDOW;
 use lists::{Field, Sequence};
 use reasons::Reason;
+use sendwindows::WindowFault;
 use std::alloc::{AllocError, Global};
 use std::collections::VecDeque;
 

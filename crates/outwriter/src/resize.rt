@@ -1,14 +1,14 @@
 //! The initial windows of SETTINGS (RFC 9113, section 6.9.2).
 
 ghost use Rattle.std.specs.Prelude.{◌≡◌, List, reverse, map, All, OnOk, OnErr};
-ghost use Rattle.flow.specs.WindowHistory.{Step, Resizing, Follows, CanResize};
+ghost use Rattle.sendwindows.specs.WindowHistory.{Step, Resizing, Follows, CanResize};
 ghost use Rattle.outwriter.specs.Histories.{window_sizes};
 ghost use Rattle.outwriter.specs.Resizes.{IsSeen};
 ghost use Rattle.outwriter.specs.States.{Moves, SameButWindows};
 
 use crate::states::StreamStates;
-use flow::WindowFault;
 use h2frame::PeerSetting;
+use sendwindows::WindowFault;
 
 /// Sets the initial windows of SETTINGS, of which the last counts. All of them have to fit, so the
 /// greatest is tried first.

@@ -21,7 +21,7 @@ ghost use Rattle.std.specs.Prelude.{
   OnOk,
   OnErr,
 };
-ghost use Rattle.flow.specs.WindowHistory.{
+ghost use Rattle.sendwindows.specs.WindowHistory.{
   CanCredit,
   CanResize,
   Closing,
@@ -29,8 +29,8 @@ ghost use Rattle.flow.specs.WindowHistory.{
   Follows,
   Resizing,
 };
-ghost use Rattle.flow.specs.WindowHistory.{Step as WindowStep};
-ghost use Rattle.flow.specs.Windows.{CreditFault, Meets, room};
+ghost use Rattle.sendwindows.specs.WindowHistory.{Step as WindowStep};
+ghost use Rattle.sendwindows.specs.Windows.{CreditFault, Meets, room};
 ghost use Rattle.outwriter.specs.States.{
   nothing_known,
   open_at,
@@ -98,11 +98,12 @@ use entries::{
     add, all_fit, bring_forward, change_of, close_of, close_window_of, credit_of, move_place_of,
     next_at, sum, take_last, turn_of,
 };
-use flow::{Balance, ConnectionWindow, MAX_WINDOW, WindowFault};
 use h2frame::StreamId;
 use hpack_codec::Encoder;
 use indexmap::IndexMap;
 use lane::Lane;
+use limits::MAX_WINDOW;
+use sendwindows::{Balance, ConnectionWindow, WindowFault};
 use std::alloc::{AllocError, Global};
 use std::marker::Model;
 use zeros::ZeroTail;

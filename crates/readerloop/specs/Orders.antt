@@ -24,7 +24,9 @@ use Rattle.std.specs.Prelude.{
   is_none,
   if◌then◌else◌,
   max,
+  ◌+◌,
 }
+use Rattle.limits.specs.declared.TheConstants.{MAX_STREAMS}
 use Rattle.connbook.specs.declared.answers.AdmitFault.{AdmitFault}
 use Rattle.connbook.specs.declared.answers.AdmitFault.TheVariants as refused
 use Rattle.connbook.specs.declared.answers.Receipt.TheVariants.{CallWindow, Overrun}
@@ -116,13 +118,10 @@ named (step ∷ before) = named before
 
 -- how many streams a client may begin; at the last of them GOAWAY asks it to open no more, unless
 -- the server drains, which has sent GOAWAY
-abbrev pub most_streams : ℕ
-most_streams = 4096
-
 abbrev pub last_stream : ℕ → Bool → List ℕ → List Order
 last_stream id true before = []
 last_stream id false before =
-    if length before == 4095 then Goaway id (reason.Code NoError) ∷ [] else []
+    if (1 + length before) == MAX_STREAMS then Goaway id (reason.Code NoError) ∷ [] else []
 
 -- ---- the order of a step
 

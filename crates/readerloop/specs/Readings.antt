@@ -20,6 +20,7 @@ use Rattle.std.specs.Prelude.{
   Some,
 }
 use Rattle.account.specs.declared.call.OutItem.{OutItem}
+use Rattle.limits.specs.declared.TheConstants.{MAX_STREAMS}
 use Rattle.callparts.specs.declared.order.OpeningCall.{OpeningCall}
 use Rattle.callparts.specs.declared.order.ReturningCall.{ReturningCall}
 use Rattle.callparts.specs.declared.work.Request.{Request}
@@ -46,7 +47,6 @@ use Rattle.readerloop.specs.Orders.{
   IsDue,
   begun,
   ends_at,
-  most_streams,
   named,
   named_with,
   orders_at,
@@ -125,7 +125,7 @@ module _ {J M : Type 0} {book : Ghosts J} where
   -- a GOAWAY names this stream, and these streams were begun, the latest first
   pub record Counts (last : ℕ) (ids : List ℕ) (reading : Reading J M book) : Type 0 where
     pub last_is : reading.last ≡ last
-    pub count : reading.begun ≡ min most_streams (length ids)
+    pub count : reading.begun ≡ min MAX_STREAMS (length ids)
 
   -- a call of this stream may be admitted: its id is above those before it, there is room for its
   -- account, and the server doesn't drain

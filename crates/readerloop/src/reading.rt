@@ -71,7 +71,7 @@ pub struct Reading<J: Naming, M: Answering> {
     /// The last stream of a GOAWAY (RFC 9113, section 6.8): the greatest that was begun, or once
     /// the server drains the greatest whose call was admitted; 0 for none.
     pub(crate) last: StreamId,
-    /// How many streams were begun, up to `streams::STREAMS`.
+    /// How many streams were begun, up to `limits::MAX_STREAMS`.
     pub(crate) begun: u32,
     /// Whether the peer opens no more streams.
     pub(crate) peer_goaway: bool,

@@ -22,7 +22,7 @@ ghost use Rattle.callparts.specs.Workers.{IsFreshWork};
 ghost use Rattle.readerloop.specs.Calls.{HasAnswered};
 
 use callparts::{Answering, DoneIn, DoneOut, FinishedJob, Job, Line, Naming, TasksIn, TasksOut};
-use flow::MAX_LIVE;
+use limits::MAX_LIVE;
 use std::alloc::{AllocError, Global};
 use std::sync::Arc;
 

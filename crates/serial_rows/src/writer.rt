@@ -1,7 +1,7 @@
 //! The steps of the writer, as its thread takes them.
 
 use crate::serial::Serial;
-use flow::MAX_LIVE;
+use limits::MAX_LIVE;
 use h2frame::StreamId;
 use std::sync::Wait;
 use std::time::Clock;

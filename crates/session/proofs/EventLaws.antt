@@ -23,7 +23,7 @@ use Rattle.std.proofs.lemmas.List.{append-nil}
 use Rattle.h2frame.specs.FrameList.{Entry, IsUnfinished}
 use Rattle.h2frame.proofs.Lists.{joined_more}
 use Rattle.hpack_codec.specs.Table.{Table}
-use Rattle.flow.specs.Halves.{Streams}
+use Rattle.streamstates.specs.Halves.{Streams}
 use Rattle.session.specs.declared.event.InEvent.{InEvent}
 use Rattle.session.specs.declared.context.Position.{Position}
 use Rattle.session.specs.declared.in_core.InStage.{InStage}

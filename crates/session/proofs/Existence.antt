@@ -72,15 +72,15 @@ use Rattle.hpack_codec.specs.Table.{Table}
 use Rattle.hpack_codec.proofs.Existence.{each_has_answer as each_block}
 use Rattle.callhead.specs.MalformedHeads.{are_malformed_trailers}
 use Rattle.callhead.proofs.Existence.{each_has_answer as each_head}
-use Rattle.flow.specs.declared.halves.FrameAction.{FrameAction}
-use Rattle.flow.specs.declared.halves.FrameAction.TheVariants.{
+use Rattle.streamstates.specs.declared.halves.FrameAction.{FrameAction}
+use Rattle.streamstates.specs.declared.halves.FrameAction.TheVariants.{
   Open,
   Accept,
   Discard,
   StreamError,
   ConnectionError,
 }
-use Rattle.flow.specs.Halves.{Event, verdict, is_connection_error}
+use Rattle.streamstates.specs.Halves.{Event, verdict, is_connection_error}
 use Rattle.reasons.specs.declared.Reason.{Reason}
 use Rattle.reasons.specs.declared.Reason.TheVariants as reason
 use Rattle.session.specs.declared.event.InEvent.{InEvent}

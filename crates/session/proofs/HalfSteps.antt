@@ -33,18 +33,18 @@ use Rattle.h2frame.specs.declared.kind.FrameKind.TheVariants.{
   WindowUpdate,
 }
 use Rattle.h2frame.specs.Flags.{has, end_stream}
-use Rattle.flow.specs.declared.TheConstants.{MAX_STREAMS}
-use Rattle.flow.specs.declared.halves.HalfState.{HalfState}
-use Rattle.flow.specs.declared.halves.HalfState.TheVariants.{Opened, Ended, Reset}
-use Rattle.flow.specs.declared.halves.FrameAction.{FrameAction}
-use Rattle.flow.specs.declared.halves.FrameAction.TheVariants.{
+use Rattle.limits.specs.declared.TheConstants.{MAX_STREAMS}
+use Rattle.streamstates.specs.declared.halves.HalfState.{HalfState}
+use Rattle.streamstates.specs.declared.halves.HalfState.TheVariants.{Opened, Ended, Reset}
+use Rattle.streamstates.specs.declared.halves.FrameAction.{FrameAction}
+use Rattle.streamstates.specs.declared.halves.FrameAction.TheVariants.{
   Open,
   Accept,
   Discard,
   StreamError,
   ConnectionError,
 }
-use Rattle.flow.specs.Halves.{
+use Rattle.streamstates.specs.Halves.{
   Event,
   Received,
   Cut,
@@ -77,7 +77,7 @@ use Rattle.flow.specs.Halves.{
   is_reset_kind,
   is_last_of_kind,
 }
-use Rattle.flow.proofs.HalfLemmas.{kept-other, kept-begun, kept-new, kept-None}
+use Rattle.streamstates.proofs.HalfLemmas.{kept-other, kept-begun, kept-new, kept-None}
 use Rattle.session.specs.Streams.{after_frame}
 
 -- what the half of a stream has come to, if the stream was begun

@@ -34,15 +34,15 @@ use Rattle.h2frame.specs.declared.kind.FrameKind.TheVariants.{
 use Rattle.h2frame.specs.Flags.{has, ack, is_padded_kind, has_priority_kind}
 use Rattle.h2frame.specs.Faults.{max_payload, may_be_on, may_have_length, head_fault}
 use Rattle.h2frame.specs.FrameList.{IsLawful}
-use Rattle.flow.specs.declared.halves.FrameAction.{FrameAction}
-use Rattle.flow.specs.declared.halves.FrameAction.TheVariants.{
+use Rattle.streamstates.specs.declared.halves.FrameAction.{FrameAction}
+use Rattle.streamstates.specs.declared.halves.FrameAction.TheVariants.{
   Open,
   Accept,
   Discard,
   StreamError,
   ConnectionError,
 }
-use Rattle.flow.specs.Halves.{is_connection_error, may_be_unbegun}
+use Rattle.streamstates.specs.Halves.{is_connection_error, may_be_unbegun}
 use Rattle.session.specs.Streams.{is_accepted, without_increment}
 
 no_fault_first : (a b : Option FrameFault) → option_or a b ≡ None → a ≡ None

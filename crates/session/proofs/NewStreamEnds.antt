@@ -42,11 +42,11 @@ use Rattle.h2frame.specs.Flags.{has, ack, end_stream}
 use Rattle.h2frame.specs.FrameList.{Entry, Whole}
 use Rattle.callhead.specs.declared.fault.HeadFault.{HeadFault}
 use Rattle.callhead.specs.declared.fault.HeadFault.TheVariants.{Malformed}
-use Rattle.flow.specs.declared.halves.HalfState.{HalfState}
-use Rattle.flow.specs.declared.halves.HalfState.TheVariants.{Opened, Ended}
-use Rattle.flow.specs.declared.halves.FrameAction.{FrameAction}
-use Rattle.flow.specs.declared.halves.FrameAction.TheVariants.{Open, ConnectionError}
-use Rattle.flow.specs.Halves.{Event, Received, Cut, is_headers, verdict}
+use Rattle.streamstates.specs.declared.halves.HalfState.{HalfState}
+use Rattle.streamstates.specs.declared.halves.HalfState.TheVariants.{Opened, Ended}
+use Rattle.streamstates.specs.declared.halves.FrameAction.{FrameAction}
+use Rattle.streamstates.specs.declared.halves.FrameAction.TheVariants.{Open, ConnectionError}
+use Rattle.streamstates.specs.Halves.{Event, Received, Cut, is_headers, verdict}
 use Rattle.reasons.specs.declared.Reason.TheVariants as reason
 use Rattle.session.specs.declared.event.InEvent.{InEvent}
 use Rattle.session.specs.declared.event.InEvent.TheVariants as events

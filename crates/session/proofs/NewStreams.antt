@@ -25,11 +25,11 @@ use Rattle.h2frame.specs.declared.kind.FrameKind.{FrameKind}
 use Rattle.h2frame.specs.declared.kind.FrameKind.TheVariants.{Headers}
 use Rattle.h2frame.specs.Flags.{has, end_stream}
 use Rattle.callhead.specs.declared.fault.HeadFault.TheVariants.{Malformed}
-use Rattle.flow.specs.declared.halves.HalfState.{HalfState}
-use Rattle.flow.specs.declared.halves.HalfState.TheVariants.{Opened, Ended, Reset}
-use Rattle.flow.specs.declared.halves.FrameAction.{FrameAction}
-use Rattle.flow.specs.declared.halves.FrameAction.TheVariants.{ConnectionError}
-use Rattle.flow.specs.Halves.{Received, Cut, verdict, half_after, half_of_new, is_last_of_kind}
+use Rattle.streamstates.specs.declared.halves.HalfState.{HalfState}
+use Rattle.streamstates.specs.declared.halves.HalfState.TheVariants.{Opened, Ended, Reset}
+use Rattle.streamstates.specs.declared.halves.FrameAction.{FrameAction}
+use Rattle.streamstates.specs.declared.halves.FrameAction.TheVariants.{ConnectionError}
+use Rattle.streamstates.specs.Halves.{Received, Cut, verdict, half_after, half_of_new, is_last_of_kind}
 use Rattle.reasons.specs.declared.Reason.{Reason}
 use Rattle.reasons.specs.declared.Reason.TheVariants as reason
 use Rattle.session.specs.declared.event.InEvent.{InEvent}

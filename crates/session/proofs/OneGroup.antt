@@ -41,15 +41,15 @@ use Rattle.callhead.specs.declared.head.CallHead.{CallHead}
 use Rattle.callhead.specs.declared.fault.HeadFault.{HeadFault}
 use Rattle.hpack_codec.proofs.OneBlock.{fault_one}
 use Rattle.callhead.proofs.OneHead.{head_one, head_or_fault, head_fault_one}
-use Rattle.flow.specs.declared.halves.FrameAction.{FrameAction}
-use Rattle.flow.specs.declared.halves.FrameAction.TheVariants.{
+use Rattle.streamstates.specs.declared.halves.FrameAction.{FrameAction}
+use Rattle.streamstates.specs.declared.halves.FrameAction.TheVariants.{
   Open,
   Accept,
   Discard,
   StreamError,
   ConnectionError,
 }
-use Rattle.flow.specs.Halves.{Event, verdict}
+use Rattle.streamstates.specs.Halves.{Event, verdict}
 use Rattle.hpack_codec.specs.declared.fault.HpackFault.{HpackFault}
 use Rattle.reasons.specs.declared.Reason.{Reason}
 use Rattle.reasons.specs.declared.Reason.TheVariants as reason

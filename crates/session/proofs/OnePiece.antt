@@ -38,7 +38,7 @@ use Rattle.h2frame.specs.declared.kind.FrameKind.TheVariants.{
   Unknown,
 }
 use Rattle.h2frame.specs.FrameList.{Entry, Whole, NoIncrement}
-use Rattle.flow.specs.Halves.{Event, verdict, is_connection_error}
+use Rattle.streamstates.specs.Halves.{Event, verdict, is_connection_error}
 use Rattle.session.specs.declared.header_block.FragmentFault.{FragmentFault}
 use Rattle.session.specs.HeaderBlocks.{PendingBlock, AreMarked, Collects}
 use Rattle.session.specs.Events.{

@@ -8,8 +8,8 @@ use Rattle.h2frame.specs.declared.fault.FrameFault.{FrameFault}
 use Rattle.h2frame.specs.declared.kind.FrameKind.{FrameKind}
 use Rattle.h2frame.specs.FrameList.{Entry, Joined, IsUnfinished, IsFaulty}
 use Rattle.h2frame.proofs.Lists.{joined_more, faulty_more, faulty_list}
-use Rattle.flow.specs.declared.halves.FrameAction.TheVariants.{ConnectionError}
-use Rattle.flow.specs.Halves.{verdict, is_connection_error}
+use Rattle.streamstates.specs.declared.halves.FrameAction.TheVariants.{ConnectionError}
+use Rattle.streamstates.specs.Halves.{verdict, is_connection_error}
 use Rattle.reasons.specs.declared.Reason.{Reason}
 use Rattle.reasons.specs.declared.Reason.TheVariants as reason
 use Rattle.session.specs.declared.event.InEvent.{InEvent}

@@ -46,11 +46,11 @@ use Rattle.h2frame.specs.declared.kind.FrameKind.TheVariants.{
 }
 use Rattle.h2frame.specs.Flags.{has, end_stream}
 use Rattle.h2frame.specs.FrameList.{Entry, Whole, NoIncrement}
-use Rattle.flow.specs.declared.halves.HalfState.{HalfState}
-use Rattle.flow.specs.declared.halves.HalfState.TheVariants.{Opened, Ended, Reset}
-use Rattle.flow.specs.declared.halves.FrameAction.{FrameAction}
-use Rattle.flow.specs.declared.halves.FrameAction.TheVariants.{Open, Accept, Discard, StreamError}
-use Rattle.flow.specs.Halves.{
+use Rattle.streamstates.specs.declared.halves.HalfState.{HalfState}
+use Rattle.streamstates.specs.declared.halves.HalfState.TheVariants.{Opened, Ended, Reset}
+use Rattle.streamstates.specs.declared.halves.FrameAction.{FrameAction}
+use Rattle.streamstates.specs.declared.halves.FrameAction.TheVariants.{Open, Accept, Discard, StreamError}
+use Rattle.streamstates.specs.Halves.{
   Event,
   Received,
   Cut,

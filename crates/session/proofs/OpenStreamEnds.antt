@@ -47,10 +47,10 @@ use Rattle.lists.specs.declared.field.Field.{Field}
 use Rattle.hpack_codec.specs.Table.{Table}
 use Rattle.hpack_codec.specs.Codec.{Reads}
 use Rattle.callhead.specs.MalformedHeads.{are_malformed_trailers}
-use Rattle.flow.specs.declared.halves.HalfState.TheVariants.{Opened, Ended}
-use Rattle.flow.specs.declared.halves.FrameAction.{FrameAction}
-use Rattle.flow.specs.declared.halves.FrameAction.TheVariants.{Accept, StreamError}
-use Rattle.flow.specs.Halves.{Event, Received, is_headers, verdict}
+use Rattle.streamstates.specs.declared.halves.HalfState.TheVariants.{Opened, Ended}
+use Rattle.streamstates.specs.declared.halves.FrameAction.{FrameAction}
+use Rattle.streamstates.specs.declared.halves.FrameAction.TheVariants.{Accept, StreamError}
+use Rattle.streamstates.specs.Halves.{Event, Received, is_headers, verdict}
 use Rattle.session.specs.declared.event.InEvent.{InEvent}
 use Rattle.session.specs.declared.event.InEvent.TheVariants as events
 use Rattle.session.specs.Streams.{

@@ -6,9 +6,9 @@ use Rattle.lists.specs.declared.field.Field.{Field}
 use Rattle.hpack_codec.specs.Table.{Table}
 use Rattle.hpack_codec.specs.Codec.{Reads}
 use Rattle.callhead.specs.MalformedHeads.{are_malformed_trailers}
-use Rattle.flow.specs.declared.halves.FrameAction.{FrameAction}
-use Rattle.flow.specs.declared.halves.FrameAction.TheVariants.{Open, Accept}
-use Rattle.flow.specs.Halves.{Event, Streams, Stands}
+use Rattle.streamstates.specs.declared.halves.FrameAction.{FrameAction}
+use Rattle.streamstates.specs.declared.halves.FrameAction.TheVariants.{Open, Accept}
+use Rattle.streamstates.specs.Halves.{Event, Streams, Stands}
 use Rattle.session.specs.declared.event.InEvent.{InEvent}
 use Rattle.session.specs.Blocks.{trailer_events, after_trailers, HeadGives, FieldsGive, BlockGives}
 

@@ -28,7 +28,7 @@ use Rattle.std.specs.Prelude.{Option, Some, None, ◌==◌, nat_lt, if◌then◌
 use Rattle.std.specs.List.{list_all}
 use Rattle.std.proofs.lemmas.Bool.{and_parts, ltb-true}
 use Rattle.std.proofs.lemmas.List.{append-nil}
-use Rattle.flow.proofs.Entries.{same_number}
+use Rattle.limits.proofs.Entries.{same_number}
 use Rattle.std.proofs.lemmas.Grind.{flat_map-append}
 use Rattle.h2frame.specs.declared.error_code.ErrorCode.TheVariants.{ProtocolError}
 use Rattle.h2frame.specs.declared.frame.Frame.{Frame}
@@ -53,17 +53,17 @@ use Rattle.hpack_codec.specs.Table.{Table}
 use Rattle.callhead.specs.MalformedHeads.{are_malformed_trailers}
 use Rattle.callhead.specs.declared.fault.HeadFault.{HeadFault}
 use Rattle.callhead.specs.declared.fault.HeadFault.TheVariants.{Malformed}
-use Rattle.flow.specs.declared.TheConstants.{MAX_STREAMS}
-use Rattle.flow.specs.declared.halves.HalfState.{HalfState}
-use Rattle.flow.specs.declared.halves.FrameAction.{FrameAction}
-use Rattle.flow.specs.declared.halves.FrameAction.TheVariants.{
+use Rattle.limits.specs.declared.TheConstants.{MAX_STREAMS}
+use Rattle.streamstates.specs.declared.halves.HalfState.{HalfState}
+use Rattle.streamstates.specs.declared.halves.FrameAction.{FrameAction}
+use Rattle.streamstates.specs.declared.halves.FrameAction.TheVariants.{
   Open,
   Accept,
   Discard,
   StreamError,
   ConnectionError,
 }
-use Rattle.flow.specs.Halves.{
+use Rattle.streamstates.specs.Halves.{
   Event,
   Received,
   Cut,

@@ -33,16 +33,16 @@ use Rattle.h2frame.specs.declared.kind.FrameKind.TheVariants.{Headers, Settings}
 use Rattle.h2frame.specs.Flags.{has, end_headers}
 use Rattle.h2frame.specs.FrameList.{Entry, Whole, NoIncrement}
 use Rattle.hpack_codec.specs.Table.{Table}
-use Rattle.flow.specs.declared.halves.FrameAction.{FrameAction}
-use Rattle.flow.specs.declared.halves.FrameAction.TheVariants.{
+use Rattle.streamstates.specs.declared.halves.FrameAction.{FrameAction}
+use Rattle.streamstates.specs.declared.halves.FrameAction.TheVariants.{
   Open,
   Accept,
   Discard,
   StreamError,
   ConnectionError,
 }
-use Rattle.flow.specs.Halves.{Event, Streams, verdict, is_connection_error}
-use Rattle.flow.specs.Halves.{Stands as Keeps}
+use Rattle.streamstates.specs.Halves.{Event, Streams, verdict, is_connection_error}
+use Rattle.streamstates.specs.Halves.{Stands as Keeps}
 use Rattle.reasons.specs.declared.Reason.TheVariants as reason
 use Rattle.session.specs.declared.event.InEvent.{InEvent}
 use Rattle.session.specs.declared.context.Position.{Position}

@@ -62,7 +62,7 @@ use Rattle.h2frame.specs.FrameList.{
   answered,
 }
 use Rattle.hpack_codec.specs.Table.{Table}
-use Rattle.flow.specs.Halves.{Streams}
+use Rattle.streamstates.specs.Halves.{Streams}
 use Rattle.reasons.specs.declared.Reason.TheVariants as reason
 use Rattle.session.specs.declared.event.InEvent.{InEvent}
 use Rattle.session.specs.declared.context.Position.{Position}

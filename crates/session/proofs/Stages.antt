@@ -22,7 +22,7 @@ use Rattle.std.proofs.lemmas.List.{append-nil, append_cancel_left}
 use Rattle.h2frame.specs.FrameList.{Entry}
 use Rattle.h2frame.proofs.Lists.{joined_more, faulty_more}
 use Rattle.hpack_codec.specs.Table.{Table}
-use Rattle.flow.specs.Halves.{Streams}
+use Rattle.streamstates.specs.Halves.{Streams}
 use Rattle.reasons.specs.declared.Reason.TheVariants as reason
 use Rattle.session.specs.declared.event.InEvent.{InEvent}
 use Rattle.session.specs.declared.context.Position.{Position}

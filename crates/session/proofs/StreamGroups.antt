@@ -46,16 +46,16 @@ use Rattle.lists.specs.declared.field.Field.{Field}
 use Rattle.hpack_codec.specs.Table.{Table}
 use Rattle.callhead.specs.MalformedHeads.{are_malformed_trailers}
 use Rattle.callhead.specs.declared.fault.HeadFault.TheVariants.{Malformed}
-use Rattle.flow.specs.declared.halves.HalfState.{HalfState}
-use Rattle.flow.specs.declared.halves.FrameAction.{FrameAction}
-use Rattle.flow.specs.declared.halves.FrameAction.TheVariants.{
+use Rattle.streamstates.specs.declared.halves.HalfState.{HalfState}
+use Rattle.streamstates.specs.declared.halves.FrameAction.{FrameAction}
+use Rattle.streamstates.specs.declared.halves.FrameAction.TheVariants.{
   Open,
   Accept,
   Discard,
   StreamError,
   ConnectionError,
 }
-use Rattle.flow.specs.Halves.{Event, Cut, is_headers, begun, verdict}
+use Rattle.streamstates.specs.Halves.{Event, Cut, is_headers, begun, verdict}
 use Rattle.session.specs.declared.event.InEvent.{InEvent}
 use Rattle.session.specs.Streams.{after_frame, data_events, credit_head, credit_verdict}
 use Rattle.session.specs.Frames.{WindowGives, KindGives}

@@ -33,17 +33,17 @@ use Rattle.h2frame.specs.FrameList.{Entry}
 use Rattle.hpack_codec.specs.Table.{Table}
 use Rattle.callhead.specs.declared.fault.HeadFault.{HeadFault}
 use Rattle.callhead.specs.declared.fault.HeadFault.TheVariants.{Malformed}
-use Rattle.flow.specs.declared.halves.HalfState.TheVariants.{Opened}
-use Rattle.flow.specs.declared.halves.FrameAction.{FrameAction}
-use Rattle.flow.specs.declared.halves.FrameAction.TheVariants.{
+use Rattle.streamstates.specs.declared.halves.HalfState.TheVariants.{Opened}
+use Rattle.streamstates.specs.declared.halves.FrameAction.{FrameAction}
+use Rattle.streamstates.specs.declared.halves.FrameAction.TheVariants.{
   Open,
   Accept,
   Discard,
   StreamError,
   ConnectionError,
 }
-use Rattle.flow.specs.Halves.{Event, verdict}
-use Rattle.flow.proofs.HalfLemmas.{kept-None}
+use Rattle.streamstates.specs.Halves.{Event, verdict}
+use Rattle.streamstates.proofs.HalfLemmas.{kept-None}
 use Rattle.session.specs.declared.event.InEvent.{InEvent}
 use Rattle.session.specs.declared.event.InEvent.TheVariants as events
 use Rattle.session.specs.Streams.{counted, end_of, data_events, credit_head, credit_verdict}

@@ -32,10 +32,10 @@ use Rattle.std.proofs.lemmas.List.Concat.{flat_map-cons}
 use Rattle.h2frame.specs.FrameList.{Entry, Whole, NoIncrement, Spells, Joined}
 use Rattle.h2frame.specs.Flags.{is_padded}
 use Rattle.h2frame.specs.Spelling.{payload_text}
-use Rattle.flow.specs.declared.TheConstants.{MAX_STREAMS}
-use Rattle.flow.specs.declared.halves.HalfState.TheVariants.{Opened}
-use Rattle.flow.specs.Halves.{begun}
-use Rattle.flow.proofs.HalfLemmas.{kept-None}
+use Rattle.limits.specs.declared.TheConstants.{MAX_STREAMS}
+use Rattle.streamstates.specs.declared.halves.HalfState.TheVariants.{Opened}
+use Rattle.streamstates.specs.Halves.{begun}
+use Rattle.streamstates.proofs.HalfLemmas.{kept-None}
 use Rattle.session.specs.declared.event.InEvent.{InEvent}
 use Rattle.session.specs.Events.{
   Situation,

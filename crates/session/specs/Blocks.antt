@@ -13,9 +13,9 @@ use Rattle.callhead.specs.declared.fault.HeadFault.{HeadFault}
 use Rattle.callhead.specs.declared.fault.HeadFault.TheVariants.{Malformed}
 use Rattle.callhead.specs.Heads.{IsHead, IsFirstFault as IsFirstHeadFault}
 use Rattle.callhead.specs.MalformedHeads.{are_malformed_trailers}
-use Rattle.flow.specs.declared.halves.FrameAction.{FrameAction}
-use Rattle.flow.specs.declared.halves.FrameAction.TheVariants.{Open, Accept, StreamError}
-use Rattle.flow.specs.Halves.{Event, Cut}
+use Rattle.streamstates.specs.declared.halves.FrameAction.{FrameAction}
+use Rattle.streamstates.specs.declared.halves.FrameAction.TheVariants.{Open, Accept, StreamError}
+use Rattle.streamstates.specs.Halves.{Event, Cut}
 use Rattle.reasons.specs.declared.Reason.TheVariants as reason
 use Rattle.session.specs.declared.event.InEvent.{InEvent}
 use Rattle.session.specs.declared.event.InEvent.TheVariants as events

@@ -29,9 +29,9 @@ use Rattle.h2frame.specs.declared.fault.FrameFault.TheVariants.{OutOfMemory}
 use Rattle.h2frame.specs.declared.frame.Frame.{Frame}
 use Rattle.h2frame.specs.FrameList.{Entry, Whole, Joined, IsUnfinished}
 use Rattle.hpack_codec.specs.Table.{Table, empty_table}
-use Rattle.flow.specs.declared.halves.FrameAction.{FrameAction}
-use Rattle.flow.specs.Halves.{Event, Streams, verdict, half_of}
-use Rattle.flow.specs.Halves.{Stands as Keeps}
+use Rattle.streamstates.specs.declared.halves.FrameAction.{FrameAction}
+use Rattle.streamstates.specs.Halves.{Event, Streams, verdict, half_of}
+use Rattle.streamstates.specs.Halves.{Stands as Keeps}
 use Rattle.reasons.specs.declared.Reason.TheVariants as reason
 use Rattle.session.specs.declared.event.InEvent.{InEvent}
 use Rattle.session.specs.declared.context.Position.{Position}

@@ -29,8 +29,8 @@ use Rattle.h2frame.specs.declared.frame.Frame.{Frame}
 use Rattle.h2frame.specs.declared.kind.FrameKind.TheVariants.{Headers, Settings}
 use Rattle.h2frame.specs.FrameList.{Entry, Whole, NoIncrement, Joined, IsUnfinished, IsFaulty}
 use Rattle.hpack_codec.specs.Table.{Table, empty_table}
-use Rattle.flow.specs.declared.halves.FrameAction.TheVariants.{ConnectionError}
-use Rattle.flow.specs.Halves.{Event, verdict, is_connection_error}
+use Rattle.streamstates.specs.declared.halves.FrameAction.TheVariants.{ConnectionError}
+use Rattle.streamstates.specs.Halves.{Event, verdict, is_connection_error}
 use Rattle.reasons.specs.declared.Reason.{Reason}
 use Rattle.reasons.specs.declared.Reason.TheVariants as reason
 use Rattle.session.specs.declared.event.InEvent.{InEvent}

@@ -16,8 +16,8 @@ use Rattle.h2frame.specs.declared.kind.FrameKind.TheVariants.{
   Unknown,
 }
 use Rattle.h2frame.specs.Flags.{has, ack}
-use Rattle.flow.specs.declared.halves.FrameAction.{FrameAction}
-use Rattle.flow.specs.Halves.{Event, verdict}
+use Rattle.streamstates.specs.declared.halves.FrameAction.{FrameAction}
+use Rattle.streamstates.specs.Halves.{Event, verdict}
 use Rattle.reasons.specs.declared.Reason.{Reason}
 use Rattle.reasons.specs.declared.Reason.TheVariants as reason
 use Rattle.session.specs.declared.event.PeerControl.TheVariants as controls

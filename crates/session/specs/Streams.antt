@@ -10,14 +10,14 @@ use Rattle.h2frame.specs.declared.kind.FrameKind.TheVariants.{WindowUpdate}
 use Rattle.h2frame.specs.ErrorCode.{error_of}
 use Rattle.h2frame.specs.Faults.{increment_of}
 use Rattle.h2frame.specs.Flags.{has, end_stream}
-use Rattle.flow.specs.declared.halves.FrameAction.{FrameAction}
-use Rattle.flow.specs.declared.halves.FrameAction.TheVariants.{
+use Rattle.streamstates.specs.declared.halves.FrameAction.{FrameAction}
+use Rattle.streamstates.specs.declared.halves.FrameAction.TheVariants.{
   Open,
   Accept,
   StreamError,
   ConnectionError,
 }
-use Rattle.flow.specs.Halves.{Event, Received, Cut, verdict}
+use Rattle.streamstates.specs.Halves.{Event, Received, Cut, verdict}
 use Rattle.reasons.specs.declared.Reason.TheVariants as reason
 use Rattle.session.specs.declared.event.PeerControl.TheVariants.{Window}
 use Rattle.session.specs.declared.event.InEvent.{InEvent}

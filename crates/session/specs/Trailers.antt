@@ -8,8 +8,8 @@ use Rattle.lists.specs.declared.field.Field.{Field}
 use Rattle.hpack_codec.specs.Table.{Table}
 use Rattle.hpack_codec.specs.Codec.{Reads}
 use Rattle.callhead.specs.MalformedHeads.{are_malformed_trailers}
-use Rattle.flow.specs.declared.halves.FrameAction.TheVariants.{Accept}
-use Rattle.flow.specs.Halves.{verdict}
+use Rattle.streamstates.specs.declared.halves.FrameAction.TheVariants.{Accept}
+use Rattle.streamstates.specs.Halves.{verdict}
 use Rattle.session.specs.declared.event.InEvent.{InEvent}
 use Rattle.session.specs.declared.event.InEvent.TheVariants as events
 use Rattle.session.specs.HeaderBlocks.{PendingBlock, Collects}

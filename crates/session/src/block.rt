@@ -2,7 +2,7 @@
 
 ghost use Rattle.std.specs.Prelude.{◌≡◌, ◌∷◌, ◌++◌, true, List, OnOk, IsSome};
 ghost use Rattle.callhead.specs.MalformedHeads.{are_malformed_trailers};
-ghost use Rattle.flow.specs.Halves.{Event, Stands, half_of};
+ghost use Rattle.streamstates.specs.Halves.{Event, Stands, half_of};
 ghost use Rattle.session.specs.declared.event.InEvent.{InEvent};
 ghost use Rattle.session.specs.Streams.{end_of, is_accepted};
 ghost use Rattle.session.specs.Blocks.{
@@ -17,12 +17,12 @@ ghost use Rattle.session.specs.Blocks.{
 use crate::event::InEvent;
 use crate::judge::refuse;
 use callhead::{CallHead, HeadFault, are_malformed_trailers};
-use flow::{FrameAction, Halves};
 use h2frame::{ErrorCode, Flags, FrameHead};
 use hpack_codec::{Decoder, HpackFault};
 use lists::Field;
 use reasons::Reason;
 use std::alloc::{AllocError, Global};
+use streamstates::{FrameAction, Halves};
 
 /// Adds the events of a whole header block to those before it. Its HEADERS, with this head, had
 /// this verdict.

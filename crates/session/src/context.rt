@@ -5,7 +5,7 @@ ghost use Rattle.h2frame.specs.FrameList.{Whole, NoIncrement, IsLawful, answered
 ghost use Rattle.h2frame.specs.declared.fault.FrameFault.TheVariants.{OutOfMemory};
 ghost use Rattle.hpack_codec.specs.Table.{empty_table};
 ghost use Rattle.reasons.specs.declared.Reason.TheVariants as reason;
-ghost use Rattle.flow.specs.Halves.{Stands, half_of};
+ghost use Rattle.streamstates.specs.Halves.{Stands, half_of};
 ghost use Rattle.session.specs.declared.context.Position.TheVariants.{Inside};
 ghost use Rattle.session.specs.Streams.{is_accepted};
 ghost use Rattle.session.specs.Frames.{fatal};
@@ -23,11 +23,11 @@ use crate::block::block_events;
 use crate::event::InEvent;
 use crate::header_block::{FragmentFault, HeaderBlock};
 use crate::judge::{credit_head, frame_events, judge, judge_credit, refuse};
-use flow::{FrameAction, Halves};
 use h2frame::{Flags, Frame, FrameFault, FrameHead, FrameKind, StreamId};
 use hpack_codec::Decoder;
 use reasons::Reason;
 use std::alloc::{AllocError, Global};
+use streamstates::{FrameAction, Halves};
 
 /// Where the frames after a connection's preface have led.
 #[derive(Drop)]

@@ -13,7 +13,7 @@ ghost use Rattle.h2frame.specs.declared.kind.FrameKind.TheVariants.{
   Settings,
   WindowUpdate,
 };
-ghost use Rattle.flow.specs.Halves.{Event, IsJudged, Stands, half_of, verdict};
+ghost use Rattle.streamstates.specs.Halves.{Event, IsJudged, Stands, half_of, verdict};
 ghost use Rattle.session.specs.declared.event.InEvent.{InEvent};
 ghost use Rattle.session.specs.Streams.{
   after_frame,
@@ -30,10 +30,10 @@ ghost use Rattle.session.specs.Frames.{Gives, SettingsGive, WindowGives, ping_ev
 
 use crate::event::{InEvent, PeerControl};
 use crate::settings::{SettingsFault, read_settings};
-use flow::{FrameAction, Halves};
 use h2frame::{ErrorCode, Flags, Frame, FrameHead, FrameKind, StreamId, increment, ping_bytes};
 use reasons::Reason;
 use std::alloc::{AllocError, Global};
+use streamstates::{FrameAction, Halves};
 
 /// Judges a frame of a stream. An error of the stream resets it.
 #[tactic(auto, using(crate::proofs::LawfulFrames::accepted_begun))]

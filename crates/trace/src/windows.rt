@@ -3,7 +3,7 @@
 ghost use Rattle.std.specs.Prelude.{◌≡◌, ◌+ℤ◌, pos};
 ghost use Rattle.std.specs.Int.{w64, saturate_signed};
 
-use flow::INITIAL_WINDOW;
+use limits::INITIAL_WINDOW;
 
 /// How a window changes by a frame. It may go below zero.
 #[derive(Clone, Copy, Debug, PartialEq, Eq)]

@@ -2,7 +2,8 @@
 //! call, and its answer.
 
 use anyhow::{Result, bail, ensure};
-use flow::{Book, BookFault, Marks, SendWindows};
+use creditbook::{Book, BookFault, Marks};
+use sendwindows::SendWindows;
 use h2frame::StreamId;
 use rows::number;
 use std::fmt::{Debug, Display};

@@ -3,7 +3,8 @@
 
 use anyhow::{Context, Result, bail, ensure};
 use callhead::HeadFault;
-use flow::{BookFault, WindowFault};
+use creditbook::BookFault;
+use sendwindows::WindowFault;
 use h2frame::{
     ErrorCode, Flags, FrameFault, FrameKind, PeerSetting, PeerSettings, SettingId, increment,
     ping_bytes,

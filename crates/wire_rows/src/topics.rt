@@ -2,7 +2,9 @@
 
 use crate::{answers, blocks, credit, frames, heads, kinds, names, values, verdicts};
 use anyhow::{Result, bail};
-use flow::{Book, Halves, SendWindows};
+use creditbook::Book;
+use sendwindows::SendWindows;
+use streamstates::Halves;
 use hpack_codec::{Decoder, Encoder};
 use lists::Field;
 use rows::{GivenRow, Subject};

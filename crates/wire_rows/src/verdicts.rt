@@ -3,10 +3,10 @@
 //! begin as may.
 
 ghost use Rattle.std.specs.Prelude.{◌≡◌, ◌<◌, IfOk};
-ghost use Rattle.flow.specs.Halves.{IsJudged};
+ghost use Rattle.streamstates.specs.Halves.{IsJudged};
 
 use anyhow::{Context, Result, bail, ensure};
-use flow::{FrameAction, Halves};
+use streamstates::{FrameAction, Halves};
 use h2frame::{ErrorCode, Flags, FrameHead, FrameKind, StreamId};
 use rows::number;
 use std::alloc::Global;

@@ -38,9 +38,9 @@ use Rattle.std.proofs.lemmas.List.Elements.{All-tail, All-weaker}
 use Rattle.std.proofs.lemmas.List.Sorted.{All-permutation, IsPermutation-swap_remove}
 use Rattle.account.specs.declared.call.OutItem.{OutItem}
 use Rattle.callbox.specs.declared.sender.Sender.{Sender}
-use Rattle.flow.specs.declared.TheConstants.{MAX_WINDOW}
-use Rattle.flow.specs.Windows.{room}
-use Rattle.flow.proofs.WindowSteps.{room-follows}
+use Rattle.limits.specs.declared.TheConstants.{MAX_WINDOW}
+use Rattle.sendwindows.specs.Windows.{room}
+use Rattle.sendwindows.proofs.WindowSteps.{room-follows}
 use Rattle.hpack_codec.specs.Codec.{Encoding}
 use Rattle.hpack_codec.specs.Table.{Table}
 use Rattle.outwriter.specs.declared.blocks.HeaderBlock.{HeaderBlock}

@@ -14,8 +14,8 @@ use Rattle.std.specs.Prelude.{
 use Rattle.std.specs.List.{list_any}
 use Rattle.account.specs.declared.call.OutItem.{OutItem}
 use Rattle.callbox.specs.declared.sender.Sender.{Sender}
-use Rattle.flow.specs.WindowHistory.{room_after}
-use Rattle.flow.specs.WindowHistory.{Step as WindowStep}
+use Rattle.sendwindows.specs.WindowHistory.{room_after}
+use Rattle.sendwindows.specs.WindowHistory.{Step as WindowStep}
 use Rattle.outwriter.specs.Calls.{IsReturned, is_served}
 use Rattle.outwriter.specs.Frames.{is_last}
 use Rattle.outwriter.specs.Histories.{HasHistory, is_over, is_stream, was_reset}

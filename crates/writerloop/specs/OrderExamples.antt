@@ -4,8 +4,8 @@ use Rattle.reasons.specs.declared.Reason.TheVariants as reason
 use Rattle.std.proofs.Common.{inl, inr, ap, subst, sym, ◌∙◌, true≢false}
 use Rattle.std.specs.Prelude.{◌≡◌, ◌++◌, ℕ, Bool, true, false, refl, List, [], ◌∷◌}
 use Rattle.std.specs.Option.{is_some}
-use Rattle.flow.specs.WindowHistory.{CanCredit}
-use Rattle.flow.specs.WindowHistory.{Step as WindowStep}
+use Rattle.sendwindows.specs.WindowHistory.{CanCredit}
+use Rattle.sendwindows.specs.WindowHistory.{Step as WindowStep}
 use Rattle.h2frame.specs.declared.error_code.ErrorCode.TheVariants.{NoError, InternalError}
 use Rattle.outwriter.specs.declared.control.WriterOrder.TheVariants.{
   Ping,

@@ -31,7 +31,7 @@ ghost use Rattle.std.specs.Prelude.{
 };
 ghost use Rattle.std.specs.Io.KnownBytes.{Appends};
 ghost use Rattle.device.specs.Bytes.{AppendsPrefix};
-ghost use Rattle.flow.specs.Windows.{room};
+ghost use Rattle.sendwindows.specs.Windows.{room};
 ghost use Rattle.outwriter.specs.Calls.{TellFronts, TellReturned, TellOthers};
 ghost use Rattle.outwriter.specs.Cores.{calls, lanes, open_stream, takes_credit, IsUnused};
 ghost use Rattle.outwriter.specs.Drains.{is_going_away, was_probed};

@@ -67,7 +67,7 @@ impl<J: Naming, W: ConnWrite + Drop> Writing<J, W> {
     ghost use Rattle.h2frame.specs.declared.error_code.ErrorCode.TheVariants.{FlowControlError};
     ghost use Rattle.outwriter.specs.Cores.{open_stream, takes_credit};
     ghost use Rattle.outwriter.specs.RunState.{is_held};
-    ghost use Rattle.flow.specs.Windows.{room};
+    ghost use Rattle.sendwindows.specs.Windows.{room};
     ghost use Rattle.callparts.specs.declared.report.Ending.TheVariants as ending;
     ghost use Rattle.writerloop.specs.declared.fill_end.FillEnd.TheVariants as filling;
     ghost use Rattle.writerloop.specs.declared.standing.Standing.TheVariants as stands;

@@ -30,11 +30,12 @@ use crate::stream::{BoxedStream, NextItem};
 use crate::stream_state::{Change, StreamState};
 use account::OutItem;
 use callbox::Sender;
-use flow::{ConnectionWindow, MAX_WINDOW, WindowFault};
 use h2frame::StreamId;
 use hpack_codec::Encoder;
 use indexmap::IndexMap;
 use lane::Lane;
+use limits::MAX_WINDOW;
+use sendwindows::{ConnectionWindow, WindowFault};
 use std::alloc::AllocError;
 
 /// Changes the state of a stream. One of which nothing was heard becomes open as `opened` says, if

@@ -84,15 +84,12 @@ use callparts::{
 };
 use connbook::AdmitFault;
 use h2frame::{ErrorCode, StreamId};
+use limits::MAX_STREAMS;
 use lists::Sequence;
 use outwriter::WriterOrder;
 use reasons::Reason;
 use std::alloc::{AllocError, Global};
 use std::sync::Arc;
-
-/// How many streams a client may begin (`flow::Halves`). At the last of them GOAWAY asks it to open
-/// no more.
-const STREAMS: u32 = 4096;
 
 /// Room for the pieces of a call's DATA: one for each byte that a window lets through.
 const IN_ROOM: usize = 65_536;
@@ -432,11 +429,11 @@ impl<J: Naming, M: Answering> Reading<J, M> {
         if !self.is_draining {
             self.last = self.last.max(id);
         }
-        if self.begun >= STREAMS {
+        if self.begun >= MAX_STREAMS as u32 {
             return None;
         }
         self.begun += 1;
-        if self.begun < STREAMS || self.is_draining {
+        if self.begun < MAX_STREAMS as u32 || self.is_draining {
             return None;
         }
         Some(id)

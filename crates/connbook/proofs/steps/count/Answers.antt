@@ -1,6 +1,6 @@
 use Rattle.std.proofs.Common.{◌∙◌, sym, subst}
 use Rattle.std.specs.Prelude.{MatchOption, ◌+◌, ◌≤◌}
-use Rattle.flow.specs.Books.{Books, call_at}
+use Rattle.creditbook.specs.Books.{Books, call_at}
 use Rattle.connbook.proofs.StepLemmas.{fed}
 use Rattle.connbook.proofs.steps.count.Goals as goal
 

@@ -1,4 +1,4 @@
-use Rattle.flow.specs.Books.{ReceiveCause}
+use Rattle.creditbook.specs.Books.{ReceiveCause}
 use Rattle.connbook.proofs.StepLemmas.{done, receives}
 use Rattle.connbook.proofs.steps.count_live.Goals as goal
 

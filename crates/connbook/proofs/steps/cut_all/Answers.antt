@@ -1,5 +1,5 @@
 use Rattle.std.proofs.Common.{◌∙◌, sym, ap, subst, length, ◌<◌}
-use Rattle.flow.specs.Books.{Books}
+use Rattle.creditbook.specs.Books.{Books}
 use Rattle.connbook.specs.Receipts.{after_stop}
 use Rattle.connbook.proofs.StepLemmas.{cut_first}
 use Rattle.connbook.proofs.steps.cut_all.Goals as goal

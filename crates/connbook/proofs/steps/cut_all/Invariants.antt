@@ -1,5 +1,5 @@
 use Rattle.std.proofs.Common.{◌≡◌, length}
-use Rattle.flow.specs.Books.{IsLawful}
+use Rattle.creditbook.specs.Books.{IsLawful}
 use Rattle.connbook.specs.Receipts.{after_stop}
 use Rattle.connbook.proofs.steps.cut_all.Given as goal
 

@@ -1,4 +1,4 @@
-use Rattle.flow.specs.Books.{GiveBackCause}
+use Rattle.creditbook.specs.Books.{GiveBackCause}
 use Rattle.connbook.proofs.StepLemmas.{done, returns_padding}
 use Rattle.connbook.proofs.steps.return_padding.Goals as goal
 

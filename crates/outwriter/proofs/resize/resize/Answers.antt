@@ -1,7 +1,7 @@
 use Rattle.std.proofs.Common.{◌≤◌, sym, ap, subst, ◌∙◌, Some}
 use Rattle.std.proofs.lemmas.List.Elements.{All-weaker}
 use Rattle.outwriter.specs.States.{States}
-use Rattle.flow.specs.WindowHistory.{CanResize}
+use Rattle.sendwindows.specs.WindowHistory.{CanResize}
 use Rattle.outwriter.specs.Histories.{window_sizes}
 use Rattle.outwriter.specs.Resizes.{FitsOn, IsSeen}
 use Rattle.outwriter.proofs.ResizeLemmas.{

@@ -1,6 +1,6 @@
 use Rattle.std.proofs.Common.{subst, ◌∷◌}
 use Rattle.h2frame.specs.declared.frame.FrameHead.{FrameHead}
-use Rattle.flow.specs.Halves.{Cut, Received, Stands}
+use Rattle.streamstates.specs.Halves.{Cut, Received, Stands}
 use Rattle.session.proofs.judge.judge_credit.Goals as goal
 
 pub returns-in-StreamError-clause-follows : goal.returns-in-StreamError-clause-follows

@@ -1,5 +1,5 @@
 use Rattle.std.proofs.Common.{subst, [], ◌∷◌}
-use Rattle.flow.specs.WindowHistory.{Closing}
+use Rattle.sendwindows.specs.WindowHistory.{Closing}
 use Rattle.outwriter.specs.States.{Moves, SameButWindows, States, states_of}
 use Rattle.outwriter.proofs.StateWindows.{closed-moves, closed-stands, closed-within}
 use Rattle.outwriter.proofs.states.StreamStates.close_window.Goals as goal

@@ -1,8 +1,8 @@
 use Rattle.std.proofs.Common.{◌≡◌, List, [], ◌∷◌, arith, subst}
 use Rattle.std.specs.Prelude.{OnErr, OnOk}
-use Rattle.flow.specs.WindowHistory.{CanCredit, Credit, Follows}
-use Rattle.flow.specs.WindowHistory.{Step as WindowStep}
-use Rattle.flow.specs.Windows.{CreditFault, Meets}
+use Rattle.sendwindows.specs.WindowHistory.{CanCredit, Credit, Follows}
+use Rattle.sendwindows.specs.WindowHistory.{Step as WindowStep}
+use Rattle.sendwindows.specs.Windows.{CreditFault, Meets}
 use Rattle.outwriter.specs.States.{Moves, SameButWindows, States, states_of}
 use Rattle.outwriter.proofs.StateWindows.{
   credited,

@@ -1,6 +1,6 @@
 use Rattle.std.proofs.Common.{◌∙◌, List, subst, sym}
-use Rattle.flow.specs.WindowHistory.{CanResize, Follows}
-use Rattle.flow.specs.WindowHistory.{Step as WindowStep}
+use Rattle.sendwindows.specs.WindowHistory.{CanResize, Follows}
+use Rattle.sendwindows.specs.WindowHistory.{Step as WindowStep}
 use Rattle.outwriter.specs.Resizes.{FitsOn}
 use Rattle.outwriter.specs.States.{States, windows_of}
 use Rattle.outwriter.proofs.BalanceLemmas.{all-fit, can-resize, cannot-resize, some-over}

@@ -1,5 +1,5 @@
 use Rattle.std.proofs.Common.{◌≡◌, ◌∙◌, ap, subst, sym}
-use Rattle.flow.specs.Windows.{room}
+use Rattle.sendwindows.specs.Windows.{room}
 use Rattle.outwriter.specs.States.{States, balance_in, room_in}
 use Rattle.outwriter.proofs.BalanceLemmas.{found-balance}
 use Rattle.outwriter.proofs.states.StreamStates.room.Goals as goal

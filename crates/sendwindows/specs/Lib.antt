@@ -1,0 +1,4 @@
+pub mod Windows
+pub mod WindowHistory
+pub mod WindowHistoryExamples
+pub mod WindowExamples
