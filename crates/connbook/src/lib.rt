@@ -2,7 +2,7 @@
 //!
 //! The reader of a connection counts what comes and admits calls. Each call's worker gives bytes
 //! back. The writer announces them to the peer, and stops the book when it can write no more.
-//! `ConnBook` is the value under their lock: the credit book of `flow`, whether the writer has
+//! `ConnBook` is the value under their lock: the `Book` of `creditbook`, whether the writer has
 //! stopped, and three ledgers. Whichever thread adds to one of the book's numbers holds the share
 //! of its ledger: the reader those of the bytes that came and of the calls that were admitted, the
 //! writer that of the bytes that were announced. So when they meet again, each share is what the
