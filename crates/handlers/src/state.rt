@@ -1,9 +1,11 @@
 //! What a method keeps of a call between its steps.
 //!
-//! No state keeps a message. `Sum` holds the one length that UnaryCall needs of its message.
-//! EmptyCall needs to know only that there was one. StreamingOutputCall and HalfDuplexCall hold
-//! what they are to answer at the end. A state that a method never makes stands for nothing, and a
-//! step from it answers something harmless.
+//! FullDuplexCall answers each message as it takes it. The other methods answer at end-of-stream
+//! (`end` in the file of each), and keep until then what their answer needs. No state keeps a
+//! message. `Sum` holds the one length that UnaryCall needs of its message. EmptyCall needs to know
+//! only that there was one. StreamingOutputCall and HalfDuplexCall hold what they are to answer. A
+//! state that a method never makes stands for nothing, and a step from it answers something
+//! harmless.
 
 ghost use Rattle.std.specs.Prelude.{◌≡◌};
 
