@@ -217,8 +217,12 @@ completed-ends before frame block is ended = by (ends_block frame) refl
         → list_any (ends block.stream) (frame ∷ frames_of before) ≡ true
     by true found =
         block-ends before frame block (unfinished-ends before)
-        (sym (ap (λ (b : Bool). if b then fragments frame (unfinished before) else None) found) ∙ is) ended
-    by false found = none-block block (sym (ap (λ (b : Bool). if b then fragments frame (unfinished before) else None) found) ∙ is)
+        (sym (ap (λ (b : Bool). if b then fragments frame (unfinished before) else None) found)
+        ∙ is) ended
+    by false found =
+        none-block block (sym
+        (ap (λ (b : Bool). if b then fragments frame (unfinished before) else None) found)
+        ∙ is)
 
 -- ---- an end that is told was written
 

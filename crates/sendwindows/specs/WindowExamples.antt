@@ -1,6 +1,14 @@
 -- Worked windows, computed.
 use Rattle.std.specs.Prelude.{◌≡◌, refl, [], ◌∷◌, pos, negsuc, Some, None}
-use Rattle.sendwindows.specs.Windows.{Windows, new_windows, opened, with_balance, closed, window, room}
+use Rattle.sendwindows.specs.Windows.{
+  Windows,
+  new_windows,
+  opened,
+  with_balance,
+  closed,
+  window,
+  room,
+}
 
 -- stream 1 has sent 40,000 bytes, and the initial size is 0 now
 abbrev pub below_zero : Windows

@@ -1,5 +1,5 @@
-//! How many bytes of DATA the peer allows to be sent on the connection and on each stream (RFC 9113,
-//! sections 5.2 and 6.9).
+//! How many bytes of DATA the peer allows to be sent on the connection and on each stream (RFC
+//! 9113, sections 5.2 and 6.9).
 //!
 //! Credit raises a window, sending lowers it, and a new initial size moves those of all streams.
 //! `ConnectionWindow` has what all streams share, and a `Balance` what a stream has of its own.

@@ -28,7 +28,10 @@ ghost use Rattle.std.specs.Prelude.{
 ghost use Rattle.std.specs.List.{list_all};
 ghost use Rattle.std.specs.Map.{values_of};
 ghost use Rattle.indexmap.specs.IndexMap.{IsUnique};
-ghost use Rattle.sendwindows.specs.declared.send_windows.WindowFault.TheVariants.{Overflow, OutOfMemory};
+ghost use Rattle.sendwindows.specs.declared.send_windows.WindowFault.TheVariants.{
+  Overflow,
+  OutOfMemory,
+};
 ghost use Rattle.sendwindows.specs.Windows.{
   code_of,
   room,

@@ -29,7 +29,14 @@ use Rattle.streamstates.specs.declared.halves.HalfState.{HalfState}
 use Rattle.streamstates.specs.declared.halves.HalfState.TheVariants.{Opened, Ended, Reset}
 use Rattle.streamstates.specs.declared.halves.FrameAction.{FrameAction}
 use Rattle.streamstates.specs.declared.halves.FrameAction.TheVariants.{ConnectionError}
-use Rattle.streamstates.specs.Halves.{Received, Cut, verdict, half_after, half_of_new, is_last_of_kind}
+use Rattle.streamstates.specs.Halves.{
+  Received,
+  Cut,
+  verdict,
+  half_after,
+  half_of_new,
+  is_last_of_kind,
+}
 use Rattle.reasons.specs.declared.Reason.{Reason}
 use Rattle.reasons.specs.declared.Reason.TheVariants as reason
 use Rattle.session.specs.declared.event.InEvent.{InEvent}

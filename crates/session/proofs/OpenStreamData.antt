@@ -49,7 +49,12 @@ use Rattle.h2frame.specs.FrameList.{Entry, Whole, NoIncrement}
 use Rattle.streamstates.specs.declared.halves.HalfState.{HalfState}
 use Rattle.streamstates.specs.declared.halves.HalfState.TheVariants.{Opened, Ended, Reset}
 use Rattle.streamstates.specs.declared.halves.FrameAction.{FrameAction}
-use Rattle.streamstates.specs.declared.halves.FrameAction.TheVariants.{Open, Accept, Discard, StreamError}
+use Rattle.streamstates.specs.declared.halves.FrameAction.TheVariants.{
+  Open,
+  Accept,
+  Discard,
+  StreamError,
+}
 use Rattle.streamstates.specs.Halves.{
   Event,
   Received,

@@ -12,7 +12,17 @@ use Rattle.streamstates.specs.declared.halves.FrameAction.TheVariants.{
   StreamError,
   ConnectionError,
 }
-use Rattle.streamstates.specs.Halves.{Event, Received, Cut, begun, Idle, Skipped, Begun, state, verdict}
+use Rattle.streamstates.specs.Halves.{
+  Event,
+  Received,
+  Cut,
+  begun,
+  Idle,
+  Skipped,
+  Begun,
+  state,
+  verdict,
+}
 
 -- a frame without flags, and one with END_STREAM
 abbrev pub plain : FrameKind → ℕ → FrameHead

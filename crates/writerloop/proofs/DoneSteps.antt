@@ -224,7 +224,8 @@ module _ {L In Out Shut : Type 0} (got ahead : Out → List OutItem) where
       inr (subst (λ (senders : List (ℕ × Sender L In Out Shut)). All (HasDone run now) senders)
       (sym releases.3) (All-tail (HasDone run now) (id, sender)
       (swap_remove old releases.0 (id, sender))
-      (All-permutation (HasDone run now) old ((id, sender) ∷ swap_remove old releases.0 (id, sender))
+      (All-permutation (HasDone run now) old
+      ((id, sender) ∷ swap_remove old releases.0 (id, sender))
       (IsPermutation-swap_remove old releases.0 (id, sender) releases.1 releases.2)
       (All-weaker (HasDone run run) (HasDone run now)
       (λ call was served there.
@@ -233,7 +234,8 @@ module _ {L In Out Shut : Type 0} (got ahead : Out → List OutItem) where
 
 -- ---- where no more is known to be ahead
 
-pub done-known : (run : List Step) (id : ℕ) (items more : List OutItem) → HasNoMore run id items more
+pub done-known : (run : List Step) (id : ℕ) (items more : List OutItem)
+    → HasNoMore run id items more
     → HasNoMore run id items []
 done-known run id items more (Ended over) = Ended over
 done-known run id items more (WasReset was) = WasReset was

@@ -1,5 +1,5 @@
--- Why nothing more is written of a call, where its writer is at its end (RFC 9113, sections 5.1, 6.4
--- and 6.9). A run has the latest first.
+-- Why nothing more is written of a call, where its writer is at its end (RFC 9113, sections 5.1,
+-- 6.4 and 6.9). A run has the latest first.
 use Rattle.std.specs.Prelude.{
   ◌≡◌,
   ◌⊎◌,
@@ -27,14 +27,15 @@ abbrev pub IsShut : ℕ → List Step → Type 0
 IsShut id run = (history : List WindowStep) × HasHistory run history × (room_after history id ≡ 0)
 
 -- the frames of the stream have all that these items spell, but for these bytes of DATA
-pub record HasAllBut (bytes : List ℕ) (run : List Step) (id : ℕ) (items : List OutItem) : Type 0 where
+pub record HasAllBut (bytes : List ℕ) (run : List Step) (id : ℕ)
+    (items : List OutItem) : Type 0 where
   pub part : List Mark
   pub written : IsPart id run part
   pub all : spelled items ≡ part ++ map Byte bytes
 
--- Nothing more is written of a call whose sender got these items, and had these ahead: the end of its
--- stream was written, or a Reset of it was taken; or DATA of it wait, and the peer's windows are
--- shut; or all that the sender got is written, and nothing is ahead.
+-- Nothing more is written of a call whose sender got these items, and had these ahead: the end of
+-- its stream was written, or a Reset of it was taken; or DATA of it wait, and the peer's windows
+-- are shut; or all that the sender got is written, and nothing is ahead.
 pub data HasNoMore (run : List Step) (id : ℕ) (items ahead : List OutItem) : Type 0 where
   Ended : is_over id run ≡ true → HasNoMore run id items ahead
   WasReset : was_reset id run ≡ true → HasNoMore run id items ahead

@@ -286,8 +286,8 @@ pub record HasSent {J W : Type 0} {naming : Ghosts J} (contents : W → Option (
       HasAll given written.run rest.sends.calls.items rest.core.items (put_in rest.sends.home)
   pub told : AreApart orders
       → All (IsTold written.run) (rest_calls rest ++ handed_calls senders.handed)
-  -- Where memory didn't run out and the connection doesn't end by a failed write, each of these calls
-  -- is done, unless the connection has failed.
+  -- Where memory didn't run out and the connection doesn't end by a failed write, each of these
+  -- calls is done, unless the connection has failed.
   pub done : ending ≢ Some OutOfMemory → ending ≢ Some WriteFailed → AreApart orders
       → HasFailed written.run
       ⊎ All (IsDone written.run) (rest_calls rest ++ handed_calls senders.handed)

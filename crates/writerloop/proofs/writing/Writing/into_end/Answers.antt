@@ -30,7 +30,8 @@ returns g c =
           (λ (core : List (ℕ × OutSender)). TellFronts led.2.0 (calls got core)) same
           (c.into_parts-core.ensures.fronts before led.2.0 led.2.1))
           (c.into_parts-core.ensures.returned before led.2.0 led.2.1)
-          c.ending-ending.ensures.going c.ending-ending.ensures.blames c.ending-ending.ensures.unblamed;
+          c.ending-ending.ensures.going c.ending-ending.ensures.blames
+          c.ending-ending.ensures.unblamed;
       ring = refl;
       way = refl;
     }
