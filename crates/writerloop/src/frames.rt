@@ -31,15 +31,13 @@ ghost use Rattle.std.specs.Prelude.{
 };
 ghost use Rattle.std.specs.Io.KnownBytes.{Appends};
 ghost use Rattle.device.specs.Bytes.{AppendsPrefix};
-ghost use Rattle.sendwindows.specs.Windows.{room};
 ghost use Rattle.outwriter.specs.Calls.{TellFronts, TellReturned, TellOthers};
-ghost use Rattle.outwriter.specs.Cores.{calls, lanes, open_stream, takes_credit, IsUnused};
+ghost use Rattle.outwriter.specs.Cores.{calls, lanes, IsUnused};
 ghost use Rattle.outwriter.specs.Drains.{is_going_away, was_probed};
 ghost use Rattle.outwriter.specs.Frames.{IsSound, ends_stream};
 ghost use Rattle.outwriter.specs.LeftCalls.{GaveLeft, WasLeft, WasNotLeftAt};
 ghost use Rattle.outwriter.specs.Polls.{coming};
 ghost use Rattle.outwriter.specs.Releases.{IsThrough, HasNone, Releases};
-ghost use Rattle.outwriter.specs.RunState.{is_held};
 ghost use Rattle.outwriter.specs.Steps.{Step, Taken, Granted, Returned, order_of, frames_of};
 ghost use Rattle.writerloop.specs.declared.standing.Standing.TheVariants as stands;
 ghost use Rattle.writerloop.specs.declared.fill_end.FillEnd.TheVariants as filled;
@@ -81,7 +79,7 @@ pub struct Frames<L: Lane<Item = OutItem>, W: ConnWrite> {
     pub(crate) core: OutCore<L>,
     /// The bytes of frames that weren't written yet.
     pub(crate) buffer: ZeroBuffer,
-    /// The streams whose END_STREAM is in the buffer.
+    /// The streams whose END_STREAM is in the buffer: from the next flush on they may have left.
     pub(crate) ended: Vec<StreamId>,
     /// The streams whose END_STREAM the last flush wrote.
     pub(crate) flushed_ends: Vec<StreamId>,
@@ -118,48 +116,11 @@ impl<L: Lane<Item = OutItem>, W: ConnWrite> Frames<L, W> {
         self.standing
     }
 
-    /// The streams whose END_STREAM is in the buffer: from the next flush on they may have left.
-    pub fn ended(&self) -> &[StreamId]
-        ensures { result.now ≡ self.now.ended.items }
-    {
-        self.ended.as_slice()
-    }
-
-    /// The streams whose END_STREAM the last flush wrote.
-    pub fn flushed_ends(&self) -> &[StreamId]
-        ensures { result.now ≡ self.now.flushed_ends.items }
-    {
-        self.flushed_ends.as_slice()
-    }
-
     /// The streams of which DATA or HEADERS are in the buffer: the core took items of their calls.
     pub fn streams(&self) -> &[StreamId]
         ensures { result.now ≡ self.now.streams.items }
     {
         self.streams.as_slice()
-    }
-
-    /// Whether nothing is in the buffer.
-    pub fn is_flushed(&self) -> bool
-        ensures none { result ≡ true → self.now.buffer.items ≡ [] }
-        ensures some { result ≡ false → self.now.buffer.items ≢ [] }
-    {
-        self.buffer.is_empty()
-    }
-
-    /// Whether the core holds an item of the stream that a window keeps back.
-    pub fn held(&self, id: StreamId) -> bool
-        ensures { result ≡ is_held (open_stream self.now.core id)
-            (room self.now.core.sending.outbound.states.windows id) }
-    {
-        self.core.held(id)
-    }
-
-    /// How many calls' senders the core has.
-    pub fn calls(&self) -> usize
-        ensures { result ≡ length self.now.core.sending.senders.items }
-    {
-        self.core.calls()
     }
 
     /// The stream of the call whose sender is at this place, if the sender gave last that the call
@@ -237,14 +198,6 @@ impl<L: Lane<Item = OutItem>, W: ConnWrite> Frames<L, W> {
                 Err(_e) => OrderOutcome::Unanswered(id),
             },
         }
-    }
-
-    /// Whether credit that is granted on a stream counts: its Open was taken, and it wasn't reset.
-    /// On the connection, which is stream 0, credit always counts.
-    pub fn takes_credit(&self, id: StreamId) -> bool
-        ensures { result ≡ takes_credit self.now.core id }
-    {
-        self.core.takes_credit(id)
     }
 
     /// Owes n bytes more of credit, on a stream, or on the connection where it is 0.

@@ -119,7 +119,7 @@ impl<J: Naming, W: ConnWrite + Drop> Writing<J, W> {
     pub fn takes_credit(&self, id: StreamId) -> bool
         ensures { result ≡ takes_credit self.now.frames.core id }
     {
-        self.frames.takes_credit(id)
+        self.frames.core.takes_credit(id)
     }
 
     /// Owes the peer n bytes more of credit, on a stream, or on the connection where it is 0.
@@ -156,7 +156,7 @@ impl<J: Naming, W: ConnWrite + Drop> Writing<J, W> {
         ensures none { result ≡ true → self.now.frames.buffer.items ≡ [] }
         ensures some { result ≡ false → self.now.frames.buffer.items ≢ [] }
     {
-        self.frames.is_flushed()
+        self.frames.buffer.is_empty()
     }
 
     /// Hands back the senders of calls that are through, before the peer can see their last frames.
@@ -165,7 +165,7 @@ impl<J: Naming, W: ConnWrite + Drop> Writing<J, W> {
         ensures stays { Stays W.contents W.failed self.old self.new }
     {
         let mut has_one = false;
-        'ended: for index in 0..self.frames.ended().len() {
+        'ended: for index in 0..self.frames.ended.len() {
             if self.release_ended_at(index) {
                 has_one = true;
             }
@@ -180,7 +180,7 @@ impl<J: Naming, W: ConnWrite + Drop> Writing<J, W> {
     fn release_ended_at(&mut self, index: usize) -> bool
         ensures stays { Stays W.contents W.failed self.old self.new }
     {
-        match self.frames.ended().get(index).copied() {
+        match self.frames.ended.get(index).copied() {
             Some(id) => self.release(id),
             None => false,
         }
@@ -241,7 +241,7 @@ impl<J: Naming, W: ConnWrite + Drop> Writing<J, W> {
     pub fn ended(&self) -> &[StreamId]
         ensures { result.now ≡ self.now.frames.ended.items }
     {
-        self.frames.ended()
+        self.frames.ended.as_slice()
     }
 
     /// Writes what is in the buffer. After a fault nothing more is written, and the connection is
@@ -259,7 +259,7 @@ impl<J: Naming, W: ConnWrite + Drop> Writing<J, W> {
     pub fn flushed_ends(&self) -> &[StreamId]
         ensures { result.now ≡ self.now.frames.flushed_ends.items }
     {
-        self.frames.flushed_ends()
+        self.frames.flushed_ends.as_slice()
     }
 
     // ---- the end
@@ -305,7 +305,11 @@ impl<J: Naming, W: ConnWrite + Drop> Writing<J, W> {
             return None;
         }
         let id = self.sends.stream_at(place)?;
-        if self.frames.held(id) { Some(id) } else { None }
+        if self.frames.core.held(id) {
+            Some(id)
+        } else {
+            None
+        }
     }
 
     /// What is handed back once no more is to be written.

@@ -32,7 +32,7 @@ impl<J: Naming, W: ConnWrite + Drop> Writing<J, W> {
             return false;
         }
         let mut goes_on = false;
-        'calls: for place in 0..self.frames.calls() {
+        'calls: for place in 0..self.frames.core.calls() {
             if self.reset_left_at(place) {
                 goes_on = true;
             }
