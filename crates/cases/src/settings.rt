@@ -46,7 +46,7 @@ pub fn read_setting(text: &[u8]) -> Result<Option<PeerSetting>, SettingViolation
             value: parameter.value,
         });
     }
-    Ok(parameter.told())
+    Ok(PeerSetting::told(parameter.id, parameter.value))
 }
 
 fn name_of(id: SettingId) -> SettingName {

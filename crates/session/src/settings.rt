@@ -6,7 +6,6 @@ ghost use Rattle.session.specs.Settings.{
   IsParameter,
   parameter_text,
   parameter_fault,
-  parameter_told,
   IsSettingsFault,
   Tells,
 };
@@ -90,13 +89,6 @@ impl Parameter {
             None
         }
     }
-
-    /// The setting for the server, if the parameter concerns servers.
-    pub fn told(&self) -> Option<PeerSetting>
-        ensures { result ≡ parameter_told self.now }
-    {
-        PeerSetting::told(self.id, self.value)
-    }
 }
 
 /// The settings of a SETTINGS frame, in order. One faulty parameter refuses them all.
@@ -113,7 +105,7 @@ pub fn read_settings(alloc: Global, content: &[u8]) -> Result<PeerSettings, Sett
         if let Some(reason) = parameter.fault() {
             return Err(SettingsFault::Refused(reason));
         }
-        if let Some(setting) = parameter.told() {
+        if let Some(setting) = PeerSetting::told(parameter.id, parameter.value) {
             settings.push(setting)?;
         }
         rest = behind;
