@@ -138,8 +138,8 @@ impl Halves {
             ((history : List Event) → Stands history self.old
             → IsTrue (begins (Received head.now) (begun history))) }
     {
-        if let Some(verdict) = judge_begun(&mut self.halves, head) {
-            return Ok(verdict);
+        if let Some(action) = judge_begun(&mut self.halves, head) {
+            return Ok(action);
         }
         if !may_begin(head.stream, self.greatest) {
             return Ok(FrameAction::ConnectionError(ErrorCode::ProtocolError));
@@ -178,9 +178,9 @@ fn judge_begun(halves: &mut IndexMap<StreamId, HalfState>, head: &FrameHead) -> 
         (half_after half (Received head.now))) }
 {
     let half = halves.get_mut(&head.stream)?;
-    let verdict = half.verdict(head);
+    let action = half.verdict(head);
     *half = half.after(head);
-    Some(verdict)
+    Some(action)
 }
 
 impl HalfState {

@@ -37,7 +37,7 @@ returns-in-Some-clause-follows c =
     let s : Streams =
     record { greatest = c.self.inside.greatest; halves = c.self.inside.halves.entries } in
     rw (← c.self.view_is) (begun-follows s c.judge_begun.new.halves.entries c.args.head.now
-    c.in-Some.verdict c.in-Some.ensures.begun c.in-Some.ensures.half)
+    c.in-Some.action c.in-Some.ensures.begun c.in-Some.ensures.half)
 
 pub returns-in-Some-clause-error : goal.returns-in-Some-clause-error
 returns-in-Some-clause-error c =
@@ -45,7 +45,7 @@ returns-in-Some-clause-error c =
     record { greatest = c.self.inside.greatest; halves = c.self.inside.halves.entries } in
     rw (← c.self.view_is)
     (λ error. ap (λ halves. record { greatest = c.self.inside.greatest; halves = halves })
-    (begun-error s c.judge_begun.new.halves.entries c.args.head.now c.in-Some.verdict
+    (begun-error s c.judge_begun.new.halves.entries c.args.head.now c.in-Some.action
     c.in-Some.ensures.begun c.in-Some.ensures.half error))
 
 pub returns-in-Some-clause-begun : goal.returns-in-Some-clause-begun
@@ -53,7 +53,7 @@ returns-in-Some-clause-begun c =
     let s : Streams =
     record { greatest = c.self.inside.greatest; halves = c.self.inside.halves.entries } in
     λ _.
-    begun-there s c.judge_begun.new.halves.entries c.args.head.now c.in-Some.verdict
+    begun-there s c.judge_begun.new.halves.entries c.args.head.now c.in-Some.action
     c.in-Some.ensures.begun c.in-Some.ensures.half
 
 pub invariant_of-self : goal.invariant_of-self
@@ -62,7 +62,7 @@ invariant_of-self c =
     record { greatest = c.self.inside.greatest; halves = c.self.inside.halves.entries } in
     omega (
       arith,
-      begun-length s c.judge_begun.new.halves.entries c.args.head.now c.in-Some.verdict
+      begun-length s c.judge_begun.new.halves.entries c.args.head.now c.in-Some.action
           c.in-Some.ensures.begun c.in-Some.ensures.half,
       c.self.invariant,
     )
@@ -73,7 +73,7 @@ returns-in-Some-clause-few c =
     record { greatest = c.self.inside.greatest; halves = c.self.inside.halves.entries } in
     omega (
       arith,
-      begun-length s c.judge_begun.new.halves.entries c.args.head.now c.in-Some.verdict
+      begun-length s c.judge_begun.new.halves.entries c.args.head.now c.in-Some.action
           c.in-Some.ensures.begun c.in-Some.ensures.half,
       c.self.invariant,
     )
