@@ -20,7 +20,7 @@ ghost use Rattle.std.specs.Prelude.{
 };
 ghost use Rattle.callbox.specs.InSides.{Tells, grown};
 ghost use Rattle.account.specs.declared.call.OutItem.{OutItem as Item};
-ghost use Rattle.account.specs.declared.call.RequestEnd.{RequestEnd as ToldOf};
+ghost use Rattle.account.specs.declared.call.RequestEnd.{RequestEnd as RequestEndOf};
 ghost use Rattle.handlers.specs.declared.reply.Reply.{Reply as ReplyOf};
 
 use crate::cause::Cause;
@@ -117,7 +117,8 @@ impl Call {
     /// Hands what was taken to the method, or ends the call by it.
     pub(crate) fn answer(&mut self, method: &dyn Method, taken: Taken)
         requires { IsReady self.old.handling }
-        ensures run { (said : Option ToldOf) (next : Option ToldOf) (messages : List (List ℕ))
+        ensures run { (said : Option RequestEndOf) (next : Option RequestEndOf)
+            (messages : List (List ℕ))
             (given : List Item) → Tells taken said next
             → HasRun (answers method.now) (stands method.now) said messages self.old
             (record { is_live = true; given = given; code = None })
@@ -146,7 +147,7 @@ impl Call {
         response: &Response<G, S>,
     )
         ensures run { (of_open : G → List Item) (of_shut : S → List Item) (was_placed : S → Bool)
-            (said : Option ToldOf) (messages : List (List ℕ))
+            (said : Option RequestEndOf) (messages : List (List ℕ))
             → HasCome (answers method.now) (stands method.now) said messages self.old in_hand
             (shown of_open of_shut was_placed response.now)
             → HasRun (answers method.now) (stands method.now) said messages self.new

@@ -2,7 +2,7 @@
 use Rattle.std.specs.Prelude.{ℕ, List, [], ◌∷◌, ◌++◌, Result}
 use Rattle.cases.specs.Report.{lines_of}
 use Rattle.cases.specs.declared.fault.CaseFault.{CaseFault}
-use Rattle.cases.specs.declared.report.Outcome.{Outcome as Ended}
+use Rattle.cases.specs.declared.report.Outcome.{Outcome as CaseOutcome}
 use Rattle.commands.specs.Drain.{drain_report}
 use Rattle.commands.specs.declared.drain.Goaway.{Goaway}
 use Rattle.results.specs.Summaries.{summary_line, summary_of}
@@ -10,7 +10,7 @@ use Rattle.results.specs.declared.outcome.Outcome.{Outcome}
 use Rattle.results.specs.declared.words.Suite.{Suite}
 
 -- a line of each case, and one that sums up what results say of them
-abbrev pub self_report : List Ended → List Outcome → ℕ → List ℕ
+abbrev pub self_report : List CaseOutcome → List Outcome → ℕ → List ℕ
 self_report ended outcomes milliseconds =
     lines_of ended ++ summary_line Suite.SelfTest (summary_of outcomes) milliseconds
 

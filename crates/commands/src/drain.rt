@@ -10,7 +10,7 @@ ghost use Rattle.std.specs.Io.KnownBytes.{Appends};
 ghost use Rattle.cases.specs.declared.fault.CaseFault.{CaseFault as Fault};
 ghost use Rattle.commands.specs.Drain.{drain_report, goaway_line, goaway_lines};
 ghost use Rattle.commands.specs.Summing.{summed_drain};
-ghost use Rattle.commands.specs.declared.drain.Goaway.{Goaway as Seen};
+ghost use Rattle.commands.specs.declared.drain.Goaway.{Goaway as GoawayOf};
 ghost use Rattle.results.specs.declared.outcome.Outcome.{Outcome};
 ghost use Rattle.trials.specs.Verdicts.{verdict_of};
 
@@ -78,7 +78,7 @@ where
     R: Net<Stream = TcpStream, Listener = TcpListener> + Print + Eprint + AllocGlobal,
     R: Files<File = File> + Threads + Wait + Clock + Copy + Send + Sync + Drop + 'static,
     R::Dir: Send + Sync,
-    ensures { IfOk result (λ passed. (goaways : List Seen) × (answer : Result (Unit {0}) Fault)
+    ensures { IfOk result (λ passed. (goaways : List GoawayOf) × (answer : Result (Unit {0}) Fault)
         × (outcome : Outcome) × (milliseconds : ℕ)
         × (outcome.verdict ≡ verdict_of answer)
         × Appends (W.contents output.old) (W.contents output.new)

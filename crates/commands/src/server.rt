@@ -4,7 +4,7 @@
 ghost use Rattle.std.specs.Prelude.{◌≡◌, ℕ, List, map, IfOk};
 ghost use Rattle.std.specs.Io.KnownBytes.{Appends};
 ghost use Rattle.cases.specs.Report.{all_cases, have_passed};
-ghost use Rattle.cases.specs.declared.report.Outcome.{Outcome as Ended};
+ghost use Rattle.cases.specs.declared.report.Outcome.{Outcome as CaseOutcome};
 ghost use Rattle.commands.specs.Summing.{self_report};
 ghost use Rattle.results.specs.declared.outcome.Outcome.{Outcome};
 ghost use Rattle.trials.specs.Verdicts.{verdict_on};
@@ -276,7 +276,7 @@ where
     R: Net<Stream = TcpStream, Listener = TcpListener> + Print + Eprint + AllocGlobal,
     R: Files<File = File> + Threads + Wait + Clock + Copy + Send + Sync + Drop + 'static,
     R::Dir: Send + Sync,
-    ensures { IfOk result (λ passed. (ended : List Ended) × (outcomes : List Outcome)
+    ensures { IfOk result (λ passed. (ended : List CaseOutcome) × (outcomes : List Outcome)
         × (milliseconds : ℕ)
         × (map (λ one. one.case) ended ≡ all_cases)
         × (map (λ outcome. outcome.verdict) outcomes ≡ map verdict_on ended)

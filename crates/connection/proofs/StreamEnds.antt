@@ -77,7 +77,7 @@ use Rattle.outwriter.specs.Steps.{Order, Step, Taken, Granted, Written, Returned
 use Rattle.outwriter.specs.TableLimits.{least_begun}
 use Rattle.outwriter.proofs.ServeSteps.{marks-append, marks-elsewhere, marks-here}
 use Rattle.writerloop.specs.Done.{Ended, GotAll, HasAllBut, HasNoMore, Waits}
-use Rattle.writerloop.specs.Done.{WasReset as Stopped}
+use Rattle.writerloop.specs.Done.{WasReset as NoMoreByReset}
 use Rattle.connection.specs.Sent.{StreamEnd, WasEnded, WasHeldBack, WasLeftOpen, WasReset}
 
 or-left : (a b : Bool) → a ≡ true → (a || b) ≡ true
@@ -405,7 +405,7 @@ stream-end run id items lawful (Ended over) = by (any-split id (frames_of run) o
         → StreamEnd run id items
     by (inl ended) = WasEnded ended
     by (inr was) = WasReset (reset-taken id run lawful was)
-stream-end run id items lawful (Stopped was) = WasReset was
+stream-end run id items lawful (NoMoreByReset was) = WasReset was
 stream-end run id items lawful (Waits bytes has shut) = by (has_trailers items) refl
   where
     by : (b : Bool) → has_trailers items ≡ b → StreamEnd run id items

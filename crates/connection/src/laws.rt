@@ -7,7 +7,7 @@ ghost use Rattle.std.specs.List.{list_any};
 ghost use Rattle.account.specs.Accounts.{Begins};
 ghost use Rattle.callhead.specs.declared.head.CallHead.{CallHead as Head};
 ghost use Rattle.callparts.specs.declared.call_account.CallAccount.{CallAccount};
-ghost use Rattle.callparts.specs.declared.report.Ending.{Ending as Ended};
+ghost use Rattle.callparts.specs.declared.report.Ending.{Ending as EndingOf};
 ghost use Rattle.h2frame.specs.declared.error_code.ErrorCode.{ErrorCode as Code};
 ghost use Rattle.h2frame.specs.declared.frame.Frame.{Frame};
 ghost use Rattle.h2frame.specs.declared.kind.FrameKind.TheVariants.{RstStream};
@@ -98,7 +98,7 @@ pub fn streams_without_a_call<M: Answering>()
 /// Where the connection ended as its reader saw, each call that was admitted was handed to a
 /// worker.
 pub fn handed_calls<M: Answering>()
-    ensures { (stopped : Bool) (end : Ended) (told : List Step) →
+    ensures { (stopped : Bool) (end : EndingOf) (told : List Step) →
         (is_heard_out end ≡ true → AreCalm told) → (stopped ≡ true → is_heard_out end ≡ false) →
         AreFounded M.names stopped told → is_heard_out end ≡ true →
         (id : ℕ) (head : Head) → WasUnserved id head told → ⊥ }
@@ -141,7 +141,7 @@ pub fn all_answers()
 /// else, however the connection ended: sections 5.4.2 and 7. The cause is in the bytes that came,
 /// the calls that were admitted, what they were fed, whether they have a status, or the run.
 pub fn reset_codes()
-    ensures { (end : Ended) (came : List ℕ) (told : List Step) (put : List Order)
+    ensures { (end : EndingOf) (came : List ℕ) (told : List Step) (put : List Order)
         (run : List RunStep) (given : List InEventOf) (entries : List Entry)
         (accounts : List CallAccount) →
         AreHeard end came (events_of told) → IsRising told → AreJustified told → EndsLast told
@@ -157,7 +157,7 @@ pub fn reset_codes()
 /// Each reset that the writer took and that is to be written has an error code with such a cause,
 /// as `reset_codes` says of each RST_STREAM that was written.
 pub fn order_codes()
-    ensures { (end : Ended) (came : List ℕ) (told : List Step) (put : List Order)
+    ensures { (end : EndingOf) (came : List ℕ) (told : List Step) (put : List Order)
         (run : List RunStep) (given : List InEventOf) (entries : List Entry)
         (accounts : List CallAccount) →
         AreHeard end came (events_of told) → IsRising told → AreJustified told → EndsLast told

@@ -8,7 +8,7 @@ ghost use Rattle.callbox.specs.OutSides.{has_trailers};
 ghost use Rattle.sendwindows.specs.WindowHistory.{room_after};
 ghost use Rattle.sendwindows.specs.WindowHistory.{Step as WindowStep};
 ghost use Rattle.callparts.specs.declared.call_account.CallAccount.{CallAccount};
-ghost use Rattle.callparts.specs.declared.report.Ending.{Ending as Ended};
+ghost use Rattle.callparts.specs.declared.report.Ending.{Ending as EndingOf};
 ghost use Rattle.outwriter.specs.Calls.{TellOthers, is_served};
 ghost use Rattle.outwriter.specs.declared.control.WriterOrder.TheVariants.{Close, InputEnded};
 ghost use Rattle.outwriter.specs.Frames.{ends};
@@ -31,7 +31,7 @@ use callparts::Answering;
 /// An Open that the writer took is the only one of its stream, and no Refuse of the stream was
 /// taken before it: the numbers of the streams that begin rise (RFC 9113, section 5.1.1).
 pub fn opened_once()
-    ensures { (end : Ended) (came : List ℕ) (told : List Step) (put : List Order)
+    ensures { (end : EndingOf) (came : List ℕ) (told : List Step) (put : List Order)
         (run : List RunStep) (given : List InEventOf) →
         AreHeard end came (events_of told) → Events came given
         → HasPut (orders_by told ++ InputEnded ∷ []) put → Obeys true put run
@@ -42,7 +42,7 @@ pub fn opened_once()
 /// frames spell the whole response: the answer of the call's method to all that was taken, or
 /// replies of it and a status of the server's own, and its account has the status.
 pub fn whole_response<M: Answering>()
-    ensures { (end : Ended) (came : List ℕ) (told : List Step) (put : List Order)
+    ensures { (end : EndingOf) (came : List ℕ) (told : List Step) (put : List Order)
         (run : List RunStep) (given : List InEventOf) →
         AreHeard end came (events_of told) → Events came given
         → HasPut (orders_by told ++ InputEnded ∷ []) put → Obeys true put run → TellOthers run
@@ -57,7 +57,7 @@ pub fn whole_response<M: Answering>()
 /// since its windows were shut, or since nothing more of it was found: RFC 9113, sections 5.1 and
 /// 6.9.
 pub fn ended_streams<M: Answering>()
-    ensures { (end : Ended) (came : List ℕ) (told : List Step) (put : List Order)
+    ensures { (end : EndingOf) (came : List ℕ) (told : List Step) (put : List Order)
         (run : List RunStep) (given : List InEventOf) →
         AreHeard end came (events_of told) → Events came given
         → put ≡ orders_by told ++ InputEnded ∷ Close ∷ [] → Obeys false put run → IsLawful run

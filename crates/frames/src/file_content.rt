@@ -7,7 +7,7 @@ use crate::fault::FramesFault;
 use capture::{CaptureFault, Packet, Side, read};
 use std::alloc::Global;
 use trace::{InputFault, SentBytes, sent_of};
-use words::Side as Named;
+use words::Side as NamedSide;
 
 /// What a capture in microseconds begins with.
 const MAGIC: &[u8] = b"\xd4\xc3\xb2\xa1";
@@ -29,7 +29,7 @@ pub enum FileContent {
 pub fn given_by(
     alloc: Global,
     file: &[u8],
-    named: Option<Named>,
+    named: Option<NamedSide>,
 ) -> Result<FileContent, FramesFault> {
     if file.starts_with(MAGIC) {
         return packets_of(alloc, file);
@@ -65,7 +65,7 @@ pub fn both_of(
     alloc: Global,
     first: &[u8],
     second: &[u8],
-    named: Option<Named>,
+    named: Option<NamedSide>,
 ) -> Result<Vec<SentBytes>, FramesFault>
     ensures { IfOk result (λ both. AreBoth both.items) }
 {
@@ -109,17 +109,17 @@ fn one_of(alloc: Global, file: &[u8]) -> Result<SentBytes, FramesFault> {
 }
 
 /// Notes who sent the first of the pieces, if that is named.
-fn name_first(pieces: &mut Vec<SentBytes>, named: Option<Named>) {
+fn name_first(pieces: &mut Vec<SentBytes>, named: Option<NamedSide>) {
     if let (Some(named), Some(first)) = (named, pieces.first_mut()) {
         first.side = side_of(named);
     }
 }
 
-fn side_of(named: Named) -> Side
+fn side_of(named: NamedSide) -> Side
     ensures { result ≡ side_of named }
 {
     match named {
-        Named::Client => Side::Client,
-        Named::Server => Side::Server,
+        NamedSide::Client => Side::Client,
+        NamedSide::Server => Side::Server,
     }
 }

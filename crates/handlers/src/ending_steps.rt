@@ -2,7 +2,7 @@
 
 ghost use Rattle.std.specs.Prelude.{◌≡◌, ◌∷◌, [], IfOk, OnOk};
 ghost use Rattle.handlers.specs.declared.state.MethodState.TheVariants.{Ended, Held};
-ghost use Rattle.handlers.specs.declared.step.MethodStep.{MethodStep as Given};
+ghost use Rattle.handlers.specs.declared.step.MethodStep.{MethodStep as StepOf};
 ghost use Rattle.handlers.specs.Statuses.{status_of};
 ghost use Rattle.handlers.specs.Steps.{ending, done, finished};
 
@@ -33,7 +33,7 @@ pub(crate) fn refuse(alloc: Global, state: &mut MethodState, refusal: Refusal) -
 
 /// Ends the call with what was held back.
 pub(crate) fn release(alloc: Global, state: &mut MethodState) -> MethodStep
-    ensures step { (held : Given) → state.old ≡ Held held → result ≡ finished held }
+    ensures step { (held : StepOf) → state.old ≡ Held held → result ≡ finished held }
     ensures state { state.new ≡ Ended }
 {
     match std::mem::replace(state, MethodState::Ended) {

@@ -21,7 +21,7 @@ ghost use Rattle.std.specs.Prelude.{
 };
 ghost use Rattle.handlers.specs.declared.state.MethodState.{MethodState as State};
 ghost use Rattle.handlers.specs.declared.state.MethodState.TheVariants.{Ended};
-ghost use Rattle.handlers.specs.declared.step.MethodStep.{MethodStep as Given};
+ghost use Rattle.handlers.specs.declared.step.MethodStep.{MethodStep as StepOf};
 ghost use Rattle.handlers.specs.Steps.{nothing, joined};
 ghost use Rattle.handlers.specs.Answers.{
   HasAnswer,
@@ -47,10 +47,10 @@ pub trait Method: Send + Sync + Drop {
     ghost name: { Self → List ℕ };
 
     /// What the method answers to these messages, if they have ended and if not.
-    ghost answers: { Self → List (List ℕ) → Bool → Given → Type 0 };
+    ghost answers: { Self → List (List ℕ) → Bool → StepOf → Type 0 };
 
     /// The state of a call after these messages, to which this was answered so far.
-    ghost stands: { Self → State → List (List ℕ) → Given → Type 0 };
+    ghost stands: { Self → State → List (List ℕ) → StepOf → Type 0 };
 
     /// The path by which a call names the method.
     fn path(&self) -> &str
@@ -78,11 +78,11 @@ pub trait Method: Send + Sync + Drop {
         message: &[u8],
     ) -> Result<MethodStep, MethodFault>
         ensures stands { IfOk result
-            (λ step. (messages : List (List ℕ)) (given : Given)
+            (λ step. (messages : List (List ℕ)) (given : StepOf)
             → stands self.now state.old messages given
             → stands self.now state.new (messages ++ message.now ∷ []) (joined given step)) }
         ensures answers { IfOk result
-            (λ step. (messages : List (List ℕ)) (given : Given)
+            (λ step. (messages : List (List ℕ)) (given : StepOf)
             → stands self.now state.old messages given
             → answers self.now (messages ++ message.now ∷ []) false (joined given step)) }
         // A status is given once, and nothing after it.
@@ -93,7 +93,7 @@ pub trait Method: Send + Sync + Drop {
     /// Ends the call's messages: none follows.
     fn end(&self, alloc: Global, state: &mut MethodState) -> Result<MethodStep, MethodFault>
         ensures answers { IfOk result
-            (λ step. (messages : List (List ℕ)) (given : Given)
+            (λ step. (messages : List (List ℕ)) (given : StepOf)
             → stands self.now state.old messages given
             → answers self.now messages true (joined given step)) }
         // The call has its status now.

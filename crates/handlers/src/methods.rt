@@ -25,7 +25,7 @@ ghost use Rattle.std.specs.Prelude.{
 };
 ghost use Rattle.std.specs.List.{HoldsAt, AllWithin};
 ghost use Rattle.handlers.specs.declared.state.MethodState.TheVariants.{Ended};
-ghost use Rattle.handlers.specs.declared.step.MethodStep.{MethodStep as Given};
+ghost use Rattle.handlers.specs.declared.step.MethodStep.{MethodStep as StepOf};
 ghost use Rattle.handlers.specs.Steps.{nothing, joined};
 ghost use Rattle.handlers.specs.Answers.{
   HasAnswer,
@@ -109,11 +109,11 @@ impl Methods {
     ) -> Result<MethodStep, MethodFault>
         requires { index < length (listed self.now) }
         ensures stands { IfSome (slice_get (listed self.now) index)
-            (λ method. IfOk result (λ step. (messages : List (List ℕ)) (given : Given)
+            (λ method. IfOk result (λ step. (messages : List (List ℕ)) (given : StepOf)
             → stands method state.old messages given
             → stands method state.new (messages ++ message.now ∷ []) (joined given step))) }
         ensures answers { IfSome (slice_get (listed self.now) index)
-            (λ method. IfOk result (λ step. (messages : List (List ℕ)) (given : Given)
+            (λ method. IfOk result (λ step. (messages : List (List ℕ)) (given : StepOf)
             → stands method state.old messages given
             → answers method (messages ++ message.now ∷ []) false (joined given step))) }
         ensures ends { IfOk result (λ step. IsSome step.ends → state.new ≡ Ended) }
@@ -133,7 +133,7 @@ impl Methods {
     ) -> Result<MethodStep, MethodFault>
         requires { index < length (listed self.now) }
         ensures answers { IfSome (slice_get (listed self.now) index)
-            (λ method. IfOk result (λ step. (messages : List (List ℕ)) (given : Given)
+            (λ method. IfOk result (λ step. (messages : List (List ℕ)) (given : StepOf)
             → stands method state.old messages given
             → answers method messages true (joined given step))) }
         ensures ends { OnOk result (state.new ≡ Ended) }
@@ -162,10 +162,10 @@ fn message_of(
     state: &mut MethodState,
     message: &[u8],
 ) -> Result<MethodStep, MethodFault>
-    ensures stands { IfOk result (λ step. (messages : List (List ℕ)) (given : Given)
+    ensures stands { IfOk result (λ step. (messages : List (List ℕ)) (given : StepOf)
         → stands method.now state.old messages given
         → stands method.now state.new (messages ++ message.now ∷ []) (joined given step)) }
-    ensures answers { IfOk result (λ step. (messages : List (List ℕ)) (given : Given)
+    ensures answers { IfOk result (λ step. (messages : List (List ℕ)) (given : StepOf)
         → stands method.now state.old messages given
         → answers method.now (messages ++ message.now ∷ []) false (joined given step)) }
     ensures ends { IfOk result (λ step. IsSome step.ends → state.new ≡ Ended) }
@@ -180,7 +180,7 @@ fn end_of(
     alloc: Global,
     state: &mut MethodState,
 ) -> Result<MethodStep, MethodFault>
-    ensures answers { IfOk result (λ step. (messages : List (List ℕ)) (given : Given)
+    ensures answers { IfOk result (λ step. (messages : List (List ℕ)) (given : StepOf)
         → stands method.now state.old messages given
         → answers method.now messages true (joined given step)) }
     ensures ends { OnOk result (state.new ≡ Ended) }

@@ -14,7 +14,7 @@ ghost use Rattle.std.specs.Prelude.{
   IsSome,
   codes,
 };
-ghost use Rattle.handlers.specs.declared.step.MethodStep.{MethodStep as Given};
+ghost use Rattle.handlers.specs.declared.step.MethodStep.{MethodStep as StepOf};
 ghost use Rattle.handlers.specs.declared.state.MethodState.TheVariants.{Ended};
 ghost use Rattle.handlers.specs.Steps.{nothing, joined};
 ghost use Rattle.handlers.specs.Requests.{SimpleVerdict};
@@ -103,10 +103,10 @@ fn take_request(
     message: &[u8],
 ) -> Result<MethodStep, MethodFault>
     ensures stands { IfOk result
-        (λ step. (messages : List (List ℕ)) (given : Given) → StandsUnary state.old messages given
+        (λ step. (messages : List (List ℕ)) (given : StepOf) → StandsUnary state.old messages given
         → StandsUnary state.new (messages ++ message.now ∷ []) (joined given step)) }
     ensures answers { IfOk result
-        (λ step. (messages : List (List ℕ)) (given : Given) → StandsUnary state.old messages given
+        (λ step. (messages : List (List ℕ)) (given : StepOf) → StandsUnary state.old messages given
         → AnswersSingle SimpleVerdict (messages ++ message.now ∷ []) false (joined given step)) }
     ensures ends { IfOk result (λ step. IsSome step.ends → state.new ≡ Ended) }
     ensures ended { IfOk result
@@ -130,7 +130,7 @@ fn take_request(
 /// Answers the request at the end; without one the number of messages is wrong.
 fn answer_request(alloc: Global, state: &mut MethodState) -> Result<MethodStep, MethodFault>
     ensures answers { IfOk result
-        (λ step. (messages : List (List ℕ)) (given : Given) → StandsUnary state.old messages given
+        (λ step. (messages : List (List ℕ)) (given : StepOf) → StandsUnary state.old messages given
         → AnswersSingle SimpleVerdict messages true (joined given step)) }
     ensures ends { OnOk result (state.new ≡ Ended) }
     ensures ended { IfOk result (λ step. state.old ≡ Ended → step ≡ nothing) }

@@ -43,7 +43,7 @@ use Rattle.readerloop.specs.declared.call.Call.{Call}
 use Rattle.readerloop.specs.declared.feeder_half.FeederHalf.{FeederHalf}
 use Rattle.readerloop.specs.declared.feeder_half.FeederHalf.TheVariants.{
   Open,
-  Shut as Closed,
+  Shut as ShutHalf,
   Missed,
   Moving,
 }
@@ -73,7 +73,7 @@ not-open open_now one is = ap (λ (b : Bool). if b then Some one else None) is
 pub cut-closed : (half : FeederHalf) → is_open half ≡ false → (shown half).there ≡ true
     → is_closed half ≡ true
 cut-closed (Open feeder) cut there = absurd cc
-cut-closed (Closed end) cut there = refl
+cut-closed (ShutHalf end) cut there = refl
 cut-closed (Missed feeder) cut there = refl
 cut-closed Moving cut there = absurd cc
 

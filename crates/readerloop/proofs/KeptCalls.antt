@@ -75,7 +75,7 @@ use Rattle.readerloop.specs.declared.calls.Calls.{Calls}
 use Rattle.readerloop.specs.declared.feeder_half.FeederHalf.{FeederHalf}
 use Rattle.readerloop.specs.declared.feeder_half.FeederHalf.TheVariants.{
   Open,
-  Shut as Closed,
+  Shut as ShutHalf,
   Missed,
   Moving,
 }
@@ -413,7 +413,7 @@ module _ {J : Type 0} {book : Ghosts J} {known : ℕ → List (List ℕ) → Boo
 
 open-unclosed : (half : FeederHalf) → is_open half ≡ true → is_none (shown half).closing ≡ true
 open-unclosed (Open feeder) is = refl
-open-unclosed (Closed end) is = absurd cc
+open-unclosed (ShutHalf end) is = absurd cc
 open-unclosed (Missed feeder) is = absurd cc
 open-unclosed Moving is = absurd cc
 

@@ -44,7 +44,7 @@ use Rattle.readerloop.specs.declared.call.Call.{Call}
 use Rattle.readerloop.specs.declared.feeder_half.FeederHalf.{FeederHalf}
 use Rattle.readerloop.specs.declared.feeder_half.FeederHalf.TheVariants.{
   Open,
-  Shut as Closed,
+  Shut as ShutHalf,
   Missed,
   Moving,
 }
@@ -64,7 +64,7 @@ if-some P found x is there = subst (λ o. IfSome o P) is there
 
 closed-some : (half : FeederHalf) → is_closed half ≡ true → is_some (shown half).closing ≡ true
 closed-some (Open feeder) is = absurd cc
-closed-some (Closed end) is = refl
+closed-some (ShutHalf end) is = refl
 closed-some (Missed feeder) is = refl
 closed-some Moving is = absurd cc
 

@@ -23,7 +23,7 @@ use Rattle.lane.specs.RingLane.{LaneName, in_name, put_in, put_shut, shut_name}
 use Rattle.readerloop.specs.declared.feeder_half.FeederHalf.{FeederHalf}
 use Rattle.readerloop.specs.declared.feeder_half.FeederHalf.TheVariants.{
   Open,
-  Shut as Closed,
+  Shut as ShutHalf,
   Missed,
   Moving,
 }
@@ -39,7 +39,7 @@ pub record HalfView : Type 0 where
 
 abbrev pub shown : FeederHalf → HalfView
 shown (Open feeder) = record { there = true; items = put_in feeder.tx; closing = None }
-shown (Closed end) =
+shown (ShutHalf end) =
     record { there = true; items = put_shut end.shut; closing = Some (ShutAs end.kind) }
 shown (Missed feeder) = record { there = true; items = put_in feeder.tx; closing = Some Misses }
 shown Moving = record { there = false; items = []; closing = None }
@@ -47,21 +47,21 @@ shown Moving = record { there = false; items = []; closing = None }
 -- which lane it feeds
 abbrev pub lane_of : FeederHalf → Option LaneName
 lane_of (Open feeder) = Some (in_name feeder.tx)
-lane_of (Closed end) = Some (shut_name end.shut)
+lane_of (ShutHalf end) = Some (shut_name end.shut)
 lane_of (Missed feeder) = Some (in_name feeder.tx)
 lane_of Moving = None
 
 -- whether more may be fed
 abbrev pub is_open : FeederHalf → Bool
 is_open (Open feeder) = true
-is_open (Closed end) = false
+is_open (ShutHalf end) = false
 is_open (Missed feeder) = false
 is_open Moving = false
 
 -- whether it was closed
 abbrev pub is_closed : FeederHalf → Bool
 is_closed (Open feeder) = false
-is_closed (Closed end) = true
+is_closed (ShutHalf end) = true
 is_closed (Missed feeder) = true
 is_closed Moving = false
 

@@ -34,7 +34,7 @@ use Rattle.callhead.specs.declared.fault.HeadFault.{HeadFault}
 use Rattle.callhead.specs.StatusFields.{refusal_of, unknown_method}
 use Rattle.callparts.specs.declared.report.Ending.{Ending}
 use Rattle.callparts.specs.declared.report.Ending.TheVariants.{
-  ProtocolError as Failed,
+  ProtocolError as ConnectionError,
   OutOfMemory as RanOut,
 }
 use Rattle.h2frame.specs.declared.error_code.ErrorCode.{ErrorCode}
@@ -210,18 +210,18 @@ orders_by (step ∷ before) = orders_by before ++ orders_at before step
 abbrev pub ends_if_refused : AdmitFault → Option Ending
 ends_if_refused refused.TooMany = None
 ends_if_refused refused.Draining = None
-ends_if_refused refused.NotNew = Some (Failed ProtocolError)
+ends_if_refused refused.NotNew = Some (ConnectionError ProtocolError)
 ends_if_refused refused.OutOfMemory = Some RanOut
 
 abbrev pub ends_by : Fate → Option Ending
 ends_by (TurnedAway fault) = ends_if_refused fault
-ends_by (Received Overrun) = Some (Failed FlowControlError)
+ends_by (Received Overrun) = Some (ConnectionError FlowControlError)
 ends_by Lacking = Some RanOut
 ends_by (Unserved NoWorker) = Some RanOut
 ends_by _ = None
 
 abbrev pub ends_at : Step → Option Ending
-ends_at (Told (events.Fatal cause) fate) = Some (Failed (code_of cause))
+ends_at (Told (events.Fatal cause) fate) = Some (ConnectionError (code_of cause))
 ends_at (Told event fate) = ends_by fate
 ends_at (CutOff id) = None
 ends_at Drains = None

@@ -6,7 +6,7 @@ ghost use Rattle.std.specs.List.{list_any};
 ghost use Rattle.account.specs.declared.call.Account.{Account};
 ghost use Rattle.account.specs.declared.call.Shut.TheVariants as shut;
 ghost use Rattle.callhead.specs.declared.head.CallHead.{CallHead as Head};
-ghost use Rattle.callparts.specs.declared.report.Ending.{Ending as Ended};
+ghost use Rattle.callparts.specs.declared.report.Ending.{Ending as EndingOf};
 ghost use Rattle.h2frame.specs.FrameList.{Entry};
 ghost use Rattle.outwriter.specs.Steps.{Order};
 ghost use Rattle.session.specs.declared.event.InEvent.{InEvent as InEventOf};
@@ -119,7 +119,7 @@ pub fn call_end()
 /// was heard, the half ended; or it was reset, and a reset of the stream that is to be written was
 /// ordered; or the call missed data.
 pub fn account_by_frames()
-    ensures { (end : Ended) (came : List ℕ) (told : List Step) (orders : List Order)
+    ensures { (end : EndingOf) (came : List ℕ) (told : List Step) (orders : List Order)
         (given : List InEventOf) (entries : List Entry) (id : ℕ) (account : Account) →
         AreHeard end came (events_of told) → (is_heard_out end ≡ true → WasResetFor told orders id)
         → is_admitted id told ≡ true →

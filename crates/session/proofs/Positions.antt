@@ -42,7 +42,7 @@ use Rattle.streamstates.specs.declared.halves.FrameAction.TheVariants.{
   ConnectionError,
 }
 use Rattle.streamstates.specs.Halves.{Event, Streams, verdict, is_connection_error}
-use Rattle.streamstates.specs.Halves.{Stands as Keeps}
+use Rattle.streamstates.specs.Halves.{Stands as HalvesStand}
 use Rattle.reasons.specs.declared.Reason.TheVariants as reason
 use Rattle.session.specs.declared.event.InEvent.{InEvent}
 use Rattle.session.specs.declared.context.Position.{Position}
@@ -155,7 +155,7 @@ finished : (entries behind : List Entry) (before old given new : List InEvent)
     (now next : Situation) (group : Group) (streams : Streams)
     → Passes entries behind (before ++ old) now → behind ≡ entries_of group
     → GroupGives now group given next → IsCalmOrEnd given
-    → new ≡ old ++ given → Keeps next.history streams → IsSettled entries
+    → new ≡ old ++ given → HalvesStand next.history streams → IsSettled entries
     → LeadsOn entries (before ++ new) (position_behind new) streams next.kept
 finished entries behind before old given new now next group streams passes whole gives
     (inl calm) e keeps settled =
@@ -192,7 +192,7 @@ pub leads_behind : (entries behind : List Entry) (before old given new : List In
     (at : Option Position)
     → Passes entries behind (before ++ old) now → behind ≡ entries_of group
     → GroupGives now group given next
-    → new ≡ old ++ given → Keeps next.history streams → IsSettled entries → kept ≡ next.kept
+    → new ≡ old ++ given → HalvesStand next.history streams → IsSettled entries → kept ≡ next.kept
     → at ≡ position_behind new → LeadsOn entries (before ++ new) at streams kept
 leads_behind entries behind before old given new now next group streams kept at passes whole gives e
     keeps settled same place =
@@ -206,10 +206,10 @@ pub collected : (entries : List Entry) (before old new : List InEvent) (block : 
     (judged : FrameAction) (streams new_streams : Streams) (kept new_kept : Option Table)
     (at : Option Position) (head : FrameHead) (bytes : List ℕ)
     → block.whole ≡ true → head ≡ block.head → bytes ≡ block.block
-    → ((history : List Event) → Keeps history streams
+    → ((history : List Event) → HalvesStand history streams
     → (given : List InEvent) × (next : List Event)
     × BlockGives kept head judged bytes history given next new_kept × (new ≡ old ++ given)
-    × Keeps next new_streams)
+    × HalvesStand next new_streams)
     → at ≡ position_behind new → Holds entries (before ++ old) block judged streams kept
     → LeadsOn entries (before ++ new) at new_streams new_kept
 collected entries before old new block judged streams new_streams kept new_kept at head bytes whole
@@ -240,7 +240,8 @@ pub behind_groups : (entries : List Entry) (entry : Entry) (before old given new
     (at : Option Position)
     → Passes entries [] (before ++ old) now → IsSettled (entries ++ entry ∷ [])
     → entry ∷ [] ≡ entries_of group → GroupGives now group given next
-    → new ≡ old ++ given → Keeps next.history streams → kept ≡ next.kept → at ≡ position_behind new
+    → new ≡ old ++ given → HalvesStand next.history streams → kept ≡ next.kept
+    → at ≡ position_behind new
     → LeadsOn (entries ++ entry ∷ []) (before ++ new) at streams kept
 behind_groups entries entry before old given new now next group streams kept at passes settled whole
     gives e keeps same place =
@@ -313,7 +314,7 @@ pub begun : (entries : List Entry) (frame : Frame) (before old : List InEvent)
     → Passes entries [] (before ++ old) (record { history = history; kept = kept })
     → IsSettled (entries ++ Whole frame ∷ []) → Collects (frame ∷ []) block
     → judged ≡ verdict history frame.head → is_connection_error judged ≡ false
-    → Keeps (after_frame judged frame.head history) streams
+    → HalvesStand (after_frame judged frame.head history) streams
     → Holds (entries ++ Whole frame ∷ []) (before ++ old) block judged streams kept
 begun entries frame before old history block judged streams kept passes settled
     collects same live keeps =
@@ -337,7 +338,9 @@ begun entries frame before old history block judged streams kept passes settled
               (same ∙ ap (verdict history) first) live;
         };
         as_judged = same ∙ ap (verdict history) first;
-        keeps = subst (λ (h : FrameHead). Keeps (after_frame judged h history) streams) first keeps;
+        keeps =
+            subst (λ (h : FrameHead). HalvesStand (after_frame judged h history) streams)
+            first keeps;
       },
     )
 
@@ -373,7 +376,7 @@ held entries frame before old block longer judged streams kept
         };
         as_judged = inside.as_judged ∙ ap (verdict history) (sym same);
         keeps =
-            subst (λ (h : FrameHead). Keeps (after_frame judged h history) streams)
+            subst (λ (h : FrameHead). HalvesStand (after_frame judged h history) streams)
             (sym same) inside.keeps;
       },
     )
@@ -396,9 +399,9 @@ pub credits : (at : Position) (entries : List Entry) (id : ℕ) (before old new 
     (judged : FrameAction) (streams new_streams : Streams) (kept : Option Table)
     (next : Option Position)
     → at ≡ Between
-    → ((history : List Event) → Keeps history streams → judged ≡ credit_verdict history id)
-    → ((history : List Event) → Keeps history streams
-    → Keeps (after_frame judged (credit_head id) history) new_streams)
+    → ((history : List Event) → HalvesStand history streams → judged ≡ credit_verdict history id)
+    → ((history : List Event) → HalvesStand history streams
+    → HalvesStand (after_frame judged (credit_head id) history) new_streams)
     → new ≡ old ++ refusal judged (credit_head id) → next ≡ position_behind new
     → Leads entries (before ++ old) at streams kept
     → LeadsOn (entries ++ NoIncrement id ∷ []) (before ++ new) next new_streams kept
@@ -481,7 +484,7 @@ pub block_begins : (entries : List Entry) (frame : Frame) (before old new : List
     → IsSettled (entries ++ Whole frame ∷ []) → Collects (frame ∷ []) block
     → judged ≡ verdict history frame.head
     → ((error : ErrorCode) → judged ≡ ConnectionError error → ⊥)
-    → Keeps (after_frame judged frame.head history) between_streams
+    → HalvesStand (after_frame judged frame.head history) between_streams
     → LeadsOn (entries ++ Whole frame ∷ []) (before ++ new) next new_streams new_kept
 block_begins entries frame before old new block judged streams between_streams new_streams kept
     new_kept next history collected passes settled collects same live keeps =
@@ -518,7 +521,7 @@ pub one_frame : (entries : List Entry) (frame : Frame) (bytes : List ℕ)
     → has end_headers frame.head.flags ≡ true
     → judged ≡ verdict history frame.head
     → ((error : ErrorCode) → judged ≡ ConnectionError error → ⊥)
-    → Keeps (after_frame judged frame.head history) between_streams
+    → HalvesStand (after_frame judged frame.head history) between_streams
     → LeadsOn (entries ++ Whole frame ∷ []) (before ++ new) next new_streams new_kept
 one_frame entries frame bytes before old new judged streams between_streams new_streams kept
     new_kept next history collected same_bytes passes settled kind short whole same live keeps =

@@ -31,7 +31,7 @@ use Rattle.h2frame.specs.FrameList.{Entry, Whole, Joined, IsUnfinished}
 use Rattle.hpack_codec.specs.Table.{Table, empty_table}
 use Rattle.streamstates.specs.declared.halves.FrameAction.{FrameAction}
 use Rattle.streamstates.specs.Halves.{Event, Streams, verdict, half_of}
-use Rattle.streamstates.specs.Halves.{Stands as Keeps}
+use Rattle.streamstates.specs.Halves.{Stands as HalvesStand}
 use Rattle.reasons.specs.declared.Reason.TheVariants as reason
 use Rattle.session.specs.declared.event.InEvent.{InEvent}
 use Rattle.session.specs.declared.context.Position.{Position}
@@ -92,7 +92,7 @@ pub record IsInside (block : PendingBlock) (judged : FrameAction) (history : Lis
     (frames : List Frame) (streams : Streams) : Type 0 where
   pub begun : IsBegun history frames block
   pub as_judged : judged ≡ verdict history block.head
-  pub keeps : Keeps (after_frame judged block.head history) streams
+  pub keeps : HalvesStand (after_frame judged block.head history) streams
 
 abbrev pub Holds : List Entry → List InEvent → PendingBlock → FrameAction → Streams
     → Option Table → Type 0
@@ -104,9 +104,9 @@ Holds entries given block judged streams kept =
 -- the entries so far, with these events, lead to this position
 abbrev pub Leads : List Entry → List InEvent → Position → Streams → Option Table → Type 0
 Leads entries given First streams kept =
-    (entries ≡ []) × (given ≡ []) × Keeps [] streams × (kept ≡ Some empty_table)
+    (entries ≡ []) × (given ≡ []) × HalvesStand [] streams × (kept ≡ Some empty_table)
 Leads entries given Between streams kept =
-    (history : List Event) × IsPassed entries [] given history kept × Keeps history streams
+    (history : List Event) × IsPassed entries [] given history kept × HalvesStand history streams
 Leads entries given (Inside block judged) streams kept =
     (block.whole ≡ false) × Holds entries given block judged streams kept
 
@@ -135,7 +135,7 @@ abbrev pub Begins : Streams → Option Table → List InEvent → Frame → Opti
 Begins streams kept old frame next new_streams new_kept new =
     (entries : List Entry) (before : List InEvent) (history : List Event)
     → Passes entries [] (before ++ old) (record { history = history; kept = kept })
-    → Keeps history streams → IsSettled (entries ++ Whole frame ∷ [])
+    → HalvesStand history streams → IsSettled (entries ++ Whole frame ∷ [])
     → LeadsOn (entries ++ Whole frame ∷ []) (before ++ new) next new_streams new_kept
 
 -- Whatever entries led to the frames of a header block, they lead on.
@@ -196,7 +196,7 @@ pub record ReadsWaiting (at : Position) (waiting : List ℕ) (streams : Streams)
 -- The bytes so far, with these events, lead to this core.
 abbrev pub AtStage : List ℕ → List InEvent → InStage → List ℕ → Streams → Option Table → Type 0
 AtStage bytes given (Greeting due) waiting streams kept =
-    (preface ≡ bytes ++ due) × (due ≢ []) × (given ≡ []) × (waiting ≡ []) × Keeps [] streams
+    (preface ≡ bytes ++ due) × (due ≢ []) × (given ≡ []) × (waiting ≡ []) × HalvesStand [] streams
     × (kept ≡ Some empty_table)
 AtStage bytes given (Reading position) waiting streams kept =
     (text : List ℕ) × (bytes ≡ preface ++ text) × ReadsTo text given position waiting streams kept

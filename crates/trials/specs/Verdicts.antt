@@ -2,7 +2,7 @@
 use Rattle.std.specs.Prelude.{Option, Some, None, Result}
 use Rattle.std.specs.Result.{result_err}
 use Rattle.cases.specs.declared.fault.CaseFault.{CaseFault}
-use Rattle.cases.specs.declared.report.Outcome.{Outcome as Ended}
+use Rattle.cases.specs.declared.report.Outcome.{Outcome as CaseOutcome}
 use Rattle.results.specs.declared.words.Verdict.{Verdict}
 
 -- the verdict on a case that failed for a fault, or passed
@@ -13,5 +13,5 @@ verdict_by (Some fault) = Verdict.Failed
 abbrev pub verdict_of : Result (Unit {0}) CaseFault → Verdict
 verdict_of answer = verdict_by (result_err answer)
 
-abbrev pub verdict_on : Ended → Verdict
+abbrev pub verdict_on : CaseOutcome → Verdict
 verdict_on ended = verdict_of ended.answer

@@ -4,7 +4,6 @@ ghost use Rattle.std.specs.Prelude.{◌≡◌, List, codes, map, IfOk, OnOk, Err
 ghost use Rattle.std.specs.Io.KnownBytes.{Appends};
 ghost use Rattle.cases.specs.Report.{all_cases, line_of, lines_of};
 ghost use Rattle.cases.specs.declared.fault.CaseFault.TheVariants.{UnknownCase};
-ghost use Rattle.cases.specs.declared.report.Outcome.{Outcome as Ended};
 
 use crate::attempt::{Target, connect_and_run, fault_of, outcome_by, outcome_of, try_case};
 use crate::connecting::{ServerPlace, connect};

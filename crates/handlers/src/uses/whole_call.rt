@@ -1,7 +1,7 @@
 //! A whole call of a method, its steps one after another.
 
 ghost use Rattle.std.specs.Prelude.{◌≡◌, map, IfOk, IsSome, IsTrue};
-ghost use Rattle.handlers.specs.declared.step.MethodStep.{MethodStep as Given};
+ghost use Rattle.handlers.specs.declared.step.MethodStep.{MethodStep as StepOf};
 
 use crate::fault::MethodFault;
 use crate::method::Method;
@@ -21,7 +21,7 @@ pub fn run(
     ensures answer { IfOk result
         (λ answer. answers method.now (map (λ message. message.now) messages.now) ended answer) }
     ensures only { IfOk result
-        (λ answer. (other : Given)
+        (λ answer. (other : StepOf)
         → answers method.now (map (λ message. message.now) messages.now) ended other → other
         ≡ answer) }
     ensures status { IfOk result (λ answer. IsTrue ended → IsSome answer.ends) }
