@@ -1,6 +1,15 @@
-"""Debian packages that checks use, which are installed where they can be had."""
+#!/usr/bin/env python3
+"""Debian packages that checks use, which are installed where they can be had.
+
+packages.py install PACKAGE..: installs these.
+packages.py grpcio: whether python3-grpcio is there.
+packages.py go SOURCE PROGRAM CACHE: builds a program on grpc-go.
+
+Exits 1 where that can't be had.
+"""
 import os
 import subprocess
+import sys
 
 QUIET = {"stdout": subprocess.DEVNULL, "stderr": subprocess.DEVNULL, "check": False}
 GO = {"GOPATH": "/usr/share/gocode", "GO111MODULE": "off", "GOFLAGS": ""}
@@ -32,3 +41,12 @@ def has_built_go(source, binary, cache):
     words, environment = ["go", "build", "-o", binary, source], {**os.environ, **GO, "GOCACHE": cache}
     is_built = works(words, env=environment)
     return is_built or (install("golang-go", "golang-google-grpc-dev") and works(words, env=environment))
+
+
+def main(deed, *words):
+    deeds = {"install": install, "grpcio": has_grpcio, "go": has_built_go}
+    return deeds[deed](*words)
+
+
+if __name__ == "__main__":
+    sys.exit(0 if main(*sys.argv[1:]) else 1)
