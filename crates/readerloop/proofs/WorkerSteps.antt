@@ -31,18 +31,18 @@ slice_get-set (y ∷ ys) zero x there = refl
 slice_get-set (y ∷ ys) (suc i) x there = slice_get-set ys i x (omega (arith, there))
 
 module _ {J M : Type 0} {book : Ghosts J} where
-  pub places-set : (seats : List (WorkerHandle J M book)) (number : ℕ)
-      (seat : WorkerHandle J M book)
-      → number < length seats → HasPlaces seat
-      → IsSomeAnd (slice_get (set seats number seat) number) HasPlaces
-  places-set seats number seat there has =
+  pub places-set : (workers : List (WorkerHandle J M book)) (number : ℕ)
+      (worker : WorkerHandle J M book)
+      → number < length workers → HasPlaces worker
+      → IsSomeAnd (slice_get (set workers number worker) number) HasPlaces
+  places-set workers number worker there has =
       subst (λ (found : Option (WorkerHandle J M book)). IsSomeAnd found HasPlaces)
-      (sym (slice_get-set seats number seat there)) has
+      (sym (slice_get-set workers number worker there)) has
 
-  pub places-found : (seats : List (WorkerHandle J M book)) (number : ℕ)
-      (seat : WorkerHandle J M book)
-      → number < length seats → seat ≡ get_or seats number seat
-      → IsSomeAnd (slice_get seats number) HasPlaces → HasPlaces seat
-  places-found seats number seat there is has =
+  pub places-found : (workers : List (WorkerHandle J M book)) (number : ℕ)
+      (worker : WorkerHandle J M book)
+      → number < length workers → worker ≡ get_or workers number worker
+      → IsSomeAnd (slice_get workers number) HasPlaces → HasPlaces worker
+  places-found workers number worker there is has =
       subst (λ (found : Option (WorkerHandle J M book)). IsSomeAnd found HasPlaces)
-      (slice_get_read seats (length seats) number seat refl there is) has
+      (slice_get_read workers (length workers) number worker refl there is) has

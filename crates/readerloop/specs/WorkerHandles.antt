@@ -8,8 +8,8 @@ use Rattle.readerloop.specs.declared.worker_pool.WorkerPool.{WorkerPool}
 module _ {J M : Type 0} {book : Ghosts J} where
   -- there is a place for a call, and then for the word that no more come
   abbrev pub HasPlaces : WorkerHandle J M book → Type 0
-  HasPlaces seat = (2 ≤ known_free seat.tasks) × (seat.is_ended ≡ false)
+  HasPlaces worker = (2 ≤ known_free worker.tasks) × (worker.is_ended ≡ false)
 
   -- the worker of this number has these places
   abbrev pub HasPlacesAt : ℕ → WorkerPool J M book → Type 0
-  HasPlacesAt number seats = IsSomeAnd (slice_get seats.workers.items number) HasPlaces
+  HasPlacesAt number pool = IsSomeAnd (slice_get pool.workers.items number) HasPlaces

@@ -48,8 +48,8 @@ pub struct Call<J: Naming> {
     pub(crate) number: CallNumber<J>,
     /// The place of its account.
     pub(crate) place: usize,
-    /// The worker that answers it, until the worker has handed it back.
-    pub(crate) seat: usize,
+    /// The number of the worker that answers it, until the worker has handed it back.
+    pub(crate) worker_number: usize,
     pub(crate) half: FeederHalf,
     /// What its worker has handed back.
     pub(crate) finished: Option<FinishedJob<J>>,
@@ -112,7 +112,7 @@ impl<J: Naming> Call<J> {
     pub(crate) fn worker(&self) -> Option<usize> {
         match &self.finished {
             Some(_) => None,
-            None => Some(self.seat),
+            None => Some(self.worker_number),
         }
     }
 

@@ -163,18 +163,18 @@ impl<J: Naming, M: Answering> WorkerPool<J, M> {
     /// Makes room for one worker more.
     pub(crate) fn reserve(&mut self) -> Result<(), AllocError>
         ensures room { OnOk result (vec_len self.new.workers < vec_capacity self.new.workers) }
-        ensures seats { self.new.workers.items ≡ self.old.workers.items }
+        ensures workers { self.new.workers.items ≡ self.old.workers.items }
     {
         self.workers.reserve(1)
     }
 
     /// Adds a worker, for which there is room. Its number.
-    pub(crate) fn add(&mut self, seat: WorkerHandle<J, M>) -> usize
+    pub(crate) fn add(&mut self, handle: WorkerHandle<J, M>) -> usize
         requires room { vec_len self.old.workers < vec_capacity self.old.workers }
-        ensures places { HasPlaces seat → HasPlacesAt result self.new }
+        ensures places { HasPlaces handle → HasPlacesAt result self.new }
     {
         let number = self.workers.len();
-        self.workers.push_reserved(seat);
+        self.workers.push_reserved(handle);
         number
     }
 
@@ -194,10 +194,10 @@ impl<J: Naming, M: Answering> WorkerPool<J, M> {
     fn is_free(&mut self, number: usize) -> bool
         ensures places { result ≡ true → HasPlacesAt number self.new }
     {
-        let Some(seat) = self.workers.get_mut(number) else {
+        let Some(worker) = self.workers.get_mut(number) else {
             return false;
         };
-        seat.is_free()
+        worker.is_free()
     }
 
     /// What wakes the worker of this number.
@@ -210,8 +210,8 @@ impl<J: Naming, M: Answering> WorkerPool<J, M> {
         requires places { HasPlacesAt number self.old }
         requires fresh { IsFreshWork job.work }
     {
-        if let Some(seat) = self.workers.get_mut(number) {
-            seat.hand(job);
+        if let Some(worker) = self.workers.get_mut(number) {
+            worker.hand(job);
         }
     }
 
@@ -226,30 +226,30 @@ impl<J: Naming, M: Answering> WorkerPool<J, M> {
     /// there.
     pub(crate) fn note(&mut self, number: Option<usize>) {
         if let Some(number) = number {
-            if let Some(seat) = self.workers.get_mut(number) {
-                seat.is_noted = true;
+            if let Some(worker) = self.workers.get_mut(number) {
+                worker.is_noted = true;
             }
         }
     }
 
     /// Rings the bells of the workers for which something came.
     pub(crate) fn ring_noted(&mut self) {
-        for seat in self.workers.iter_mut() {
-            seat.ring_noted();
+        for worker in self.workers.iter_mut() {
+            worker.ring_noted();
         }
     }
 
     /// No more calls come.
     pub(crate) fn end(&mut self) {
-        for seat in self.workers.iter_mut() {
-            seat.end();
+        for worker in self.workers.iter_mut() {
+            worker.end();
         }
     }
 
     /// The worker of this number has ended, and hands back its ends of the rings.
     pub(crate) fn meet(&mut self, number: usize, tasks: TasksOut<J>, done: DoneIn<J, M>) {
-        if let Some(seat) = self.workers.get_mut(number) {
-            seat.meet(tasks, done);
+        if let Some(worker) = self.workers.get_mut(number) {
+            worker.meet(tasks, done);
         }
     }
 }

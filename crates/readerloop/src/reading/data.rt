@@ -154,15 +154,15 @@ impl<J: Naming, M: Answering> Reading<J, M> {
     }
 
     /// Shuts the half of a call, as was decided.
-    pub fn shut(&mut self, cut: HalfToShut)
+    pub fn shut(&mut self, half: HalfToShut)
         ensures heard { (sent : List SentItems) (told : List Step) (step : Step)
-            → Awaits M.known M.names (carried_in sent) told step cut self.old
+            → Awaits M.known M.names (carried_in sent) told step half self.old
             → Reads M.known M.names (carried_in sent) (step ∷ told) self.new }
         ensures next { KeepsNext self.old self.new }
         ensures draining { self.new.is_draining ≡ self.old.is_draining }
         ensures home { self.new.home ≡ self.old.home }
     {
-        let worker = self.calls.shut::<M>(cut.id, cut.kind);
+        let worker = self.calls.shut::<M>(half.id, half.kind);
         self.workers.note(worker);
     }
 }

@@ -208,12 +208,12 @@ impl<J: Naming, M: Answering> Reading<J, M> {
     }
 
     /// Adds a worker, for which there is room. Its number.
-    pub fn add(&mut self, seat: WorkerHandle<J, M>) -> usize
+    pub fn add(&mut self, handle: WorkerHandle<J, M>) -> usize
         requires room { vec_len self.old.workers.workers < vec_capacity self.old.workers.workers }
-        ensures places { HasPlaces seat → HasPlacesAt result self.new.workers }
+        ensures places { HasPlaces handle → HasPlacesAt result self.new.workers }
         ensures rest { self.new ≡ record self.old { workers = self.new.workers } }
     {
-        self.workers.add(seat)
+        self.workers.add(handle)
     }
 
     /// Hands a call that was admitted to the worker of this number, which is free. Without memory
@@ -259,10 +259,14 @@ impl<J: Naming, M: Answering> Reading<J, M> {
 
     /// Opens the lanes of a call for which there is room, and hands two of their ends to its
     /// worker. Answers what the writing side gets of it.
-    fn start_in_room(&mut self, seat: usize, request: Request) -> Result<OpeningCall<J>, AllocError>
+    fn start_in_room(
+        &mut self,
+        worker: usize,
+        request: Request,
+    ) -> Result<OpeningCall<J>, AllocError>
         requires named { M.names request.head.path request.index }
         requires next { IsNext request.id self.old }
-        requires places { HasPlacesAt seat self.old.workers }
+        requires places { HasPlacesAt worker self.old.workers }
         requires room { vec_len self.old.calls.calls < vec_capacity self.old.calls.calls }
         ensures heard { OnOk result ((sent : List SentItems) (told : List Step)
             → is_draining told ≡ false
@@ -273,14 +277,14 @@ impl<J: Naming, M: Answering> Reading<J, M> {
         ensures calls { OnErr result (self.new.calls ≡ self.old.calls) }
         ensures rest { HasSameRest self.old self.new }
     {
-        let line = self.line(seat)?;
+        let line = self.line(worker)?;
         let ends = open_lanes(self.alloc, &self.register, &mut self.front, request)?;
         let Ends {
             feeder,
             job,
             sending,
         } = ends;
-        self.enter(seat, feeder, job);
+        self.enter(worker, feeder, job);
         Ok(OpeningCall { sending, line })
     }
 
@@ -294,10 +298,10 @@ impl<J: Naming, M: Answering> Reading<J, M> {
 
     /// Adds a call, for which there is room, to those that aren't settled, and hands it to its
     /// worker, which is free.
-    fn enter(&mut self, seat: usize, feeder: Feeder<InLane>, job: Job<J>)
+    fn enter(&mut self, worker: usize, feeder: Feeder<InLane>, job: Job<J>)
         requires named { M.names job.work.request.head.path job.work.request.index }
         requires next { IsNext job.work.request.id self.old }
-        requires places { HasPlacesAt seat self.old.workers }
+        requires places { HasPlacesAt worker self.old.workers }
         requires room { vec_len self.old.calls.calls < vec_capacity self.old.calls.calls }
         requires fresh { IsFreshWork job.work }
         requires one_lane { in_name feeder.tx ≡ out_name job.work.taker.rx }
@@ -319,12 +323,12 @@ impl<J: Naming, M: Answering> Reading<J, M> {
             method,
             number,
             place,
-            seat,
+            worker_number: worker,
             half: FeederHalf::Open(feeder),
             finished: None,
             returning: None,
         });
-        self.workers.hand(seat, job);
+        self.workers.hand(worker, job);
     }
 
     /// No worker could be started for a call of this method, which was admitted: its account says

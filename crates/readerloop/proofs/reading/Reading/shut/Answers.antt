@@ -5,7 +5,7 @@ use Rattle.readerloop.proofs.reading.Reading.shut.Goals as goal
 
 pub returns-clause-heard : goal.returns-clause-heard
 returns-clause-heard g c = λ sent told step awaits.
-    shuts-awaited told step c.args.cut c.args.self.now _ refl refl refl refl
+    shuts-awaited told step c.args.half c.args.self.now _ refl refl refl refl
     (λ concerns closes kept. c.shut-worker.ensures.heard sent step concerns closes told kept) awaits
 
 pub returns-clause-next : goal.returns-clause-next
