@@ -173,8 +173,8 @@ module _ {A B C J N : Type 0} {book : Naming J} {route : Ghosts N} where
   pub put-same : (old new : Orders A B C J N book route) → new.outbox ≡ old.outbox
       → new.backlog ≡ old.backlog → put_of new ≡ put_of old
   put-same old new outbox backlog =
-      ap (λ (box : Outbox J N book route). put_in box.ring ++ new.backlog.items) outbox
-      ∙ ap (λ later. put_in old.outbox.ring ++ later.items) backlog
+      ap (λ (box : Outbox J N book route). put_in box.tx ++ new.backlog.items) outbox
+      ∙ ap (λ later. put_in old.outbox.tx ++ later.items) backlog
 
   -- an order more
   pub ordered-put : (all : List Order) (order : WriterOrder (OpeningCall J book))

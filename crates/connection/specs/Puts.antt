@@ -44,7 +44,7 @@ module _ {J : Type 0} {book : Naming J} where
 module _ {A B C J N : Type 0} {book : Naming J} {route : Ghosts N} where
   -- what was put, and the backlog, which is put behind it
   abbrev pub put_of : Orders A B C J N book route → List (WriterOrder (OpeningCall J book))
-  put_of orders = put_in orders.outbox.ring ++ orders.backlog.items
+  put_of orders = put_in orders.outbox.tx ++ orders.backlog.items
 
   abbrev pub put_orders : Orders A B C J N book route → List Order
   put_orders orders = map (λ order. order_of order) (put_of orders)

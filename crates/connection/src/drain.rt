@@ -25,7 +25,7 @@ pub struct DrainHandle<A: Ledger, B: Ledger, C: Ledger> {
 }
 
 impl<A: Ledger, B: Ledger, C: Ledger> Drainer<A, B, C> {
-    /// The drainer of a connection, and the seat with which the connection is served.
+    /// The drainer of a connection, and the handle with which the connection is served.
     pub fn new(
         alloc: Global,
         blanks: (Blank, Blank, Blank),
@@ -41,20 +41,20 @@ impl<A: Ledger, B: Ledger, C: Ledger> Drainer<A, B, C> {
             × (made.1.came.amount ≡ 0)) }
         ensures calls { IfOk result (λ made. (made.1.calls.parts ≡ B.parts)
             × (made.1.calls.amount ≡ 0)) }
-        ensures told { IfOk result (λ made. (made.1.announced.parts ≡ C.parts)
+        ensures announced { IfOk result (λ made. (made.1.announced.parts ≡ C.parts)
             × (made.1.announced.amount ≡ 0)) }
     {
         let (received, came) = blanks.0.open::<A>();
         let (admitted, calls) = blanks.1.open::<B>();
-        let (announced, told) = blanks.2.open::<C>();
+        let (announced, share) = blanks.2.open::<C>();
         let shared = SharedConn::new(alloc, ConnBook::new(alloc, received, admitted, announced))?;
-        let seat = DrainHandle {
+        let handle = DrainHandle {
             shared: Arc::try_clone(&shared)?,
             came,
             calls,
-            announced: told,
+            announced: share,
         };
-        Ok((Drainer { shared }, seat))
+        Ok((Drainer { shared }, handle))
     }
 
     /// Admits no more calls. The writer warns the peer, and GOAWAY names the last call that goes

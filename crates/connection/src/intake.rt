@@ -77,16 +77,19 @@ impl<A: Ledger, B: Ledger, C: Ledger> Intake<A, B, C> {
 
     /// The reader meets the writer, which hands in its share: the writer announced no more on the
     /// connection than came.
-    pub(crate) fn audit(self, rt: &impl Wait, told: Share<C>)
-        requires told { told.parts ≡ C.parts }
-        ensures within { told.amount ≤ self.came }
+    pub(crate) fn audit(self, rt: &impl Wait, announced: Share<C>)
+        requires announced { announced.parts ≡ C.parts }
+        ensures within { announced.amount ≤ self.came }
     {
-        let mut told = told;
+        let mut announced = announced;
         let Intake {
             shared,
             mut came,
             mut calls,
         } = self;
-        shared.book.lock(rt).audit(&mut came, &mut calls, &mut told);
+        shared
+            .book
+            .lock(rt)
+            .audit(&mut came, &mut calls, &mut announced);
     }
 }

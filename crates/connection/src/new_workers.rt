@@ -16,7 +16,7 @@ use std::thread::Threads;
 use std::time::{Clock, Instant};
 
 /// Starts a worker in a thread of its own. If no thread can be made, it answers want of memory.
-pub(crate) fn open_seat<A, B, C, G, J, M, R>(
+pub(crate) fn open_worker<A, B, C, G, J, M, R>(
     rt: R,
     alloc: Global,
     shared: &Arc<SharedConn<A, B, C>>,
@@ -49,8 +49,8 @@ where
         tasks: taking,
         done: giving,
     };
-    let Some(hand) = hire(rt, worker, methods, ways) else {
+    let Some(thread) = hire(rt, worker, methods, ways) else {
         return Err(AllocError);
     };
-    Ok((WorkerHandle::new(line, tasks, done), hand))
+    Ok((WorkerHandle::new(line, tasks, done), thread))
 }

@@ -41,10 +41,10 @@ impl Route for Brand {
 /// The reader's end of the ring of orders.
 #[derive(Drop)]
 pub(crate) struct Outbox<J: Naming, N: Route> {
-    pub(crate) ring: RingIn<Order<J>>,
+    pub(crate) tx: RingIn<Order<J>>,
     route: PhantomData<N>,
-    ghost one_ring: { IsSomeAnd N.ring (λ name. name ≡ in_name ring) } by { IsSomeAnd-prop N.ring
-        (λ name. name ≡ in_name ring) (λ name. RingName_set name (in_name ring)) },
+    ghost one_ring: { IsSomeAnd N.ring (λ name. name ≡ in_name tx) } by { IsSomeAnd-prop N.ring
+        (λ name. name ≡ in_name tx) (λ name. RingName_set name (in_name tx)) },
 }
 
 /// The orders of the reader.
@@ -74,18 +74,18 @@ impl<A: Ledger, B: Ledger, C: Ledger, J: Naming, N: Route> Orders<A, B, C, J, N>
 
     pub(crate) fn new(
         alloc: Global,
-        ring: RingIn<Order<J>>,
+        tx: RingIn<Order<J>>,
         shared: Arc<SharedConn<A, B, C>>,
     ) -> Orders<A, B, C, J, N>
-        requires route { N.ring ≡ Some (in_name ring) }
-        ensures put { put_in ring ≡ [] → put_of result ≡ [] }
+        requires route { N.ring ≡ Some (in_name tx) }
+        ensures put { put_in tx ≡ [] → put_of result ≡ [] }
         ensures going { result.has_stopped ≡ false }
         ensures dropped { result.has_dropped ≡ false }
         ensures unput { result.unput ≡ None }
     {
         Orders {
             outbox: Outbox {
-                ring,
+                tx,
                 route: PhantomData,
             },
             shared,
@@ -126,7 +126,7 @@ impl<A: Ledger, B: Ledger, C: Ledger, J: Naming, N: Route> Orders<A, B, C, J, N>
         self.are_unrung = true;
         'tries: for _ in rt.forever() {
             let mark = self.shared.reader.mark();
-            let Err(fault) = self.outbox.ring.put(order) else {
+            let Err(fault) = self.outbox.tx.put(order) else {
                 return;
             };
             order = fault.into_item();
@@ -234,7 +234,7 @@ impl<A: Ledger, B: Ledger, C: Ledger, J: Naming, N: Route> Orders<A, B, C, J, N>
         if self.has_backlog() {
             return false;
         }
-        match self.outbox.ring.put(WriterOrder::Close) {
+        match self.outbox.tx.put(WriterOrder::Close) {
             Ok(()) => true,
             Err(_full) => false,
         }
@@ -248,7 +248,7 @@ impl<A: Ledger, B: Ledger, C: Ledger, J: Naming, N: Route> Orders<A, B, C, J, N>
         ensures unput { self.new.unput ≡ self.old.unput }
     {
         'orders: for _ in 0..self.backlog.len() {
-            if !self.outbox.ring.has_room() {
+            if !self.outbox.tx.has_room() {
                 return;
             }
             self.put_first();
@@ -257,14 +257,14 @@ impl<A: Ledger, B: Ledger, C: Ledger, J: Naming, N: Route> Orders<A, B, C, J, N>
 
     /// Puts the first order of the backlog; there is room for it.
     fn put_first(&mut self)
-        requires room { HasRoom self.old.outbox.ring }
+        requires room { HasRoom self.old.outbox.tx }
         ensures put { put_of self.new ≡ put_of self.old }
         ensures stopped { self.new.has_stopped ≡ self.old.has_stopped }
         ensures dropped { self.new.has_dropped ≡ self.old.has_dropped }
         ensures unput { self.new.unput ≡ self.old.unput }
     {
         if let Some(order) = self.backlog.pop_front() {
-            let _is_put = self.outbox.ring.put(order).is_ok();
+            let _is_put = self.outbox.tx.put(order).is_ok();
         }
     }
 
@@ -286,8 +286,8 @@ impl<A: Ledger, B: Ledger, C: Ledger, J: Naming, N: Route> Orders<A, B, C, J, N>
         requires none_left { self.backlog.items ≡ [] }
         ensures first { IsPrefix (taken rx) (put_of self) }
     {
-        let Outbox { mut ring, .. } = self.outbox;
+        let Outbox { mut tx, .. } = self.outbox;
         let mut rx = rx;
-        let _left = Ring::meet(&mut ring, &mut rx);
+        let _left = Ring::meet(&mut tx, &mut rx);
     }
 }

@@ -31,14 +31,11 @@ impl<A: Ledger, B: Ledger, C: Ledger> Model for Outlet<A, B, C> {
 }
 
 impl<A: Ledger, B: Ledger, C: Ledger> Outlet<A, B, C> {
-    pub(crate) fn new(shared: Arc<SharedConn<A, B, C>>, told: Share<C>) -> Outlet<A, B, C>
-        requires { (told.parts ≡ C.parts) × (0 < C.parts) }
-        ensures { result ≡ told.amount }
+    pub(crate) fn new(shared: Arc<SharedConn<A, B, C>>, announced: Share<C>) -> Outlet<A, B, C>
+        requires { (announced.parts ≡ C.parts) × (0 < C.parts) }
+        ensures { result ≡ announced.amount }
     {
-        Outlet {
-            shared,
-            announced: told,
-        }
+        Outlet { shared, announced }
     }
 
     /// The share in which announced credit counts.
@@ -46,11 +43,8 @@ impl<A: Ledger, B: Ledger, C: Ledger> Outlet<A, B, C> {
         ensures amount { result.amount ≡ self }
         ensures parts { result.parts ≡ C.parts }
     {
-        let Outlet {
-            announced: told,
-            ..
-        } = self;
-        told
+        let Outlet { announced, .. } = self;
+        announced
     }
 
     /// What the threads of the connection share.
@@ -79,7 +73,7 @@ impl<A: Ledger, B: Ledger, C: Ledger> Outlet<A, B, C> {
     {
         let Outlet {
             shared,
-            announced: told,
+            announced,
             ..
         } = self;
         let mut book = shared.book.lock(rt);
@@ -87,9 +81,9 @@ impl<A: Ledger, B: Ledger, C: Ledger> Outlet<A, B, C> {
             let Some(id) = book.live_id(place) else {
                 break;
             };
-            grant_due_on(&mut book, told, writing, id);
+            grant_due_on(&mut book, announced, writing, id);
         }
-        grant_due_on(&mut book, told, writing, 0);
+        grant_due_on(&mut book, announced, writing, 0);
         book.closing()
     }
 }
@@ -99,7 +93,7 @@ impl<A: Ledger, B: Ledger, C: Ledger> Outlet<A, B, C> {
 /// call and its worker has given bytes back: a grant there wouldn't count.
 fn grant_due_on<A, B, C, J, W>(
     book: &mut ConnBook<A, B, C>,
-    told: &mut Share<C>,
+    announced: &mut Share<C>,
     writing: &mut Writing<J, W>,
     id: StreamId,
 )
@@ -109,15 +103,15 @@ where
     C: Ledger,
     J: Naming,
     W: ConnWrite + Drop,
-    requires some { 0 < told.old.parts }
-    ensures parts { told.new.parts ≡ told.old.parts }
-    ensures leads { LeadsTo W.contents W.failed told.old.amount writing.old
-        told.new.amount writing.new }
+    requires some { 0 < announced.old.parts }
+    ensures parts { announced.new.parts ≡ announced.old.parts }
+    ensures leads { LeadsTo W.contents W.failed announced.old.amount writing.old
+        announced.new.amount writing.new }
 {
     if !writing.takes_credit(id) {
         return;
     }
-    let increment = book.take_due_credit(id, told);
+    let increment = book.take_due_credit(id, announced);
     if increment > 0 {
         writing.grant(id, increment);
     }

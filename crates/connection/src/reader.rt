@@ -409,16 +409,16 @@ where
         let Decision {
             goaway,
             order,
-            to_shut: cut,
+            to_shut,
             ends,
         } = decided;
         let rt = self.rt;
         self.orders.put_some(&rt, goaway_of(goaway));
         self.orders.put_some(&rt, order);
-        if let Some(cut) = cut {
+        if let Some(half) = to_shut {
             self.looked = None;
-            self.reading.shut(cut);
-            self.orders.shared.book.lock(&rt).cut(cut.id);
+            self.reading.shut(half);
+            self.orders.shared.book.lock(&rt).cut(half.id);
         }
         ends
     }

@@ -66,7 +66,7 @@ use writerloop::{WriterEnding, WriterResult};
 /// with an error or was drained, and all that could be written was.
 ///
 /// These methods answer the calls, which go on when this gate lets them. The function waits for a
-/// peer that neither reads nor closes. The drainer of the seat ends the connection while calls go
+/// peer that neither reads nor closes. The drainer of the handle ends the connection while calls go
 /// on.
 pub fn serve_connection<A, B, C, I, O, G, R>(
     rt: R,
@@ -75,7 +75,7 @@ pub fn serve_connection<A, B, C, I, O, G, R>(
     output: O,
     methods: Arc<Methods>,
     gate: Arc<G>,
-    seat: DrainHandle<A, B, C>,
+    handle: DrainHandle<A, B, C>,
 ) -> ServedConn<O>
 where
     A: Ledger + Send + Sync + 'static,
@@ -85,9 +85,10 @@ where
     O: ConnWrite + Send + Drop + 'static,
     G: Gate + Send + Sync + Drop + 'static,
     R: Threads + Wait + Clock + Copy + Send + Sync + Drop + 'static,
-    requires came { (seat.came.parts ≡ A.parts) × (0 < A.parts) × (seat.came.amount ≡ 0) }
-    requires calls { (seat.calls.parts ≡ B.parts) × (0 < B.parts) × (seat.calls.amount ≡ 0) }
-    requires told { (seat.announced.parts ≡ C.parts) × (0 < C.parts) × (seat.announced.amount ≡ 0) }
+    requires came { (handle.came.parts ≡ A.parts) × (0 < A.parts) × (handle.came.amount ≡ 0) }
+    requires calls { (handle.calls.parts ≡ B.parts) × (0 < B.parts) × (handle.calls.amount ≡ 0) }
+    requires announced { (handle.announced.parts ≡ C.parts) × (0 < C.parts)
+        × (handle.announced.amount ≡ 0) }
     // Over one list of what was heard, one of what was ordered, and one run of the writer.
     ensures served { (came : List ℕ) × Consumes (I.remaining input.old) (I.remaining input.new) came
         × IsServed (λ calls. items_of calls.full calls.last) O.contents O.failed
@@ -99,7 +100,7 @@ where
 {
     let register = NewRegister::new();
     serve_named::<A, B, C, Brand, Brand, I, O, G, R>(
-        rt, alloc, seat, register, input, output, methods, gate,
+        rt, alloc, handle, register, input, output, methods, gate,
     )
 }
 
@@ -129,7 +130,7 @@ where
     serve_seated::<Brand, Brand, Brand, I, O, G, R>(rt, alloc, blanks, input, output, methods, gate)
 }
 
-/// Serves a connection over the ledgers of its seat.
+/// Serves a connection over the ledgers of its handle.
 fn serve_seated<A, B, C, I, O, G, R>(
     rt: R,
     alloc: Global,
@@ -158,10 +159,10 @@ where
         came (I.remaining input.new) (O.contents output) (I.failed input.new)
         result.report.ending result.report.calls result.output }
 {
-    let Ok((_drainer, seat)) = Drainer::<A, B, C>::new(alloc, blanks) else {
+    let Ok((_drainer, handle)) = Drainer::<A, B, C>::new(alloc, blanks) else {
         return unserved(alloc, output);
     };
-    serve_connection(rt, alloc, input, output, methods, gate, seat)
+    serve_connection(rt, alloc, input, output, methods, gate, handle)
 }
 
 /// Out of memory before the connection began.
@@ -240,7 +241,7 @@ impl<A: Ledger, B: Ledger, C: Ledger, G: Drop> Common<A, B, C, G> {
 fn serve_named<A, B, C, J, M, I, O, G, R>(
     rt: R,
     alloc: Global,
-    seat: DrainHandle<A, B, C>,
+    handle: DrainHandle<A, B, C>,
     register: NewRegister,
     input: &mut I,
     output: O,
@@ -257,9 +258,10 @@ where
     O: ConnWrite + Send + Drop + 'static,
     G: Gate + Send + Sync + Drop + 'static,
     R: Threads + Wait + Clock + Copy + Send + Sync + Drop + 'static,
-    requires came { (seat.came.parts ≡ A.parts) × (0 < A.parts) × (seat.came.amount ≡ 0) }
-    requires calls { (seat.calls.parts ≡ B.parts) × (0 < B.parts) × (seat.calls.amount ≡ 0) }
-    requires told { (seat.announced.parts ≡ C.parts) × (0 < C.parts) × (seat.announced.amount ≡ 0) }
+    requires came { (handle.came.parts ≡ A.parts) × (0 < A.parts) × (handle.came.amount ≡ 0) }
+    requires calls { (handle.calls.parts ≡ B.parts) × (0 < B.parts) × (handle.calls.amount ≡ 0) }
+    requires announced { (handle.announced.parts ≡ C.parts) × (0 < C.parts)
+        × (handle.announced.amount ≡ 0) }
     requires known { IsWithin M.known
         (answers_by (λ method. answers (method.vtable, method.value)) (listed methods.value)) }
     requires named { AreNames
@@ -279,7 +281,7 @@ where
         return unserved(alloc, output);
     };
     serve_over::<A, B, C, J, M, Brand, I, O, G, R>(
-        rt, alloc, seat, rings, register, input, output, methods, gate,
+        rt, alloc, handle, rings, register, input, output, methods, gate,
     )
 }
 
@@ -287,7 +289,7 @@ where
 fn serve_over<A, B, C, J, M, N, I, O, G, R>(
     rt: R,
     alloc: Global,
-    seat: DrainHandle<A, B, C>,
+    handle: DrainHandle<A, B, C>,
     rings: Rings<J>,
     register: NewRegister,
     input: &mut I,
@@ -306,9 +308,10 @@ where
     O: ConnWrite + Send + Drop + 'static,
     G: Gate + Send + Sync + Drop + 'static,
     R: Threads + Wait + Clock + Copy + Send + Sync + Drop + 'static,
-    requires came { (seat.came.parts ≡ A.parts) × (0 < A.parts) × (seat.came.amount ≡ 0) }
-    requires calls { (seat.calls.parts ≡ B.parts) × (0 < B.parts) × (seat.calls.amount ≡ 0) }
-    requires told { (seat.announced.parts ≡ C.parts) × (0 < C.parts) × (seat.announced.amount ≡ 0) }
+    requires came { (handle.came.parts ≡ A.parts) × (0 < A.parts) × (handle.came.amount ≡ 0) }
+    requires calls { (handle.calls.parts ≡ B.parts) × (0 < B.parts) × (handle.calls.amount ≡ 0) }
+    requires announced { (handle.announced.parts ≡ C.parts) × (0 < C.parts)
+        × (handle.announced.amount ≡ 0) }
     requires known { IsWithin M.known
         (answers_by (λ method. answers (method.vtable, method.value)) (listed methods.value)) }
     requires named { AreNames
@@ -329,7 +332,7 @@ where
         result.report.ending result.report.calls result.output }
 {
     let begun = match begin::<A, B, C, J, M, N, O, G, R>(
-        rt, alloc, seat, rings, register, output, gate,
+        rt, alloc, handle, rings, register, output, gate,
     ) {
         Ok(begun) => begun,
         Err(served) => return served,
@@ -368,7 +371,7 @@ struct BegunConn<
 fn begin<A, B, C, J, M, N, O, G, R>(
     rt: R,
     alloc: Global,
-    seat: DrainHandle<A, B, C>,
+    handle: DrainHandle<A, B, C>,
     rings: Rings<J>,
     register: NewRegister,
     output: O,
@@ -384,9 +387,10 @@ where
     O: ConnWrite + Send + Drop + 'static,
     G: Gate + Send + Sync + Drop + 'static,
     R: Threads + Wait + Clock + Copy + Send + Sync + Drop + 'static,
-    requires came { (seat.came.parts ≡ A.parts) × (0 < A.parts) × (seat.came.amount ≡ 0) }
-    requires calls { (seat.calls.parts ≡ B.parts) × (0 < B.parts) × (seat.calls.amount ≡ 0) }
-    requires told { (seat.announced.parts ≡ C.parts) × (0 < C.parts) × (seat.announced.amount ≡ 0) }
+    requires came { (handle.came.parts ≡ A.parts) × (0 < A.parts) × (handle.came.amount ≡ 0) }
+    requires calls { (handle.calls.parts ≡ B.parts) × (0 < B.parts) × (handle.calls.amount ≡ 0) }
+    requires announced { (handle.announced.parts ≡ C.parts) × (0 < C.parts)
+        × (handle.announced.amount ≡ 0) }
     requires rings { (N.ring ≡ Some (in_name rings.orders.0))
         × (in_name rings.orders.0 ≡ out_name rings.orders.1)
         × (in_name rings.senders.0 ≡ out_name rings.senders.1) }
@@ -415,15 +419,15 @@ where
         shared,
         came,
         calls,
-        announced: told,
-    } = seat;
+        announced,
+    } = handle;
     let Ok(common) = Common::new(&rt, shared, &gate) else {
         return Err(unserved(alloc, output));
     };
     let Rings { orders, senders } = rings;
     let (putting, taking) = orders;
     let (giving, home) = senders;
-    let outlet = Outlet::new(common.for_writer, told);
+    let outlet = Outlet::new(common.for_writer, announced);
     let intake = Intake::new(common.for_reader, came, calls);
     let mut orders: Orders<A, B, C, J, N> = Orders::new(alloc, putting, common.for_orders);
     match writer::start(
@@ -443,13 +447,8 @@ where
                 writing,
             })
         }
-        Err(
-            WriterParts {
-                written,
-                announced: told,
-            },
-        ) => {
-            intake.audit(&rt, told);
+        Err(WriterParts { written, announced }) => {
+            intake.audit(&rt, announced);
             let WriterResult {
                 ending,
                 device,
@@ -500,11 +499,8 @@ where
 {
     let mut reader = reader;
     reader.end();
-    let WriterParts {
-        written,
-        announced: told,
-    } = writing.join(&rt);
-    intake.audit(&rt, told);
+    let WriterParts { written, announced } = writing.join(&rt);
+    intake.audit(&rt, announced);
     meet_writer(rt, reader, written, read)
 }
 
@@ -547,9 +543,9 @@ where
         ending,
         device,
         orders: rx,
-        senders: rest,
+        senders,
     } = written;
-    let (calls, orders) = reader.meet(rest);
+    let (calls, orders) = reader.meet(senders);
     meet(&rt, read, ending, calls, orders, rx, device)
 }
 

@@ -13,7 +13,7 @@ ghost use Rattle.connection.specs.Limits.{MayTurnAway, Tally, one_more};
 
 use super::Reader;
 use crate::intake::Intake;
-use crate::new_workers::open_seat;
+use crate::new_workers::open_worker;
 use crate::orders::{Route, STEP};
 use callhead::CallHead;
 use callparts::{Answering, CallAccount, Ending, Naming, Request};
@@ -221,9 +221,9 @@ where
         self.reading.reserve()?;
         self.hands.reserve(1)?;
         let (shared, gate) = (&self.orders.shared, &self.gate);
-        let (seat, hand) = open_seat(self.rt, self.alloc, shared, gate, methods, self.start)?;
-        self.hands.push_reserved(hand);
-        self.reading.add(seat);
+        let (handle, thread) = open_worker(self.rt, self.alloc, shared, gate, methods, self.start)?;
+        self.hands.push_reserved(thread);
+        self.reading.add(handle);
         Ok(())
     }
 

@@ -6,9 +6,9 @@ use Rattle.connection.proofs.orders.Orders.defer.Goals as goal
 pub returns-in-Ok : goal.returns-in-Ok
 returns-in-Ok g c = record {
   puts = inl (
-    ap (λ later. put_in c.args.self.now.outbox.ring ++ later) (c.push_back_reserved.ensures.items
+    ap (λ later. put_in c.args.self.now.outbox.tx ++ later) (c.push_back_reserved.ensures.items
         ∙ ap (λ back. back ++ c.args.order ∷ []) c.reserve.ensures.items)
-        ∙ sym (append_assoc (put_in c.args.self.now.outbox.ring) c.args.self.now.backlog.items
+        ∙ sym (append_assoc (put_in c.args.self.now.outbox.tx) c.args.self.now.backlog.items
         (c.args.order ∷ [])),
     c.requires.whole,
     c.requires.whole,

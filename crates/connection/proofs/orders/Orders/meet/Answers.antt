@@ -4,7 +4,7 @@ use Rattle.connection.proofs.orders.Orders.meet.Goals as goal
 
 pub returns : goal.returns
 returns g c =
-    let put = put_in c.args.self.outbox.ring in
+    let put = put_in c.args.self.outbox.tx in
     record {
       first = (
         ahead c.meet-left.new.rx,

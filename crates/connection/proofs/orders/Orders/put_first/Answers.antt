@@ -12,6 +12,6 @@ returns-in-Some-clause-put g c =
     ∙ ap (λ found. option_to_list found ++ c.pop_front.new.self.items) c.in-Some.is in
     ap (λ put. put ++ c.pop_front.new.self.items)
     (placed-so c.put.result (c.put.ensures.succeeds c.requires.room) c.put.ensures.ok)
-    ∙ (append_assoc (put_in c.args.self.now.outbox.ring) (c.in-Some.order ∷ [])
+    ∙ (append_assoc (put_in c.args.self.now.outbox.tx) (c.in-Some.order ∷ [])
     c.pop_front.new.self.items
-    ∙ ap (λ back. put_in c.args.self.now.outbox.ring ++ back) (sym popped))
+    ∙ ap (λ back. put_in c.args.self.now.outbox.tx ++ back) (sym popped))

@@ -3,6 +3,6 @@ use Rattle.writerloop.specs.Written.{LeadsTo}
 use Rattle.connection.proofs.outlet.Outlet.grant_due.Given as goal
 
 abbrev pub invariant-calls : goal.invariant-calls
-invariant-calls g l = (0 < l.told.parts) × (l.told.parts ≡ g.C.Ledger.parts)
+invariant-calls g l = (0 < l.announced.parts) × (l.announced.parts ≡ g.C.Ledger.parts)
     × LeadsTo g.W.ConnWrite.contents g.W.ConnWrite.failed l.fn.self l.fn.writing
-    l.told.amount l.writing
+    l.announced.amount l.writing

@@ -9,7 +9,7 @@ returns-in-Some-clause-acts g c =
     c.put_some-2.ensures.puts
     (λ was. c.put_some-2.ensures.stops (c.put_some.ensures.stops was))
     (λ sent told step decides.
-    c.shut.ensures.heard sent told step (awaits-of sent told step c.args.decided c.in-Some.cut
+    c.shut.ensures.heard sent told step (awaits-of sent told step c.args.decided c.in-Some.half
     c.args.self.now.reading c.in-Some.is decides))
     c.shut.ensures.home
 
