@@ -297,15 +297,15 @@ impl<A: Ledger, B: Ledger, C: Ledger> ConnBook<A, B, C> {
 
     /// Changes nothing. Where reader and writer meet again, it shows that the shares are what the
     /// book has, and that no more was announced on the connection than came on it.
-    pub fn audit(&mut self, came: &mut Share<A>, calls: &mut Share<B>, told: &mut Share<C>)
+    pub fn audit(&mut self, came: &mut Share<A>, calls: &mut Share<B>, announced: &mut Share<C>)
         requires came { came.old.parts ≡ A.parts }
         requires calls { calls.old.parts ≡ B.parts }
-        requires told { told.old.parts ≡ C.parts }
-        ensures within { told.new.amount ≤ came.new.amount }
+        requires announced { announced.old.parts ≡ C.parts }
+        ensures within { announced.new.amount ≤ came.new.amount }
         ensures came { (came.new.amount ≡ came.old.amount)
             × (self.new.book.connection.received ≡ came.new.amount) }
-        ensures told { (told.new.amount ≡ told.old.amount)
-            × (self.new.book.connection.announced ≡ told.new.amount) }
+        ensures announced { (announced.new.amount ≡ announced.old.amount)
+            × (self.new.book.connection.announced ≡ announced.new.amount) }
         ensures calls { (calls.new.amount ≡ calls.old.amount)
             × (length self.new.book.calls ≤ calls.new.amount) }
         ensures book { self.new.book ≡ self.old.book }
@@ -313,6 +313,6 @@ impl<A: Ledger, B: Ledger, C: Ledger> ConnBook<A, B, C> {
     {
         self.received.audit(came);
         self.admitted.audit(calls);
-        self.announced.audit(told);
+        self.announced.audit(announced);
     }
 }
