@@ -304,7 +304,7 @@ where
     requires admitted { (blanks.1.name ≡ B.name) × (blanks.1.parts ≡ B.parts) × (0 < B.parts) }
     requires announced { (blanks.2.name ≡ C.name) × (blanks.2.parts ≡ C.parts) × (0 < C.parts) }
 {
-    let (drainer, seat) = Drainer::<A, B, C>::new(alloc, blanks)?;
+    let (drainer, handle) = Drainer::<A, B, C>::new(alloc, blanks)?;
     let link = Arc::try_clone(&ends.gate.link)?;
     let standby = stand_by(rt, alloc, stop, drainer, Arc::try_clone(&link)?)?;
     let Ends {
@@ -313,7 +313,7 @@ where
         gate,
     } = ends;
     let ServedConn { report, .. } = serve_connection(
-        rt, alloc, &mut input, output, methods, gate, seat,
+        rt, alloc, &mut input, output, methods, gate, handle,
     );
     standby.end(&rt);
     let drained = if report.ending == Ending::Drained {

@@ -127,11 +127,13 @@ where
         result.report.ending result.report.calls result.output }
 {
     let blanks = (Blank::new(1), Blank::new(1), Blank::new(1));
-    serve_seated::<Brand, Brand, Brand, I, O, G, R>(rt, alloc, blanks, input, output, methods, gate)
+    serve_ledgers::<Brand, Brand, Brand, I, O, G, R>(
+        rt, alloc, blanks, input, output, methods, gate,
+    )
 }
 
-/// Serves a connection over the ledgers of its handle.
-fn serve_seated<A, B, C, I, O, G, R>(
+/// Serves a connection over these ledgers, which have counted nothing.
+fn serve_ledgers<A, B, C, I, O, G, R>(
     rt: R,
     alloc: Global,
     blanks: (Blank, Blank, Blank),

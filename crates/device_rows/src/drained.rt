@@ -97,7 +97,7 @@ where
         sink,
         ..
     } = plan;
-    let (drainer, seat) = Drainer::<A, B, C>::new(alloc, blanks)?;
+    let (drainer, handle) = Drainer::<A, B, C>::new(alloc, blanks)?;
     let (theirs, ours) = (Arc::try_clone(gate)?, Arc::try_clone(gate)?);
     let draining = thread::spawn(&rt, move || {
         theirs.wait_for_wish();
@@ -105,7 +105,7 @@ where
         theirs.tell_drained();
     });
     let draining = draining.ok().context("no thread")?;
-    let served = serve_connection(rt, alloc, &mut source, sink, methods, ours, seat);
+    let served = serve_connection(rt, alloc, &mut source, sink, methods, ours, handle);
     gate.want();
     draining.join(&rt);
     Ok(served)

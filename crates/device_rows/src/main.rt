@@ -127,7 +127,7 @@ where
         ..
     } = plan;
     let timed = TimedRuntime { rt, pace };
-    let (drainer, seat) = Drainer::<A, B, C>::new(alloc, blanks)?;
+    let (drainer, handle) = Drainer::<A, B, C>::new(alloc, blanks)?;
     if drain == Some(0) {
         drainer.drain(&rt);
     }
@@ -137,7 +137,7 @@ where
         drainer,
         left: drain,
     };
-    let served = serve_connection(timed, alloc, &mut input, sink, methods, gate, seat);
+    let served = serve_connection(timed, alloc, &mut input, sink, methods, gate, handle);
     Ok((input.source, served))
 }
 

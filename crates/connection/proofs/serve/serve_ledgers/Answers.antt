@@ -2,7 +2,7 @@ use Rattle.std.proofs.Common.{[]}
 use Rattle.callparts.specs.Blocks.{items_of}
 use Rattle.connection.proofs.Heard.{consumes-none}
 use Rattle.connection.proofs.Reports.{unbegun}
-use Rattle.connection.proofs.serve.serve_seated.Goals as goal
+use Rattle.connection.proofs.serve.serve_ledgers.Goals as goal
 
 pub returns-in_default : goal.returns-in_default
 returns-in_default g c =
