@@ -100,11 +100,11 @@ where
     /// Settles all calls once the writer has ended and handed these senders back. Answers the
     /// accounts of all, and the orders.
     #[inline(never)]
-    pub(crate) fn meet(self, rest: Senders<J>) -> (Accounts, Orders<A, B, C, J, N>)
-        requires way { out_name self.reading.home ≡ in_name rest.sends.home }
-        ensures came { IsPrefix (taken self.reading.home) (put_in rest.sends.home) }
+    pub(crate) fn meet(self, senders: Senders<J>) -> (Accounts, Orders<A, B, C, J, N>)
+        requires way { out_name self.reading.home ≡ in_name senders.sends.home }
+        ensures came { IsPrefix (taken self.reading.home) (put_in senders.sends.home) }
         ensures accounts { (sent : List SentItems) (told : List Step)
-            → AreCarried sent (put_in rest.sends.home) → CarriesRest sent rest
+            → AreCarried sent (put_in senders.sends.home) → CarriesRest sent senders
             → IfSome self.orders.unput (CarriesOpen sent)
             → Reads M.known M.names (carried_in sent) told self.reading
             → AreAccounts M.known M.names (carried_in sent) told (reported told)
@@ -116,7 +116,7 @@ where
     {
         let mut reader = self;
         reader.take_unput();
-        let home = reader.take_rest(rest);
+        let home = reader.take_rest(senders);
         reader.settle_rest();
         let Reader {
             orders,
