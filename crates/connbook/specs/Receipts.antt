@@ -20,6 +20,8 @@ use Rattle.std.specs.Prelude.{
 use Rattle.std.specs.Option.{option_map_or}
 use Rattle.limits.specs.declared.TheConstants.{MAX_LIVE}
 use Rattle.creditbook.specs.declared.book.Call.{Call}
+use Rattle.creditbook.specs.declared.book.fault.BookFault.{BookFault}
+use Rattle.creditbook.specs.declared.book.fault.BookFault.TheVariants as faults
 use Rattle.creditbook.specs.Books.{
   Books,
   IsOdd,
@@ -94,6 +96,13 @@ AdmitCause b id NotNew = ¬ IsNew b id
 AdmitCause b id Draining = IsNew b id × (b.closing ≡ true)
 AdmitCause b id TooMany = IsNew b id × (b.closing ≡ false) × (MAX_LIVE ≤ length b.calls)
 AdmitCause b id OutOfMemory = IsAdmissible b id
+
+-- what the book's answer to a new call is to its callers
+abbrev pub admission_of : Result (Unit {0}) BookFault → Result (Unit {0}) AdmitFault
+admission_of (Ok done) = Ok done
+admission_of (Err faults.Draining) = Err Draining
+admission_of (Err faults.TooMany) = Err TooMany
+admission_of (Err fault) = Err OutOfMemory
 
 abbrev pub Admits : Books → ℕ → Result (Unit {0}) AdmitFault → Type 0
 Admits b id (Ok _) = IsAdmissible b id

@@ -30,6 +30,7 @@ ghost use Rattle.connbook.specs.Receipts.{
   after_loose,
   counted_of,
   Admits,
+  admission_of,
   credit_of,
   after_credit,
   after_stop,
@@ -191,9 +192,17 @@ pub(crate) fn admit(book: &mut Book, id: StreamId) -> Result<(), AdmitFault>
     if id % 2 == 0 || id <= book.last() {
         return Err(AdmitFault::NotNew);
     }
-    book.admit(id).map_err(|fault| match fault {
-        BookFault::Draining => AdmitFault::Draining,
-        BookFault::TooMany => AdmitFault::TooMany,
-        _ => AdmitFault::OutOfMemory,
-    })
+    admission_of(book.admit(id))
+}
+
+/// The book's answer to a new call, as its callers see it.
+fn admission_of(answer: Result<(), BookFault>) -> Result<(), AdmitFault>
+    ensures { result ≡ admission_of answer }
+{
+    match answer {
+        Ok(()) => Ok(()),
+        Err(BookFault::Draining) => Err(AdmitFault::Draining),
+        Err(BookFault::TooMany) => Err(AdmitFault::TooMany),
+        Err(_) => Err(AdmitFault::OutOfMemory),
+    }
 }
