@@ -6,7 +6,7 @@ use results::Level;
 use std::alloc::{AllocError, Global};
 
 /// A case.
-#[derive(Clone, Copy, Debug)]
+#[derive(Clone, Copy)]
 pub struct Case {
     pub group: Group,
     /// Its place in the group, from 1 on.
@@ -29,10 +29,13 @@ impl Case {
 
     /// Whether it opens many calls at once: no other is to run beside it.
     pub fn opens_many(&self) -> bool {
-        self.script.lines().any(|line| {
+        for line in self.script.lines() {
             let line = line.trim();
-            line.starts_with("many ") || line.starts_with("crowd ")
-        })
+            if line.starts_with("many ") || line.starts_with("crowd ") {
+                return true;
+            }
+        }
+        false
     }
 
     /// The case that a text has: its title, its level and section, and then its lines.
@@ -68,7 +71,7 @@ fn push_cases(group: Group, text: &'static str, cases: &mut Vec<Case>) -> Result
             Some((first, behind)) => (first, behind),
             None => (rest, ""),
         };
-        let number = u32::try_from(cases.len()).map_err(|_| WireFault::BadRow)?;
+        let number = u32::try_from(cases.len()).unwrap_or(u32::MAX);
         let case = Case::read(group, number.saturating_add(1), first).ok_or(WireFault::BadRow)?;
         cases.push(case)?;
         if behind.is_empty() {

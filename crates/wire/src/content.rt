@@ -23,7 +23,7 @@ use crate::server_settings::ServerSettings;
 use std::alloc::Global;
 
 /// For what the lines of a case are read.
-#[derive(Clone, Copy, Debug, PartialEq, Eq)]
+#[derive(Clone, Copy)]
 pub struct Reading {
     pub announced: ServerSettings,
     /// Whether without the fault.
@@ -122,7 +122,9 @@ fn push_repeated(
     digits: &str,
     times: u64,
 ) -> Result<(), WireFault> {
-    let piece = hex::decode(alloc, digits).map_err(|_| WireFault::BadRow)?;
+    let Ok(piece) = hex::decode(alloc, digits) else {
+        return Err(WireFault::BadRow);
+    };
     if times > MOST {
         return Err(WireFault::BadRow);
     }
@@ -161,9 +163,10 @@ fn push_field(
 
 /// Adds a text that isn't written by Huffman's code (RFC 7541, section 5.2).
 fn push_string(alloc: Global, bytes: &mut Vec<u8>, text: &str) -> Result<(), WireFault> {
-    let text = unescaped(alloc, text)?;
-    push_length(bytes, text.len() as u64)?;
-    bytes.extend_from_slice(text.as_slice())?;
+    let mut plain = Vec::new(alloc);
+    push_unescaped(&mut plain, text)?;
+    push_length(bytes, plain.len() as u64)?;
+    bytes.extend_from_slice(plain.as_slice())?;
     Ok(())
 }
 
@@ -174,22 +177,30 @@ fn push_pad(alloc: Global, bytes: &mut Vec<u8>, length: u64) -> Result<(), WireF
         return Err(WireFault::BadRow);
     }
     for name in ["x", "xx"] {
-        let mut field = Vec::new(alloc);
-        field.push(LITERAL)?;
-        push_string(alloc, &mut field, name)?;
-        let rest = length.saturating_sub(field.len() as u64);
+        // A byte for the literal, one for the length of the name, and the name.
+        let rest = length.saturating_sub(2).saturating_sub(name.len() as u64);
         for octets in 1..=5u64 {
             let value = rest.saturating_sub(octets);
-            let mut prefix = Vec::new(alloc);
-            push_length(&mut prefix, value)?;
-            if prefix.len() as u64 == octets {
-                bytes.extend_from_slice(field.as_slice())?;
-                bytes.extend_from_slice(prefix.as_slice())?;
+            if octets_of(value) == octets {
+                bytes.push(LITERAL)?;
+                push_string(alloc, bytes, name)?;
+                push_length(bytes, value)?;
                 return push_repeated(alloc, bytes, "61", value);
             }
         }
     }
     Err(WireFault::BadRow)
+}
+
+/// How many bytes a length below 2^28 takes (RFC 7541, section 5.1).
+fn octets_of(length: u64) -> u64 {
+    match length {
+        0..=126 => 1,
+        127..=254 => 2,
+        255..=16_510 => 3,
+        16_511..=2_097_278 => 4,
+        _ => 5,
+    }
 }
 
 /// Adds a change of the table's size (RFC 7541, section 6.3).
@@ -222,27 +233,29 @@ fn push_integer(bytes: &mut Vec<u8>, first: u8, mask: u8, value: u64) -> Result<
     Err(WireFault::BadRow)
 }
 
-/// The bytes of a text in which `%` and two digits stand for a byte.
-fn unescaped(alloc: Global, text: &str) -> Result<Vec<u8>, WireFault> {
-    let mut bytes = Vec::new(alloc);
+/// Adds the bytes of a text in which `%` and two digits stand for a byte.
+fn push_unescaped(bytes: &mut Vec<u8>, text: &str) -> Result<(), WireFault> {
     let mut rest = text.as_bytes();
     for _ in 0..u64::MAX {
-        let Some((first, behind)) = rest.split_first() else {
+        if rest.is_empty() {
             break;
-        };
-        if *first == b'%' {
-            let (high, behind) = behind.split_first().ok_or(WireFault::BadRow)?;
-            let (low, behind) = behind.split_first().ok_or(WireFault::BadRow)?;
-            let high = digit(*high).ok_or(WireFault::BadRow)?;
-            let low = digit(*low).ok_or(WireFault::BadRow)?;
-            bytes.push(high * 16 + low)?;
-            rest = behind;
-        } else {
-            bytes.push(*first)?;
-            rest = behind;
         }
+        let (byte, behind) = first_byte(rest).ok_or(WireFault::BadRow)?;
+        bytes.push(byte)?;
+        rest = behind;
     }
-    Ok(bytes)
+    Ok(())
+}
+
+/// The byte that a text begins with, or that `%` and two digits spell there, and what follows.
+fn first_byte(text: &[u8]) -> Option<(u8, &[u8])> {
+    let (first, behind) = text.split_first()?;
+    if *first != b'%' {
+        return Some((*first, behind));
+    }
+    let (high, behind) = behind.split_first()?;
+    let (low, behind) = behind.split_first()?;
+    Some((digit(*high)? * 16 + digit(*low)?, behind))
 }
 
 /// The value of a hexadecimal digit.

@@ -13,7 +13,7 @@ use crate::reaction::{LawfulReaction, Reaction};
 use crate::seen_frames::SeenFrames;
 use crate::server::{Pace, Server};
 use crate::server_settings::{Need, ServerSettings};
-use crate::step::{OwnFrame, WireStep, opening_of, read_script};
+use crate::step::{OwnFrame, Script, WireStep, opening_of, read_script};
 use crate::talk::{MANY_FRAMES, Talk, WaitEnd};
 use h2frame::MAX_PAYLOAD;
 use std::alloc::Global;
@@ -37,7 +37,7 @@ const CANCEL: u32 = 8;
 const PRIORITY_LEN: usize = 5;
 
 /// Why a case can't be tried on a server.
-#[derive(Clone, Copy, Debug, PartialEq, Eq)]
+#[derive(Clone, Copy)]
 pub enum UnfitReason {
     /// The server's SETTINGS aren't what it rests on.
     Setting(Need),
@@ -46,7 +46,7 @@ pub enum UnfitReason {
 }
 
 /// What came of a try.
-#[derive(Clone, Copy, Debug, PartialEq, Eq)]
+#[derive(Clone, Copy)]
 pub enum TryOutcome {
     Passed,
     Failed,
@@ -81,41 +81,76 @@ pub fn try_case<V: Server>(
         announced: ServerSettings::FIRST,
         is_control,
     };
-    let mut script = read_script(alloc, case.script, &reading)?;
-    let is_bare = matches!(script.steps.as_slice().first(), Some(WireStep::Bare));
+    let is_bare = is_bare(alloc, case, &reading)?;
     let mut talk = open(alloc, server, pace, is_bare)?;
     if !is_bare {
         reading.announced = talk.seen.announced;
-        script = read_script(alloc, case.script, &reading)?;
     }
-    let unfit = match script.unmet {
-        Some(need) => Some(UnfitReason::Setting(need)),
-        None => take_all(alloc, &mut talk, script.steps.as_slice(), &reading)?,
-    };
-    let judgment = match unfit {
-        Some(unfit) => TryOutcome::Unfit(unfit),
-        None => {
-            let passed = judge(&mut talk, script.lawful.as_slice())?;
-            if passed && (is_bare || talk.seen.greeted) {
-                TryOutcome::Passed
-            } else {
-                failure_of(alloc, case, &talk.seen, is_control)?
-            }
-        }
-    };
-    if judgment == TryOutcome::Failed && !is_control {
-        talk.tell_fault(script.lawful.as_slice())?;
-    }
-    if is_bare && talk.seen.was_shut() {
-        // It may have ended the connection for what the case said, or whatever is said.
-        let _greeted = open(alloc, server, pace, false)?;
-    }
+    let mut lawful = Vec::new(alloc);
+    let judgment = play(alloc, case, &mut talk, &reading, is_bare, &mut lawful)?;
     Ok(Try {
         judgment,
-        lawful: script.lawful,
+        lawful,
         seen: talk.seen,
         sent: talk.sent,
     })
+}
+
+/// Sees whether there is a further connection.
+fn try_connection<V: Server>(alloc: Global, server: &V, pace: Pace) -> Result<(), WireFault> {
+    let _greeted = open(alloc, server, pace, false)?;
+    Ok(())
+}
+
+/// Whether the preface and SETTINGS are the case's own.
+fn is_bare(alloc: Global, case: Case, reading: &Reading) -> Result<bool, WireFault> {
+    let script = read_script(alloc, case.script, reading)?;
+    Ok(matches!(script.steps.as_slice().first(), Some(WireStep::Bare)))
+}
+
+/// Plays a case over a connection, and puts the lawful reactions into `lawful`.
+fn play<V: Server>(
+    alloc: Global,
+    case: Case,
+    talk: &mut Talk<'_, V>,
+    reading: &Reading,
+    is_bare: bool,
+    lawful: &mut Vec<LawfulReaction>,
+) -> Result<TryOutcome, WireFault> {
+    let script = read_script(alloc, case.script, reading)?;
+    let judgment = judge_script(alloc, case, talk, reading, is_bare, &script)?;
+    if matches!(judgment, TryOutcome::Failed) && !reading.is_control {
+        talk.tell_fault(script.lawful.as_slice())?;
+    }
+    *lawful = script.lawful;
+    if is_bare && talk.seen.was_shut() {
+        // It may have ended the connection for what the case said, or whatever is said.
+        try_connection(alloc, talk.server, talk.pace)?;
+    }
+    Ok(judgment)
+}
+
+/// Takes the steps of a case, and judges what comes.
+fn judge_script<V: Server>(
+    alloc: Global,
+    case: Case,
+    talk: &mut Talk<'_, V>,
+    reading: &Reading,
+    is_bare: bool,
+    script: &Script,
+) -> Result<TryOutcome, WireFault> {
+    let unfit = match script.unmet {
+        Some(need) => Some(UnfitReason::Setting(need)),
+        None => take_all(alloc, talk, script.steps.as_slice(), reading)?,
+    };
+    if let Some(unfit) = unfit {
+        return Ok(TryOutcome::Unfit(unfit));
+    }
+    let passed = judge(talk, script.lawful.as_slice())?;
+    if passed && (is_bare || talk.seen.greeted) {
+        return Ok(TryOutcome::Passed);
+    }
+    failure_of(alloc, case, &talk.seen, reading.is_control)
 }
 
 /// A connection, on which the client greets the server, or leaves that to the case. A server that
@@ -241,8 +276,7 @@ fn write_frame<V: Server>(
             talk.say_data(frame.flags, frame.stream, payload)?;
             return Ok(None);
         }
-        let until = talk.silence()?;
-        if talk.hear(until)? != WaitEnd::Frame {
+        if !talk.hears_one()? {
             break;
         }
     }
@@ -300,7 +334,7 @@ fn wait_for_quiet<V: Server>(talk: &mut Talk<'_, V>) -> Result<(), WireFault> {
     let begun = talk.now()?;
     for _ in 0..MANY_FRAMES {
         let until = talk.moment(begun)?;
-        if talk.hear(until)? != WaitEnd::Frame {
+        if !matches!(talk.hear(until)?, WaitEnd::Frame) {
             return Ok(());
         }
     }
@@ -311,8 +345,7 @@ fn wait_for_quiet<V: Server>(talk: &mut Talk<'_, V>) -> Result<(), WireFault> {
 fn sync<V: Server>(talk: &mut Talk<'_, V>) -> Result<(), WireFault> {
     talk.ask()?;
     for _ in 0..MANY_FRAMES {
-        let until = talk.silence()?;
-        if talk.has_passed() || talk.hear(until)? != WaitEnd::Frame {
+        if talk.has_passed() || !talk.hears_one()? {
             return Ok(());
         }
     }
@@ -375,11 +408,8 @@ fn upload<V: Server>(
             let size = room.min(rest).min(u64::from(MAX_PAYLOAD));
             talk.say_data(0, stream, &zeros[..size as usize])?;
             rest -= size;
-        } else {
-            let until = talk.silence()?;
-            if talk.hear(until)? != WaitEnd::Frame {
-                return Ok(());
-            }
+        } else if !talk.hears_one()? {
+            return Ok(());
         }
     }
     Ok(())
@@ -410,7 +440,7 @@ fn judge<V: Server>(talk: &mut Talk<'_, V>, lawful: &[LawfulReaction]) -> Result
         } else {
             talk.moment(begun)?
         };
-        if talk.hear(until)? != WaitEnd::Frame {
+        if !matches!(talk.hear(until)?, WaitEnd::Frame) {
             break;
         }
     }

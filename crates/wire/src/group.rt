@@ -3,7 +3,7 @@
 use crate::rows;
 
 /// What a group of cases is about.
-#[derive(Clone, Copy, Debug, PartialEq, Eq)]
+#[derive(Clone, Copy)]
 pub enum Group {
     /// The preface and the first frame.
     Start,
@@ -44,14 +44,6 @@ impl Group {
             Group::Control => "control",
             Group::Grpc => "grpc",
         }
-    }
-
-    /// The group with this name.
-    pub fn named(name: &str) -> Option<Group> {
-        Group::ALL
-            .iter()
-            .find(|group| group.name() == name)
-            .copied()
     }
 
     /// The texts of its cases, in their order.

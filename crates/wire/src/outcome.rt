@@ -17,10 +17,16 @@ pub struct CaseOutcome {
 pub fn outcome_of(alloc: Global, case: &Case, verdict: Verdict) -> Result<Outcome, AllocError> {
     let name = case.name(alloc)?;
     let mut outcome = Outcome::new(alloc, Suite::Wire, name.as_str(), verdict)?;
+    note_case(alloc, &mut outcome, case)?;
+    Ok(outcome)
+}
+
+/// Notes what a case is about.
+fn note_case(alloc: Global, outcome: &mut Outcome, case: &Case) -> Result<(), AllocError> {
     outcome.title = Some(String::from_str(alloc, case.title)?);
     outcome.level = Some(case.level);
     outcome.rule = Some(rule_of(alloc, case.section)?);
-    Ok(outcome)
+    Ok(())
 }
 
 /// What came of a case for which there was no connection, for this reason.

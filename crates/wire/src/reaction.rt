@@ -274,12 +274,12 @@ fn read_field(word: &str, stream: u32, rest: &'static str) -> Result<Reaction, W
 
 /// The number of a stream.
 pub fn read_stream(word: &str) -> Result<u32, WireFault> {
-    word.parse::<u32>().map_err(|_| WireFault::BadRow)
+    word.parse::<u32>().ok().ok_or(WireFault::BadRow)
 }
 
 /// A number.
 pub fn read_count(word: &str) -> Result<u64, WireFault> {
-    word.parse::<u64>().map_err(|_| WireFault::BadRow)
+    word.parse::<u64>().ok().ok_or(WireFault::BadRow)
 }
 
 /// Numbers with blanks between them.

@@ -124,9 +124,15 @@ fn push_details(text: &mut String, ended: &CaseOutcome) -> Result<(), AllocError
     if let Some(sent) = &outcome.sent {
         push_sent(text, sent.as_slice())?;
     }
-    for frame in outcome.frames.as_slice() {
-        let frame = frame.as_str();
-        writeln!(text, "  read {frame}")?;
+    push_frames(text, outcome.frames.as_slice())
+}
+
+/// Adds a line of each frame that was read.
+fn push_frames(text: &mut String, frames: &[String]) -> Result<(), AllocError> {
+    for frame in frames {
+        text.push_str("  read ")?;
+        text.push_str(frame.as_str())?;
+        text.push_str("\n")?;
     }
     Ok(())
 }
@@ -134,9 +140,7 @@ fn push_details(text: &mut String, ended: &CaseOutcome) -> Result<(), AllocError
 /// Adds the line of the bytes that were sent.
 fn push_sent(text: &mut String, sent: &[u8]) -> Result<(), AllocError> {
     text.push_str("  sent ")?;
-    for byte in sent.iter().take(SHOWN) {
-        write!(text, "{byte:02x}")?;
-    }
+    push_hex(text, sent.get(..SHOWN).unwrap_or(sent))?;
     if sent.len() > SHOWN {
         let more = sent.len() - SHOWN;
         write!(text, " and {more} bytes more")?;
@@ -205,11 +209,7 @@ pub fn push_difference(
 impl LawfulReaction {
     /// Adds its reactions, in words. Where all are of stream 1, it isn't named.
     pub fn describe(&self, text: &mut String) -> Result<(), AllocError> {
-        let is_first = self
-            .all
-            .as_slice()
-            .iter()
-            .all(|reaction| reaction.stream() < 2);
+        let is_first = self.is_of_first();
         for (place, reaction) in self.all.as_slice().iter().enumerate() {
             if place > 0 {
                 text.push_str(" and ")?;
@@ -217,6 +217,16 @@ impl LawfulReaction {
             reaction.describe(text, is_first)?;
         }
         Ok(())
+    }
+
+    /// Whether all its reactions are of stream 1, or of none.
+    fn is_of_first(&self) -> bool {
+        for reaction in self.all.as_slice() {
+            if reaction.stream() > 1 {
+                return false;
+            }
+        }
+        true
     }
 }
 
@@ -321,6 +331,11 @@ fn push_coded(text: &mut String, what: &str, codes: &[u32]) -> Result<(), AllocE
 fn push_bytes(text: &mut String, what: &str, bytes: &[u8]) -> Result<(), AllocError> {
     text.push_str(what)?;
     text.push_str(if bytes.is_empty() { " no bytes" } else { " " })?;
+    push_hex(text, bytes)
+}
+
+/// Adds bytes in hexadecimal.
+fn push_hex(text: &mut String, bytes: &[u8]) -> Result<(), AllocError> {
     for byte in bytes {
         write!(text, "{byte:02x}")?;
     }

@@ -39,13 +39,28 @@ pub fn run_case<V: Server>(
         Some(outcome) => outcome,
         None => find(alloc, case, pace, server, begun)?,
     };
-    outcome.milliseconds = spent(server, begun)?;
-    let is_alive = outcome.verdict != Verdict::Failed || is_alive(alloc, pace, server)?;
+    let is_alive = note_end(alloc, pace, server, begun, &mut outcome)?;
     Ok(CaseOutcome {
         case,
         outcome,
         is_alive,
     })
+}
+
+/// Notes how long a case took that began then, and answers whether the server still answers: that
+/// is tried if the case failed.
+fn note_end<V: Server>(
+    alloc: Global,
+    pace: Pace,
+    server: &V,
+    begun: u64,
+    outcome: &mut Outcome,
+) -> Result<bool, WireFault> {
+    outcome.milliseconds = spent(server, begun)?;
+    match outcome.verdict {
+        Verdict::Failed => is_alive(alloc, pace, server),
+        _ => Ok(true),
+    }
 }
 
 /// How many milliseconds have passed since then.
@@ -87,34 +102,73 @@ fn find<V: Server>(
     server: &V,
     begun: u64,
 ) -> Result<Outcome, WireFault> {
-    let mut tries = 0usize;
-    let mut passed = 0usize;
-    let mut first: Option<Try> = None;
-    for _ in 0..tries_of(case.level) {
-        let tried = try_rounds(alloc, case, pace, server, begun)?;
-        if let TryOutcome::Unfit(unfit) = tried.judgment {
-            return unfit_outcome(alloc, case, unfit, tried);
+    let mut tries = Tries {
+        count: 0,
+        passed: 0,
+        told: None,
+    };
+    try_case_often(alloc, case, pace, server, begun, &mut tries)?;
+    let Tries {
+        count,
+        passed,
+        told,
+    } = tries;
+    let Some(tried) = told else {
+        return Err(WireFault::BadRow);
+    };
+    match tried.judgment {
+        TryOutcome::Unfit(unfit) => unfit_outcome(alloc, case, unfit, tried),
+        _ => tried_outcome(alloc, case, count, passed, tried),
+    }
+}
+
+/// The tries of a case that count.
+#[derive(Drop)]
+struct Tries {
+    count: usize,
+    passed: usize,
+    /// The one that is reported.
+    told: Option<Try>,
+}
+
+impl Tries {
+    /// Takes a further try, and answers whether it is the last.
+    fn take(&mut self, tried: Try) -> bool {
+        if matches!(tried.judgment, TryOutcome::Unfit(_)) {
+            self.told = Some(tried);
+            return true;
         }
-        let has_passed = tried.judgment == TryOutcome::Passed;
-        if tries > 0 && tried.seen.endless && !has_passed {
-            break;
+        let has_passed = matches!(tried.judgment, TryOutcome::Passed);
+        if self.count > 0 && tried.seen.endless && !has_passed {
+            return true;
         }
-        tries = tries.saturating_add(1);
+        self.count = self.count.saturating_add(1);
         if has_passed {
-            passed = passed.saturating_add(1);
+            self.passed = self.passed.saturating_add(1);
         }
-        let is_over = tried.seen.endless || has_passed && tries == 1;
-        if first.is_none() || !has_passed && !has_failed(&first) {
-            first = Some(tried);
+        let is_over = tried.seen.endless || has_passed && self.count == 1;
+        if self.told.is_none() || !has_passed && !has_failed(&self.told) {
+            self.told = Some(tried);
         }
+        is_over
+    }
+}
+
+fn try_case_often<V: Server>(
+    alloc: Global,
+    case: Case,
+    pace: Pace,
+    server: &V,
+    begun: u64,
+    tries: &mut Tries,
+) -> Result<(), WireFault> {
+    for _ in 0..tries_of(case.level) {
+        let is_over = tries.take(try_rounds(alloc, case, pace, server, begun)?);
         if is_over || spent(server, begun)? >= pace.limit {
             break;
         }
     }
-    match first {
-        Some(tried) => tried_outcome(alloc, case, tries, passed, tried),
-        None => Err(WireFault::BadRow),
-    }
+    Ok(())
 }
 
 /// A try of a case whose time began at that moment: over one connection, or over as many as its
@@ -129,7 +183,7 @@ fn try_rounds<V: Server>(
     for _ in 1..rounds_of(case.script)? {
         let left = pace.after(spent(server, begun)?);
         let tried = try_case(alloc, case, left, server, false)?;
-        if tried.judgment != TryOutcome::Passed {
+        if !matches!(tried.judgment, TryOutcome::Passed) {
             return Ok(tried);
         }
     }
@@ -140,7 +194,7 @@ fn try_rounds<V: Server>(
 /// Whether the try that is reported failed.
 fn has_failed(first: &Option<Try>) -> bool {
     match first {
-        Some(tried) => tried.judgment == TryOutcome::Failed,
+        Some(tried) => matches!(tried.judgment, TryOutcome::Failed),
         None => false,
     }
 }
@@ -153,17 +207,23 @@ fn tried_outcome(
     passed: usize,
     tried: Try,
 ) -> Result<Outcome, WireFault> {
-    let mut wanted = String::new(alloc);
-    push_ways(&mut wanted, tried.lawful.as_slice())?;
-    let mut came = String::new(alloc);
-    tried.seen.describe(&mut came)?;
     let mut outcome = outcome_of(alloc, &case, verdict_of(tries, passed))?;
-    outcome.wanted = Some(wanted);
-    outcome.came = Some(came);
+    note_difference(alloc, &mut outcome, &tried)?;
     outcome.tries = count_of(tries);
     outcome.passed = count_of(passed);
-    note(alloc, &mut outcome, tried)?;
+    note_sent(&mut outcome, tried);
     Ok(outcome)
+}
+
+/// Notes what was wanted, what came, and which frames.
+fn note_difference(alloc: Global, outcome: &mut Outcome, tried: &Try) -> Result<(), AllocError> {
+    let mut wanted = String::new(alloc);
+    push_ways(&mut wanted, tried.lawful.as_slice())?;
+    outcome.wanted = Some(wanted);
+    let mut came = String::new(alloc);
+    tried.seen.describe(&mut came)?;
+    outcome.came = Some(came);
+    note_frames(alloc, outcome, tried)
 }
 
 /// How many tries there were.
@@ -171,12 +231,16 @@ fn count_of(tries: usize) -> u32 {
     u32::try_from(tries).unwrap_or(u32::MAX)
 }
 
-/// Notes what was sent and read in a try.
-fn note(alloc: Global, outcome: &mut Outcome, tried: Try) -> Result<(), AllocError> {
+/// Notes which frames were read in a try.
+fn note_frames(alloc: Global, outcome: &mut Outcome, tried: &Try) -> Result<(), AllocError> {
     outcome.frames = frames_of(alloc, tried.seen.frames.as_slice())?;
+    Ok(())
+}
+
+/// Notes what was sent in a try.
+fn note_sent(outcome: &mut Outcome, tried: Try) {
     outcome.sent_count = Some(tried.sent.len() as u64);
     outcome.sent = Some(tried.sent);
-    Ok(())
 }
 
 /// What came of a case that a server can't be tried by.
@@ -204,7 +268,8 @@ fn not_applicable(
 ) -> Result<Outcome, WireFault> {
     let mut outcome = outcome_of(alloc, &case, Verdict::NotApplicable)?;
     outcome.reason = Some(reason);
-    note(alloc, &mut outcome, tried)?;
+    note_frames(alloc, &mut outcome, &tried)?;
+    note_sent(&mut outcome, tried);
     Ok(outcome)
 }
 
@@ -222,16 +287,18 @@ fn frames_of(alloc: Global, frames: &[SeenFrame]) -> Result<Vec<String>, AllocEr
 /// Whether the server greets a connection on which nothing else is said. A slow one has the whole
 /// time of a connection for it.
 fn is_alive<V: Server>(alloc: Global, pace: Pace, server: &V) -> Result<bool, WireFault> {
-    let socket = match server.connect() {
-        Ok(socket) => socket,
-        Err(WireFault::NoConnection(_)) => return Ok(false),
-        Err(fault) => return Err(fault),
-    };
+    match greets(alloc, pace, server) {
+        Err(WireFault::NoConnection(_)) => Ok(false),
+        answer => answer,
+    }
+}
+
+fn greets<V: Server>(alloc: Global, pace: Pace, server: &V) -> Result<bool, WireFault> {
     let patient = Pace {
         silence: pace.limit,
         limit: pace.limit,
     };
-    let mut talk = Talk::new(alloc, server, socket, patient)?;
+    let mut talk = Talk::new(alloc, server, server.connect()?, patient)?;
     talk.greet()?;
     Ok(talk.seen.greeted)
 }

@@ -9,7 +9,8 @@ use crate::fault::WireFault;
 use crate::reaction::{LawfulReaction, Reaction};
 use crate::report::kind_name;
 use crate::server_settings::ServerSettings;
-use crate::stream_seen::{StreamSeen, begins_with, has_bytes, has_field, value_of};
+use crate::stream_seen::{StreamSeen, begins_with, has_bytes, has_field};
+use callhead::first_value;
 use h2frame::{FrameHead, SettingId};
 use session::Parameter;
 use std::alloc::{AllocError, Global};
@@ -25,7 +26,7 @@ const KEPT_PINGS: usize = 1_000;
 const TOLD: usize = 4;
 
 /// A frame that came.
-#[derive(Clone, Copy, Debug, PartialEq, Eq)]
+#[derive(Clone, Copy)]
 pub struct SeenFrame {
     pub head: FrameHead,
     /// The error of RST_STREAM or GOAWAY.
@@ -263,8 +264,9 @@ impl SeenFrames {
                 value,
             ),
             Reaction::Without { name, .. } => {
-                value_of(seen.head.as_slice(), name).is_none()
-                    && value_of(seen.trailers.as_slice(), name).is_none()
+                let name = name.as_bytes();
+                first_value(seen.head.as_slice(), name).is_none()
+                    && first_value(seen.trailers.as_slice(), name).is_none()
             }
             Reaction::Single(_) => seen.blocks == 1 && seen.count == 0,
             Reaction::Block { front, .. } => seen.front.as_slice().starts_with(front.as_slice()),
@@ -398,7 +400,12 @@ impl SeenFrames {
     }
 
     fn was_echoed(&self, content: &[u8]) -> bool {
-        self.pings.iter().any(|ping| ping.as_slice() == content)
+        for ping in self.pings.as_slice() {
+            if ping.as_slice() == content {
+                return true;
+            }
+        }
+        false
     }
 
     fn count_on(&self, stream: u32) -> u64 {
@@ -424,18 +431,25 @@ impl SeenFrames {
 
     /// Whether the server said an error of the connection or of a stream.
     fn has_erred(&self) -> bool {
-        let ends = match self.goaway {
+        for seen in self.streams.values() {
+            if seen.was_refused() {
+                return true;
+            }
+        }
+        match self.goaway {
             Some(code) => code != 0,
             None => false,
-        };
-        ends || self.streams.values().any(|seen| seen.was_refused())
+        }
     }
 
     /// Whether some stream was reset with one of these errors.
     fn is_crowded(&self, codes: &[u32]) -> bool {
-        self.streams
-            .values()
-            .any(|seen| is_one_of(seen.reset, codes))
+        for seen in self.streams.values() {
+            if is_one_of(seen.reset, codes) {
+                return true;
+            }
+        }
+        false
     }
 
     /// Adds what came, in words.

@@ -24,7 +24,7 @@ pub trait Server {
 }
 
 /// How long a server is waited for.
-#[derive(Clone, Copy, Debug, PartialEq, Eq)]
+#[derive(Clone, Copy)]
 pub struct Pace {
     /// After how many milliseconds in which nothing comes it is silent.
     pub silence: u64,

@@ -9,12 +9,13 @@
 //!   may announce neither.
 
 use crate::fault::WireFault;
+use crate::reaction::read_count;
 use h2frame::SettingId;
 use session::Parameter;
 use std::alloc::{AllocError, Global};
 
 /// The server's SETTINGS (RFC 9113, section 6.5.2); what it said nothing of has its first value.
-#[derive(Clone, Copy, Debug, PartialEq, Eq)]
+#[derive(Clone, Copy)]
 pub struct ServerSettings {
     pub table: u32,
     pub streams: Option<u32>,
@@ -24,7 +25,7 @@ pub struct ServerSettings {
 }
 
 /// A setting, as rows name it.
-#[derive(Clone, Copy, Debug, PartialEq, Eq)]
+#[derive(Clone, Copy)]
 enum Setting {
     Table,
     Streams,
@@ -34,14 +35,14 @@ enum Setting {
 }
 
 /// What a case needs of the server's SETTINGS.
-#[derive(Clone, Copy, Debug, PartialEq, Eq)]
+#[derive(Clone, Copy)]
 pub struct Need {
     setting: Setting,
     bound: Bound,
 }
 
 /// In what range a setting's value has to be.
-#[derive(Clone, Copy, Debug, PartialEq, Eq)]
+#[derive(Clone, Copy)]
 enum Bound {
     AtLeast(u64),
     AtMost(u64),
@@ -91,10 +92,16 @@ impl ServerSettings {
             return Ok(number);
         }
         if let Some((front, more)) = word.split_once('+') {
-            return Ok(self.amount_of_setting(front)?.saturating_add(count(more)?));
+            return Ok(
+                self.amount_of_setting(front)?
+                    .saturating_add(read_count(more)?),
+            );
         }
         if let Some((front, less)) = word.split_once('-') {
-            return Ok(self.amount_of_setting(front)?.saturating_sub(count(less)?));
+            return Ok(
+                self.amount_of_setting(front)?
+                    .saturating_sub(read_count(less)?),
+            );
         }
         self.amount_of_setting(word)
     }
@@ -103,12 +110,10 @@ impl ServerSettings {
         let (name, divisor) = word.split_once('/').unwrap_or((word, "1"));
         let setting = Setting::named(name).ok_or(WireFault::BadRow)?;
         let value = self.value(setting).ok_or(WireFault::BadRow)?;
-        value.checked_div(count(divisor)?).ok_or(WireFault::BadRow)
+        value
+            .checked_div(read_count(divisor)?)
+            .ok_or(WireFault::BadRow)
     }
-}
-
-fn count(word: &str) -> Result<u64, WireFault> {
-    word.parse::<u64>().map_err(|_| WireFault::BadRow)
 }
 
 impl Setting {
@@ -140,11 +145,11 @@ impl Need {
         let (name, rest) = text.split_once(' ').ok_or(WireFault::BadRow)?;
         let setting = Setting::named(name).ok_or(WireFault::BadRow)?;
         if let Some(number) = rest.strip_prefix("at least ") {
-            let bound = Bound::AtLeast(count(number)?);
+            let bound = Bound::AtLeast(read_count(number)?);
             return Ok(Need { setting, bound });
         }
         let number = rest.strip_prefix("at most ").ok_or(WireFault::BadRow)?;
-        let bound = Bound::AtMost(count(number)?);
+        let bound = Bound::AtMost(read_count(number)?);
         Ok(Need { setting, bound })
     }
 

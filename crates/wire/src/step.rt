@@ -92,18 +92,22 @@ pub struct Script {
 
 /// Whether the lines of a case say that it is tried without its fault first.
 pub fn has_control(text: &str) -> bool {
-    text.lines().any(|line| line.trim().starts_with("control "))
+    for line in text.lines() {
+        if line.trim().starts_with("control ") {
+            return true;
+        }
+    }
+    false
 }
 
 /// Over how many connections a try of a case goes: one, where its lines say nothing of it.
 pub fn rounds_of(text: &str) -> Result<u64, WireFault> {
-    let said = text
-        .lines()
-        .find_map(|line| line.trim().strip_prefix("rounds "));
-    match said {
-        Some(number) => read_count(number),
-        None => Ok(1),
+    for line in text.lines() {
+        if let Some(number) = line.trim().strip_prefix("rounds ") {
+            return read_count(number);
+        }
     }
+    Ok(1)
 }
 
 /// Reads the lines of a case.
@@ -117,30 +121,51 @@ pub fn read_script(
         lawful: Vec::new(alloc),
         unmet: None,
     };
-    for line in text.lines() {
-        let Some(line) = reading.unmarked(line.trim()) else {
-            continue;
-        };
-        let (word, rest) = first_word(line);
-        match word {
-            "rounds" => {}
-            "want" if reading.is_control => {}
-            "control" if !reading.is_control => {}
-            "want" | "control" => script.lawful.push(read_lawful(alloc, rest, reading)?)?,
-            "needs" => {
-                let need = Need::read(rest)?;
-                if !need.is_met(&reading.announced) {
-                    script.unmet = Some(need);
-                    return Ok(script);
-                }
-            }
-            _ => push_steps(alloc, &mut script.steps, word, rest, reading)?,
-        }
-    }
-    if script.lawful.is_empty() {
+    read_lines(alloc, &mut script, text, reading)?;
+    if script.unmet.is_none() && script.lawful.is_empty() {
         return Err(WireFault::BadRow);
     }
     Ok(script)
+}
+
+fn read_lines(
+    alloc: Global,
+    script: &mut Script,
+    text: &'static str,
+    reading: &Reading,
+) -> Result<(), WireFault> {
+    for line in text.lines() {
+        if let Some(line) = reading.unmarked(line.trim()) {
+            read_line(alloc, script, line, reading)?;
+        }
+        if script.unmet.is_some() {
+            break;
+        }
+    }
+    Ok(())
+}
+
+fn read_line(
+    alloc: Global,
+    script: &mut Script,
+    line: &'static str,
+    reading: &Reading,
+) -> Result<(), WireFault> {
+    let (word, rest) = first_word(line);
+    match word {
+        "rounds" => {}
+        "want" if reading.is_control => {}
+        "control" if !reading.is_control => {}
+        "want" | "control" => script.lawful.push(read_lawful(alloc, rest, reading)?)?,
+        "needs" => {
+            let need = Need::read(rest)?;
+            if !need.is_met(&reading.announced) {
+                script.unmet = Some(need);
+            }
+        }
+        _ => push_steps(alloc, &mut script.steps, word, rest, reading)?,
+    }
+    Ok(())
 }
 
 /// Adds the steps of a line.
@@ -209,7 +234,7 @@ fn frame_of(
     let (flags, rest) = first_word(rest);
     Ok(OwnFrame {
         kind,
-        flags: u8::from_str_radix(flags, 16).map_err(|_| WireFault::BadRow)?,
+        flags: u8::from_str_radix(flags, 16).ok().ok_or(WireFault::BadRow)?,
         stream: read_stream(stream)?,
         payload: read_content(alloc, rest, reading)?,
     })

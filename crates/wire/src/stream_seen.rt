@@ -1,7 +1,7 @@
 //! What came on a stream.
 
 use crate::fault::WireFault;
-use callhead::read_status;
+use callhead::{first_value, read_status};
 use lists::Field;
 use lpm::{Split, Splitter};
 use std::alloc::{AllocError, Global};
@@ -97,7 +97,7 @@ impl StreamSeen {
 
     /// The `:status` of the response, if it is a number.
     pub fn http_status(&self) -> Option<u32> {
-        let value = value_of(self.head.as_slice(), ":status")?;
+        let value = first_value(self.head.as_slice(), b":status")?;
         str::from_utf8(value).ok()?.parse::<u32>().ok()
     }
 
@@ -181,27 +181,25 @@ fn is_interim(fields: &[Field]) -> bool {
     begins_with(fields, ":status", "1")
 }
 
-/// The value of the first field with this name.
-pub fn value_of<'a>(fields: &'a [Field], name: &str) -> Option<&'a [u8]> {
-    let field = fields
-        .iter()
-        .find(|field| field.name.as_slice() == name.as_bytes())?;
-    Some(field.value.as_slice())
-}
-
 /// Whether there is a field with this name and value.
 pub fn has_field(fields: &[Field], name: &str, value: &str) -> bool {
-    fields.iter().any(|field| {
-        field.name.as_slice() == name.as_bytes() && field.value.as_slice() == value.as_bytes()
-    })
+    for field in fields {
+        if field.name.as_slice() == name.as_bytes() && field.value.as_slice() == value.as_bytes() {
+            return true;
+        }
+    }
+    false
 }
 
 /// Whether there is a field with this name whose value begins so.
 pub fn begins_with(fields: &[Field], name: &str, front: &str) -> bool {
-    fields.iter().any(|field| {
-        field.name.as_slice() == name.as_bytes()
-            && field.value.as_slice().starts_with(front.as_bytes())
-    })
+    for field in fields {
+        let value = field.value.as_slice();
+        if field.name.as_slice() == name.as_bytes() && value.starts_with(front.as_bytes()) {
+            return true;
+        }
+    }
+    false
 }
 
 /// Whether these bytes stand somewhere in others.

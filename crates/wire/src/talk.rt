@@ -4,7 +4,7 @@
 //! SETTINGS and PINGs of the server are acknowledged as they come. No credit is given but what the
 //! case writes. What is said waits until something is waited for, and leaves in one write then.
 
-ghost use Rattle.std.specs.Prelude.{◌≡◌, ◌<◌};
+ghost use Rattle.std.specs.Prelude.{◌≡◌, ◌<◌, false};
 ghost use Rattle.h2frame.specs.declared.kind.FrameKind.TheVariants.{Headers};
 
 use crate::fault::WireFault;
@@ -41,7 +41,7 @@ const FIRST_WINDOW: u64 = 65_535;
 const NO_PUSH: [u8; 6] = [0, 2, 0, 0, 0, 0];
 
 /// What a wait ended with.
-#[derive(Clone, Copy, Debug, PartialEq, Eq)]
+#[derive(Clone, Copy)]
 pub enum WaitEnd {
     Frame,
     /// Nothing came in time.
@@ -59,7 +59,7 @@ enum Next {
 }
 
 /// What is known of how far the server has read.
-#[derive(Clone, Copy, Debug, PartialEq, Eq)]
+#[derive(Clone, Copy)]
 enum Fence {
     /// Something was said after which no PING was sent.
     Open,
@@ -72,9 +72,9 @@ enum Fence {
 #[derive(Drop)]
 pub struct Talk<'a, V: Server> {
     alloc: Global,
-    server: &'a V,
+    pub server: &'a V,
     socket: V::Line,
-    pace: Pace,
+    pub pace: Pace,
     /// When the connection was made.
     begun: u64,
     reader: FrameReader,
@@ -169,8 +169,7 @@ impl<'a, V: Server> Talk<'a, V> {
         self.say(PREFACE)?;
         self.say_frame(SETTINGS, 0, 0, &NO_PUSH)?;
         for _ in 0..MANY_FRAMES {
-            let until = self.silence()?;
-            if self.seen.greeted || self.hear(until)? != WaitEnd::Frame {
+            if self.seen.greeted || !self.hears_one()? {
                 return Ok(());
             }
         }
@@ -204,7 +203,7 @@ impl<'a, V: Server> Talk<'a, V> {
     /// Asks by a PING whether all was read, if it isn't known. Inside a header block nothing is
     /// asked: a PING there is an error.
     pub fn ask(&mut self) -> Result<(), WireFault> {
-        if self.fence != Fence::Open || self.in_block {
+        if self.in_block || !matches!(self.fence, Fence::Open) {
             return Ok(());
         }
         self.seen.synced = false;
@@ -271,12 +270,18 @@ impl<'a, V: Server> Talk<'a, V> {
             Next::Frame(frame) => {
                 self.heard = self.heard.saturating_add(1);
                 self.was_silent = false;
-                self.take(frame)?;
+                self.take(&frame)?;
                 Ok(WaitEnd::Frame)
             }
             Next::Silence => Ok(WaitEnd::Silence),
             Next::Closed => Ok(WaitEnd::Closed),
         }
+    }
+
+    /// Waits for a frame until the time of silence is over, and answers whether one came.
+    pub fn hears_one(&mut self) -> Result<bool, WireFault> {
+        let until = self.silence()?;
+        Ok(matches!(self.hear(until)?, WaitEnd::Frame))
     }
 
     /// The next frame. Bytes that aren't a frame end the connection.
@@ -356,25 +361,25 @@ impl<'a, V: Server> Talk<'a, V> {
     }
 
     /// Notes what a frame brings.
-    fn take(&mut self, frame: Frame) -> Result<(), WireFault> {
+    fn take(&mut self, frame: &Frame) -> Result<(), WireFault> {
         let kind = frame.head.kind;
-        self.seen.keep(frame.head, code_of(&frame))?;
+        self.seen.keep(frame.head, code_of(frame))?;
         if !self.seen.any_frame {
             self.seen.any_frame = true;
             self.seen.first_settings = kind == FrameKind::Settings
                 && !frame.head.flags.contains(Flags::ACK);
         }
         match kind {
-            FrameKind::Data => self.data(&frame),
-            FrameKind::Headers => self.headers(&frame),
-            FrameKind::RstStream => self.reset(&frame),
-            FrameKind::Settings => self.settings(&frame),
-            FrameKind::Ping => self.pinged(&frame),
+            FrameKind::Data => self.data(frame),
+            FrameKind::Headers => self.headers(frame),
+            FrameKind::RstStream => self.reset(frame),
+            FrameKind::Settings => self.settings(frame),
+            FrameKind::Ping => self.pinged(frame),
             FrameKind::GoAway => {
                 self.seen.goaway = Some(number_at(frame.content.as_slice(), 4));
                 Ok(())
             }
-            FrameKind::WindowUpdate => self.credited(&frame),
+            FrameKind::WindowUpdate => self.credited(frame),
             FrameKind::PushPromise | FrameKind::Continuation => {
                 self.give_up("a frame that is out of place");
                 Ok(())
@@ -442,7 +447,7 @@ impl<'a, V: Server> Talk<'a, V> {
             return self.acknowledge(PING, content);
         }
         self.seen.echo(content)?;
-        if self.fence == Fence::Asked && content == fence_content(self.asked).as_slice() {
+        if matches!(self.fence, Fence::Asked) && content == fence_content(self.asked).as_slice() {
             self.fence = Fence::Passed(self.now()?);
             self.seen.synced = true;
         }
@@ -485,24 +490,33 @@ impl<'a, V: Server> Talk<'a, V> {
             if block.is_whole() {
                 return self.block(frame, block.as_slice());
             }
-            let until = self.silence()?;
-            let Next::Frame(next) = self.next(until)? else {
-                self.give_up("a header block that isn't ended");
+            if !self.go_on(&mut block)? {
                 return Ok(());
-            };
-            self.seen.keep(next.head, None)?;
-            match block.add(&next) {
-                Ok(()) => {}
-                Err(FragmentFault::OutOfMemory) => return Err(WireFault::OutOfMemory),
-                Err(_) => {
-                    self.give_up("a frame inside a header block, or one that is too long");
-                    return Ok(());
-                }
             }
         }
         self.seen.endless = true;
         self.give_up("a header block that isn't ended");
         Ok(())
+    }
+
+    /// Adds the next frame to a header block, and answers whether it is one of it.
+    fn go_on(&mut self, block: &mut HeaderBlock) -> Result<bool, WireFault>
+        requires { block.old.whole ≡ false }
+    {
+        let until = self.silence()?;
+        let Next::Frame(next) = self.next(until)? else {
+            self.give_up("a header block that isn't ended");
+            return Ok(false);
+        };
+        self.seen.keep(next.head, None)?;
+        match block.add(&next) {
+            Ok(()) => Ok(true),
+            Err(FragmentFault::OutOfMemory) => Err(WireFault::OutOfMemory),
+            Err(_) => {
+                self.give_up("a frame inside a header block, or one that is too long");
+                Ok(false)
+            }
+        }
     }
 
     /// A whole header block on the stream of its HEADERS.
