@@ -144,20 +144,20 @@ CONTINUATION without HEADERS
   continuation 1 04 call:EmptyCall
   want connection 1 2
 
-CONTINUATION behind END_HEADERS
+CONTINUATION after END_HEADERS
   must RFC 9113, 6.10: \"MUST respond with a connection error .. of type PROTOCOL_ERROR\"
   headers 1 04 call:EmptyCall
   continuation 1 04 x=a
   want connection 1 2
 
-CONTINUATION behind DATA
+CONTINUATION after DATA
   must RFC 9113, 6.10: \"MUST respond with a connection error .. of type PROTOCOL_ERROR\"
   headers 1 04 call:EmptyCall
   data 1 00 00
   continuation 1 04 x=a
   want connection 1 2
 
-CONTINUATION behind CONTINUATION with END_HEADERS
+CONTINUATION after CONTINUATION with END_HEADERS
   must RFC 9113, 6.10: \"MUST respond with a connection error .. of type PROTOCOL_ERROR\"
   headers 1 00 call:EmptyCall
   continuation 1 04

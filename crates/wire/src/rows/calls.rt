@@ -59,7 +59,7 @@ a reply of FullDuplexCall comes before the request ends
   await replies 1 1
   want replies 1 1 and open 1
 
-HalfDuplexCall replies behind the end
+HalfDuplexCall replies after the end
   should interop has no sentence; test.proto: after the client half-closes
   headers 1 04 call:HalfDuplexCall
   data 1 00 00 00000004 12020801
@@ -142,7 +142,7 @@ a method in another case of letters
   want failed 1
   want connection 1 2
 
-a path with a slash behind it
+a path with a slash at its end
   should gRPC, Requests: the format of Path, which implementations \"may allow .. to be overridden\"
   control status 1 0
   headers 1 04 !call:EmptyCall/ ~call:EmptyCall
@@ -235,7 +235,7 @@ a deadline of a nanosecond
   want reset 1
   want status 1 1
 
-a deadline passes behind a reply
+a deadline passes after a reply
   should gRPC, Status codes: \"Deadline expires before server returns status\"
   headers 1 04 call:FullDuplexCall grpc-timeout=200m
   data 1 00 00 00000004 12020801
@@ -243,7 +243,7 @@ a deadline passes behind a reply
   want status 1 4 and replies 1 1
   want reset 1 and replies 1 1
 
-nothing comes of a call behind its deadline
+nothing comes of a call after its deadline
   must RFC 9113, 5.1 (closed): \"MUST NOT send frames other than PRIORITY on a closed stream\"
   needs streams at least 16
   rounds 16
@@ -290,7 +290,7 @@ a call is cancelled inside a message
   await answered 3
   want status 3 0 and ignored
 
-a call is cancelled behind its end
+a call is cancelled after its end
   must RFC 9113, 5.4.2: \"MUST NOT send a RST_STREAM in response to a RST_STREAM frame\"
   control answered 3 and ignored
   settings 0 00 000400000000

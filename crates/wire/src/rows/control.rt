@@ -88,7 +88,7 @@ the least and the greatest MAX_FRAME_SIZE
   request 1
   want acks 3 and answered 1
 
-a bad parameter behind a good one
+a bad parameter after a good one
   must RFC 9113, 6.5.2: \"Any value other than 0 or 1 MUST be treated as a connection error\"
   settings 0 00 000300000064 000200000002
   want connection 1 2
@@ -203,13 +203,13 @@ PRIORITY doesn't open a stream
   request 1
   want answered 1
 
-a request behind PING of no bytes
+a request after PING of no bytes
   must RFC 9113, 6.7: \"MUST be treated as a connection error .. of type FRAME_SIZE_ERROR\"
   raw 000000060000000000
   request 1
   want connection 1 2 6
 
-a request behind a wrong frame isn't answered
+a request after a wrong frame isn't answered
   should RFC 9113, 5.4.1: an error \"that prevents further processing of the frame layer\"
   raw 000000060000000000
   request 1

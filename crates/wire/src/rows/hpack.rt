@@ -271,7 +271,7 @@ a change of size over what SETTINGS allow
   headers 1 05 size:table+1 call:EmptyCall
   want connection 1 2 9
 
-a change of size behind a field
+a change of size after a field
   should RFC 7541, 4.2: \"MUST occur at the beginning\" (it binds the encoder)
   headers 1 04 call:EmptyCall 20
   data 1 01 0000000000

@@ -163,7 +163,7 @@ a pseudo-header that isn't defined
   want stream 1 1 2
   want rejected 1
 
-a pseudo-header behind another field
+a pseudo-header after another field
   must RFC 9113, 8.3: \"after a regular field line MUST be treated as malformed\"
   control answered 1
   headers 1 04 83 86 01 str:localhost ~path:EmptyCall te=trailers !path:EmptyCall content-type=application/grpc

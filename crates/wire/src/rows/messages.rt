@@ -1,7 +1,7 @@
 //! Length-prefixed messages.
 
 pub const ROWS: &str = "\
-a message that is cut behind its flag
+a message that is cut after its flag
   should gRPC, Data Frames: they \"have no relation to Length-Prefixed-Message boundaries\"
   control status 1 0
   headers 1 04 call:UnaryCall
@@ -10,7 +10,7 @@ a message that is cut behind its flag
   !data 1 01 00000002 1003
   want status 1 0 and replies 1 1
 
-a message that is cut inside its length, behind one byte
+a message that is cut inside its length, after one byte
   should gRPC, Data Frames: they \"have no relation to Length-Prefixed-Message boundaries\"
   control status 1 0
   headers 1 04 call:UnaryCall
@@ -19,7 +19,7 @@ a message that is cut inside its length, behind one byte
   !data 1 01 000002 1003
   want status 1 0 and replies 1 1
 
-a message that is cut inside its length, behind two bytes
+a message that is cut inside its length, after two bytes
   should gRPC, Data Frames: they \"have no relation to Length-Prefixed-Message boundaries\"
   control status 1 0
   headers 1 04 call:UnaryCall
@@ -28,7 +28,7 @@ a message that is cut inside its length, behind two bytes
   !data 1 01 0002 1003
   want status 1 0 and replies 1 1
 
-a message that is cut inside its length, behind three bytes
+a message that is cut inside its length, after three bytes
   should gRPC, Data Frames: they \"have no relation to Length-Prefixed-Message boundaries\"
   control status 1 0
   headers 1 04 call:UnaryCall
@@ -37,7 +37,7 @@ a message that is cut inside its length, behind three bytes
   !data 1 01 02 1003
   want status 1 0 and replies 1 1
 
-a message that is cut behind its prefix
+a message that is cut after its prefix
   should gRPC, Data Frames: they \"have no relation to Length-Prefixed-Message boundaries\"
   control status 1 0
   headers 1 04 call:UnaryCall
@@ -147,7 +147,7 @@ flag 7 is answered before the message is whole
   data 1 00 07
   want status 1 13
 
-the request ends behind a flag
+the request ends after a flag
   should gRPC, Requests: the format of Length-Prefixed-Message (it binds the client)
   headers 1 04 call:StreamingInputCall
   data 1 01 00
@@ -161,7 +161,7 @@ the request ends inside a length
   want failed 1
   want connection 1 2
 
-the request ends behind a prefix
+the request ends after a prefix
   should gRPC, Requests: the format of Length-Prefixed-Message (it binds the client)
   headers 1 04 call:StreamingInputCall
   data 1 01 0000000002

@@ -125,7 +125,7 @@ an error of the connection is told by GOAWAY
   ping 0 00 01020304050607
   want goaway 1 2 6
 
-behind GOAWAY with an error the connection ends
+after GOAWAY with an error the connection ends
   should RFC 9113, 5.4.1: \"MUST close the TCP connection\" (when isn't said)
   bare
   preface

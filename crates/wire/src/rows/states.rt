@@ -193,7 +193,7 @@ RST_STREAM on a half-closed stream
   sync
   want ignored
 
-nothing comes on a stream behind RST_STREAM
+nothing comes on a stream after RST_STREAM
   must RFC 9113, 6.4: \"MUST NOT send additional frames for that stream, except for PRIORITY\"
   settings 0 00 000400000000
   await acks 2
@@ -256,7 +256,7 @@ PRIORITY on a closed stream
   sync
   want ignored
 
-DATA behind the client's RST_STREAM
+DATA after the client's RST_STREAM
   should RFC 9113, 6.1: \"MUST respond with a stream error\"; 5.1 (closed): it can be discarded
   headers 1 04 call:FullDuplexCall
   reset 1 00 00000008
@@ -265,7 +265,7 @@ DATA behind the client's RST_STREAM
   want stream 1 1 2 5
   want ignored
 
-HEADERS behind the client's RST_STREAM
+HEADERS after the client's RST_STREAM
   should RFC 9113, 5.1 (closed): \"MAY treat .. as a connection error\"; it can be discarded
   headers 1 04 call:FullDuplexCall
   reset 1 00 00000008
@@ -274,7 +274,7 @@ HEADERS behind the client's RST_STREAM
   want stream 1 1 2 5
   want ignored
 
-WINDOW_UPDATE behind the client's RST_STREAM
+WINDOW_UPDATE after the client's RST_STREAM
   should RFC 9113, 5.1 (closed): \"MAY treat .. as a connection error\"; it can be discarded
   headers 1 04 call:FullDuplexCall
   reset 1 00 00000008
@@ -293,7 +293,7 @@ a second RST_STREAM
   want connection 1 2 5
   want ignored
 
-PRIORITY behind the client's RST_STREAM
+PRIORITY after the client's RST_STREAM
   must RFC 9113, 6.9: frames but DATA \"MUST be accepted and processed\"; 6.3: in any state
   control ignored
   headers 1 04 call:FullDuplexCall
@@ -302,7 +302,7 @@ PRIORITY behind the client's RST_STREAM
   sync
   want ignored
 
-DATA behind the server's RST_STREAM
+DATA after the server's RST_STREAM
   must RFC 9113, 5.1 (closed): \"MUST minimally process and then discard any frames it receives\"
   needs streams at least 2
   control answered 3
@@ -314,7 +314,7 @@ DATA behind the server's RST_STREAM
   want answered 3
   want connection 1 2
 
-nothing comes on a stream behind the server's own RST_STREAM
+nothing comes on a stream after the server's own RST_STREAM
   must RFC 9113, 5.1 (closed): \"MUST NOT send frames other than PRIORITY on a closed stream\"
   headers 1 04 call:FullDuplexCall
   sync
@@ -324,7 +324,7 @@ nothing comes on a stream behind the server's own RST_STREAM
   want orderly
   want connection 1 2
 
-DATA behind the server's own end
+DATA after the server's own end
   should RFC 9113, 5.1 (half-closed, local): \"can receive any type of frame\"
   control ignored
   headers 1 04 call:Nothing
