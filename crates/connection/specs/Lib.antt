@@ -9,3 +9,7 @@ pub mod Served
 pub mod Sent
 pub mod Causes
 pub mod News
+pub mod Methods
+pub mod Readers
+pub mod History
+pub mod Begins

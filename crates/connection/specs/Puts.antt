@@ -69,6 +69,12 @@ module _ {A B C J N : Type 0} {book : Naming J} {route : Ghosts N} where
       (new.outbox ≡ old.outbox) × (new.has_dropped ≡ old.has_dropped) × (new.unput ≡ old.unput)
       × (new.backlog ≡ old.backlog) × (new.has_stopped ≡ old.has_stopped)
 
+  -- no more orders were dropped, and nothing more was seen of the writer
+  pub record DropsNone (old new : Orders A B C J N book route) : Type 0 where
+    pub stopped : new.has_stopped ≡ old.has_stopped
+    pub dropped : new.has_dropped ≡ old.has_dropped
+    pub unput : new.unput ≡ old.unput
+
   -- What was put begins these orders, and is all of them where none was dropped. The order that is
   -- kept aside is one of those that were dropped.
   pub record Ordered (all : List Order) (orders : Orders A B C J N book route) : Type 0 where
