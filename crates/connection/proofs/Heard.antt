@@ -65,6 +65,7 @@ use Rattle.connection.specs.declared.orders.Route.{Ghosts}
 use Rattle.connection.specs.Heard.{HasPut, IsEndedBy, IsOfInput}
 use Rattle.connection.specs.Puts.{
   Closed,
+  DropsNone,
   IsKept,
   IsOwn,
   IsSame,
@@ -168,6 +169,21 @@ module _ {A B C J N : Type 0} {book : Naming J} {route : Ghosts N} where
     ap (λ (o : Orders A B C J N book route). o.backlog) is,
     ap (λ (o : Orders A B C J N book route). o.has_stopped) is,
   )
+
+  pub drops-none : (old new : Orders A B C J N book route) → new ≡ old → DropsNone old new
+  drops-none old new is = record {
+    stopped = ap (λ (o : Orders A B C J N book route). o.has_stopped) is;
+    dropped = ap (λ (o : Orders A B C J N book route). o.has_dropped) is;
+    unput = ap (λ (o : Orders A B C J N book route). o.unput) is;
+  }
+
+  pub drops-then : (old mid new : Orders A B C J N book route) → DropsNone old mid
+      → DropsNone mid new → DropsNone old new
+  drops-then old mid new first second = record {
+    stopped = second.stopped ∙ first.stopped;
+    dropped = second.dropped ∙ first.dropped;
+    unput = second.unput ∙ first.unput;
+  }
 
   -- the same was put
   pub put-same : (old new : Orders A B C J N book route) → new.outbox ≡ old.outbox

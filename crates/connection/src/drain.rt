@@ -1,6 +1,7 @@
 //! How a server ends a connection while its calls go on (RFC 9113, section 6.8).
 
 ghost use Rattle.std.specs.Prelude.{◌≡◌, ◌<◌, IfOk};
+ghost use Rattle.connection.specs.Begins.{IsUnused};
 
 use callworker::SharedConn;
 use connbook::ConnBook;
@@ -36,13 +37,7 @@ impl<A: Ledger, B: Ledger, C: Ledger> Drainer<A, B, C> {
             × (0 < B.parts) }
         requires announced { (blanks.2.name ≡ C.name) × (blanks.2.parts ≡ C.parts)
             × (0 < C.parts) }
-        // The shares are whole, and have counted nothing.
-        ensures came { IfOk result (λ made. (made.1.came.parts ≡ A.parts)
-            × (made.1.came.amount ≡ 0)) }
-        ensures calls { IfOk result (λ made. (made.1.calls.parts ≡ B.parts)
-            × (made.1.calls.amount ≡ 0)) }
-        ensures announced { IfOk result (λ made. (made.1.announced.parts ≡ C.parts)
-            × (made.1.announced.amount ≡ 0)) }
+        ensures unused { IfOk result (λ made. IsUnused A.parts B.parts C.parts made.1) }
     {
         let (received, came) = blanks.0.open::<A>();
         let (admitted, calls) = blanks.1.open::<B>();

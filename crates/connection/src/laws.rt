@@ -2,10 +2,25 @@
 //! nothing.
 
 ghost use mathlib.Core.List.{IsPrefix};
-ghost use Rattle.std.specs.Prelude.{◌≡◌, ◌⊎◌, ◌<◌, ◌++◌, ◌∷◌, ℕ, Bool, List, [], false, map, true};
+ghost use Rattle.std.specs.Prelude.{
+  ◌≡◌,
+  ◌⊎◌,
+  ◌<◌,
+  ◌++◌,
+  ◌∷◌,
+  ℕ,
+  Bool,
+  List,
+  [],
+  Option,
+  false,
+  true,
+};
 ghost use Rattle.std.specs.List.{list_any};
 ghost use Rattle.account.specs.Accounts.{Begins};
 ghost use Rattle.callhead.specs.declared.head.CallHead.{CallHead as Head};
+ghost use Rattle.callparts.specs.Blocks.{items_of};
+ghost use Rattle.callparts.specs.declared.accounts.Accounts.{Accounts};
 ghost use Rattle.callparts.specs.declared.call_account.CallAccount.{CallAccount};
 ghost use Rattle.callparts.specs.declared.report.Ending.{Ending as EndingOf};
 ghost use Rattle.h2frame.specs.declared.error_code.ErrorCode.{ErrorCode as Code};
@@ -24,9 +39,8 @@ ghost use Rattle.outwriter.specs.Runs.{IsLawful, told as duties_told};
 ghost use Rattle.outwriter.specs.Steps.{Order, Step as RunStep, frames_of};
 ghost use Rattle.readerloop.specs.Calls.{is_admitted};
 ghost use Rattle.readerloop.specs.Orders.{orders_by};
-ghost use Rattle.readerloop.specs.Reports.{AreCalm, AreHeard, is_heard_out};
-ghost use Rattle.readerloop.specs.Steps.{IsRising, Step, WasUnserved, events_of, reported};
-ghost use Rattle.writerloop.specs.Left.{left_in};
+ghost use Rattle.readerloop.specs.Reports.{AreCalm, is_heard_out};
+ghost use Rattle.readerloop.specs.Steps.{Step, WasUnserved, events_of};
 ghost use Rattle.writerloop.specs.Orders.{IsAmong, Obeys};
 ghost use Rattle.session.specs.declared.event.InEvent.{InEvent as InEventOf};
 ghost use Rattle.session.specs.Events.{Events};
@@ -44,7 +58,7 @@ ghost use Rattle.connection.specs.Causes.{
   WasWritten,
 };
 ghost use Rattle.connection.specs.Codes.{MayHaveCode};
-ghost use Rattle.connection.specs.Left.{AreLeft};
+ghost use Rattle.connection.specs.History.{IsHistory};
 ghost use Rattle.connection.specs.Limits.{
   AreFounded,
   AreJustified,
@@ -55,8 +69,10 @@ ghost use Rattle.connection.specs.Limits.{
 };
 ghost use Rattle.connection.specs.Heard.{HasPut};
 ghost use Rattle.connection.specs.News.{acknowledgements, answers_to, news_in, news_told, taken_by};
+ghost use Rattle.connection.specs.Served.{IsServed};
 
 use callparts::Answering;
+use device::ConnWrite;
 
 /// The reader orders each reset that is to be written for a cause in what it heard: RFC 9113,
 /// section 5.4.2.
@@ -137,35 +153,31 @@ pub fn all_answers()
         → acknowledgements (duties_told run) ≡ answers_to (news_told (events_of told)) }
 {}
 
-/// Each RST_STREAM that was written has an error code with its cause (`MayHaveCode`), and nothing
-/// else, however the connection ended: sections 5.4.2 and 7. The cause is in the bytes that came,
-/// the calls that were admitted, what they were fed, whether they have a status, or the run.
-pub fn reset_codes()
-    ensures { (end : EndingOf) (came : List ℕ) (told : List Step) (put : List Order)
-        (run : List RunStep) (given : List InEventOf) (entries : List Entry)
-        (accounts : List CallAccount) →
-        AreHeard end came (events_of told) → IsRising told → AreJustified told → EndsLast told
-        → Events came given → Framed came given entries
-        → AreLeft (left_in run) accounts
-        → map (λ account. account.id) accounts ≡ reported told →
-        HasPut (orders_by told ++ InputEnded ∷ []) put → Obeys true put run → IsLawful run →
-        (frame : Frame) → WasWritten frame run → frame.head.kind ≡ RstStream →
-        (code : Code) × (frame ≡ reset_frame frame.head.stream code)
-        × MayHaveCode code frame.head.stream entries told put run accounts }
+/// The record of a connection that was served gives its history.
+pub fn history<M: Answering, O: ConnWrite>()
+    ensures { (came : List ℕ) (rest before : Option (List ℕ)) (read_failed : Bool) (end : EndingOf)
+        (calls : Accounts) (device : O) (served : IsServed
+        (λ calls. items_of calls.full calls.last) O.contents O.failed M.known M.names came rest
+        before read_failed end calls device) →
+        IsHistory came served.told served.put served.written.run
+        (items_of calls.full calls.last) }
 {}
 
-/// Each reset that the writer took and that is to be written has an error code with such a cause,
-/// as `reset_codes` says of each RST_STREAM that was written.
-pub fn order_codes()
-    ensures { (end : EndingOf) (came : List ℕ) (told : List Step) (put : List Order)
-        (run : List RunStep) (given : List InEventOf) (entries : List Entry)
-        (accounts : List CallAccount) →
-        AreHeard end came (events_of told) → IsRising told → AreJustified told → EndsLast told
-        → Events came given → Framed came given entries
-        → AreLeft (left_in run) accounts
-        → map (λ account. account.id) accounts ≡ reported told →
-        HasPut (orders_by told ++ InputEnded ∷ []) put → Obeys true put run →
-        (id : ℕ) (code : Code) → WasTaken (Reset id code true) run
+/// Each RST_STREAM that was written has an error code with its cause (`MayHaveCode`), and nothing
+/// else, however the connection ended: sections 5.4.2 and 7. So has each reset that the writer took
+/// and that is to be written. The cause is in the bytes that came, the calls that were admitted,
+/// what they were fed, whether they have a status, or the run.
+pub fn reset_codes()
+    ensures written { (came : List ℕ) (told : List Step) (put : List Order) (run : List RunStep)
+        (accounts : List CallAccount) (given : List InEventOf) (entries : List Entry) →
+        IsHistory came told put run accounts → Events came given → Framed came given entries
+        → (frame : Frame) → WasWritten frame run → frame.head.kind ≡ RstStream →
+        (code : Code) × (frame ≡ reset_frame frame.head.stream code)
+        × MayHaveCode code frame.head.stream entries told put run accounts }
+    ensures taken { (came : List ℕ) (told : List Step) (put : List Order) (run : List RunStep)
+        (accounts : List CallAccount) (given : List InEventOf) (entries : List Entry) →
+        IsHistory came told put run accounts → Events came given → Framed came given entries
+        → (id : ℕ) (code : Code) → WasTaken (Reset id code true) run
         → MayHaveCode code id entries told put run accounts }
 {}
 

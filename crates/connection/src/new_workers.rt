@@ -2,11 +2,12 @@
 
 ghost use Rattle.std.specs.Prelude.{◌≡◌};
 ghost use Rattle.handlers.specs.Listed.{listed};
-ghost use Rattle.callparts.specs.Workers.{IsKnown};
+ghost use Rattle.callparts.specs.Workers.{IsWithin};
+ghost use Rattle.connection.specs.Methods.{answers_of};
 
 use callparts::{Answering, EachAnswered, EachFresh, Line, Naming, PLACES};
 use callworker::{Gate, SharedConn, Ways, Worker, WorkerThread, hire};
-use handlers::Methods;
+use handlers::{Method, Methods};
 use readerloop::WorkerHandle;
 use rtrb::RingBuffer;
 use std::alloc::{AllocError, Global};
@@ -32,7 +33,8 @@ where
     J: Naming + Send + Sync + 'static,
     M: Answering + Send + Sync + 'static,
     R: Threads + Wait + Clock + Copy + Send + Sync + Drop + 'static,
-    requires known { IsKnown M.known (λ m. answers (m.vtable, m.value)) (listed methods.now.value) }
+    requires known { IsWithin M.known
+        (answers_of ⟦<dyn Method as Method>⟧ (listed methods.now.value)) }
 {
     let line = Arc::new(alloc, Line::new())?;
     let worker = Worker {

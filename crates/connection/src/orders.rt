@@ -70,7 +70,7 @@ impl<A: Ledger, B: Ledger, C: Ledger, J: Naming, N: Route> Orders<A, B, C, J, N>
     ghost use Rattle.std.specs.Prelude.{◌∷◌, ◌++◌, true, false, None};
     ghost use Rattle.lane.specs.Ring.{HasRoom, out_name, put_in, taken};
     ghost use Rattle.outwriter.specs.declared.control.WriterOrder.TheVariants as orders;
-    ghost use Rattle.connection.specs.Puts.{IsKept, Puts, PutsAll, put_of};
+    ghost use Rattle.connection.specs.Puts.{DropsNone, IsKept, IsSame, Puts, PutsAll, put_of};
 
     pub(crate) fn new(
         alloc: Global,
@@ -190,9 +190,7 @@ impl<A: Ledger, B: Ledger, C: Ledger, J: Naming, N: Route> Orders<A, B, C, J, N>
     pub(crate) fn close<R: Wait>(&mut self, rt: &R)
         ensures put { put_of self.new ≡ put_of self.old ++ orders.Close ∷ [] }
         ensures none_left { self.new.backlog.items ≡ [] }
-        ensures stopped { self.new.has_stopped ≡ self.old.has_stopped }
-        ensures dropped { self.new.has_dropped ≡ self.old.has_dropped }
-        ensures unput { self.new.unput ≡ self.old.unput }
+        ensures drops { DropsNone self.old self.new }
     {
         'tries: for _ in rt.forever() {
             let mark = self.shared.reader.mark();
@@ -212,9 +210,7 @@ impl<A: Ledger, B: Ledger, C: Ledger, J: Naming, N: Route> Orders<A, B, C, J, N>
         ensures put { result ≡ true → put_of self.new ≡ put_of self.old ++ orders.Close ∷ [] }
         ensures none_left { result ≡ true → self.new.backlog.items ≡ [] }
         ensures full { result ≡ false → put_of self.new ≡ put_of self.old }
-        ensures stopped { self.new.has_stopped ≡ self.old.has_stopped }
-        ensures dropped { self.new.has_dropped ≡ self.old.has_dropped }
-        ensures unput { self.new.unput ≡ self.old.unput }
+        ensures drops { DropsNone self.old self.new }
     {
         self.put_backlog();
         let is_put = self.put_last();
@@ -227,9 +223,7 @@ impl<A: Ledger, B: Ledger, C: Ledger, J: Naming, N: Route> Orders<A, B, C, J, N>
         ensures put { result ≡ true → put_of self.new ≡ put_of self.old ++ orders.Close ∷ [] }
         ensures none_left { result ≡ true → self.new.backlog.items ≡ [] }
         ensures full { result ≡ false → put_of self.new ≡ put_of self.old }
-        ensures stopped { self.new.has_stopped ≡ self.old.has_stopped }
-        ensures dropped { self.new.has_dropped ≡ self.old.has_dropped }
-        ensures unput { self.new.unput ≡ self.old.unput }
+        ensures drops { DropsNone self.old self.new }
     {
         if self.has_backlog() {
             return false;
@@ -243,9 +237,7 @@ impl<A: Ledger, B: Ledger, C: Ledger, J: Naming, N: Route> Orders<A, B, C, J, N>
     /// Puts what of the backlog there is room for, in order.
     fn put_backlog(&mut self)
         ensures put { put_of self.new ≡ put_of self.old }
-        ensures stopped { self.new.has_stopped ≡ self.old.has_stopped }
-        ensures dropped { self.new.has_dropped ≡ self.old.has_dropped }
-        ensures unput { self.new.unput ≡ self.old.unput }
+        ensures drops { DropsNone self.old self.new }
     {
         'orders: for _ in 0..self.backlog.len() {
             if !self.outbox.tx.has_room() {
@@ -259,9 +251,7 @@ impl<A: Ledger, B: Ledger, C: Ledger, J: Naming, N: Route> Orders<A, B, C, J, N>
     fn put_first(&mut self)
         requires room { HasRoom self.old.outbox.tx }
         ensures put { put_of self.new ≡ put_of self.old }
-        ensures stopped { self.new.has_stopped ≡ self.old.has_stopped }
-        ensures dropped { self.new.has_dropped ≡ self.old.has_dropped }
-        ensures unput { self.new.unput ≡ self.old.unput }
+        ensures drops { DropsNone self.old self.new }
     {
         if let Some(order) = self.backlog.pop_front() {
             let _is_put = self.outbox.tx.put(order).is_ok();
@@ -270,11 +260,7 @@ impl<A: Ledger, B: Ledger, C: Ledger, J: Naming, N: Route> Orders<A, B, C, J, N>
 
     /// Rings the writer.
     pub(crate) fn wake_writer(&mut self)
-        ensures outbox { self.new.outbox ≡ self.old.outbox }
-        ensures stopped { self.new.has_stopped ≡ self.old.has_stopped }
-        ensures dropped { self.new.has_dropped ≡ self.old.has_dropped }
-        ensures unput { self.new.unput ≡ self.old.unput }
-        ensures backlog { self.new.backlog ≡ self.old.backlog }
+        ensures same { IsSame self.old self.new }
     {
         self.are_unrung = false;
         self.shared.writer.ring();

@@ -2,28 +2,24 @@
 //! decides (the crate `readerloop`).
 
 ghost use Rattle.std.specs.Prelude.{◌≡◌, ◌∷◌, ℕ, List, [], IfSome, false, true};
-ghost use Rattle.std.specs.Io.KnownBytes.{Consumes, IsAtEnd};
+ghost use Rattle.std.specs.Io.KnownBytes.{Consumes};
 ghost use Rattle.lane.specs.Ring.{taken};
-ghost use Rattle.callparts.specs.Workers.{IsKnown};
-ghost use Rattle.callparts.specs.declared.report.Ending.TheVariants as ending;
 ghost use Rattle.handlers.specs.Listed.{listed};
 ghost use Rattle.session.specs.declared.event.InEvent.TheVariants as events;
-ghost use Rattle.readerloop.specs.Calls.{AreNames, IsFirstWith, SentItems, carried_in};
+ghost use Rattle.readerloop.specs.Calls.{SentItems, carried_in};
 ghost use Rattle.readerloop.specs.Readings.{KeepsNext, Reads, goaway_in, order_in};
 ghost use Rattle.readerloop.specs.Steps.{Lacks, Step};
-ghost use Rattle.connection.specs.Heard.{
-  Acts,
-  AreCarried,
-  CutsSome,
-  Grows,
-  HasRead,
-  IsOfInput,
-  KeptFor,
-  ReadsTo,
-  ReadsWith,
-};
-ghost use Rattle.connection.specs.Limits.{Covers};
+ghost use Rattle.connection.specs.Heard.{AreCarried, Grows};
+ghost use Rattle.connection.specs.Methods.{AreKnownBy};
 ghost use Rattle.connection.specs.Puts.{IsOwn, IsSame};
+ghost use Rattle.connection.specs.Readers.{
+  ActsAlone,
+  Does,
+  Follows,
+  FollowsWith,
+  HasFollowed,
+  HasReadOut,
+};
 
 mod end;
 mod streams;
@@ -135,28 +131,15 @@ where
         input: &mut I,
         methods: &Arc<Methods>,
     ) -> Ending
-        requires known { IsKnown M.known (λ m. answers (m.vtable, m.value))
-            (listed methods.now.value) }
-        requires named { AreNames
-            (IsFirstWith (λ m. (⟦<dyn Method as Method>⟧ m.vtable).name m.value)
-            (listed methods.now.value)) M.names }
-        requires unnamed { AreNames M.names
-            (IsFirstWith (λ m. (⟦<dyn Method as Method>⟧ m.vtable).name m.value)
-            (listed methods.now.value)) }
+        requires methods { AreKnownBy ⟦<dyn Method as Method>⟧ (listed methods.now.value)
+            M.known M.names }
         requires uncounted { (intake.old.calls ≡ 0) × (intake.old.came ≡ 0) }
         ensures grows { Grows self.old.reading self.new.reading }
-        ensures heard { (sent : List SentItems) → AreCarried sent (taken self.new.reading.home)
-            → KeptFor M.known M.names sent [] self.old.reading self.old.orders
+        ensures read { (sent : List SentItems) → AreCarried sent (taken self.new.reading.home)
+            → HasFollowed M.known M.names sent [] self.old
             → (came : List ℕ) × Consumes (I.remaining input.old) (I.remaining input.new) came
-            × ((told : List Step) × HasRead M.known M.names sent result came told
-            self.new.reading self.new.orders × Covers told intake.new) }
-        ensures failed { (sent : List SentItems) → AreCarried sent (taken self.new.reading.home)
-            → KeptFor M.known M.names sent [] self.old.reading self.old.orders
-            → result ≡ ending.ReadFailed → I.failed input.new ≡ true }
-        ensures over { (sent : List SentItems) → AreCarried sent (taken self.new.reading.home)
-            → KeptFor M.known M.names sent [] self.old.reading self.old.orders
-            → IsOfInput result → self.new.orders.has_stopped ≡ false
-            → IsAtEnd (I.remaining input.new) }
+            × HasReadOut M.known M.names sent result came (I.remaining input.new)
+            (I.failed input.new) intake.new self.new }
     {
         let mut core = InCore::new(self.alloc);
         let rt = self.rt;
@@ -194,8 +177,7 @@ where
     /// Looks whether the server drains, and if so orders the GOAWAY for it. Answers whether no call
     /// is live then: the connection ends.
     fn heed_drain(&mut self) -> bool
-        ensures cuts { CutsSome M.known M.names false self.old.reading self.old.orders
-            self.new.reading self.new.orders }
+        ensures cuts { ActsAlone M.known M.names false self.old self.new }
         ensures draining { result ≡ true → self.new.reading.is_draining ≡ true }
     {
         let (is_closing, is_live) = self.look();
@@ -215,8 +197,7 @@ where
     /// The server drains: orders the GOAWAY that names the last call which goes on, unless it was
     /// ordered.
     fn drain(&mut self)
-        ensures cuts { CutsSome M.known M.names false self.old.reading self.old.orders
-            self.new.reading self.new.orders }
+        ensures cuts { ActsAlone M.known M.names false self.old self.new }
         ensures draining { self.new.reading.is_draining ≡ true }
     {
         if self.reading.is_draining() {
@@ -231,8 +212,8 @@ where
     fn lack(&mut self)
         ensures home { self.new.reading.home ≡ self.old.reading.home }
         ensures kept { (sent : List SentItems) (told : List Step)
-            → KeptFor M.known M.names sent told self.old.reading self.old.orders
-            → KeptFor M.known M.names sent (Lacks ∷ told) self.new.reading self.new.orders }
+            → HasFollowed M.known M.names sent told self.old
+            → HasFollowed M.known M.names sent (Lacks ∷ told) self.new }
     {
         let decided = self.reading.run_out();
         self.act(decided);
@@ -247,16 +228,10 @@ where
         events: Vec<InEvent>,
         methods: &Arc<Methods>,
     ) -> Option<Ending>
-        requires known { IsKnown M.known (λ m. answers (m.vtable, m.value))
-            (listed methods.now.value) }
-        requires named { AreNames
-            (IsFirstWith (λ m. (⟦<dyn Method as Method>⟧ m.vtable).name m.value)
-            (listed methods.now.value)) M.names }
-        requires unnamed { AreNames M.names
-            (IsFirstWith (λ m. (⟦<dyn Method as Method>⟧ m.vtable).name m.value)
-            (listed methods.now.value)) }
-        ensures reads { ReadsWith M.known M.names intake.old intake.new events.items result
-            self.old.reading self.old.orders self.new.reading self.new.orders }
+        requires methods { AreKnownBy ⟦<dyn Method as Method>⟧ (listed methods.now.value)
+            M.known M.names }
+        ensures reads { FollowsWith M.known M.names intake.old intake.new events.items result
+            self.old self.new }
     {
         let end = self.heed(intake, events, methods);
         if end.is_none() {
@@ -291,16 +266,10 @@ where
         events: Vec<InEvent>,
         methods: &Arc<Methods>,
     ) -> Option<Ending>
-        requires known { IsKnown M.known (λ m. answers (m.vtable, m.value))
-            (listed methods.now.value) }
-        requires named { AreNames
-            (IsFirstWith (λ m. (⟦<dyn Method as Method>⟧ m.vtable).name m.value)
-            (listed methods.now.value)) M.names }
-        requires unnamed { AreNames M.names
-            (IsFirstWith (λ m. (⟦<dyn Method as Method>⟧ m.vtable).name m.value)
-            (listed methods.now.value)) }
-        ensures reads { ReadsWith M.known M.names intake.old intake.new events.items result
-            self.old.reading self.old.orders self.new.reading self.new.orders }
+        requires methods { AreKnownBy ⟦<dyn Method as Method>⟧ (listed methods.now.value)
+            M.known M.names }
+        ensures reads { FollowsWith M.known M.names intake.old intake.new events.items result
+            self.old self.new }
     {
         'events: for event in events {
             let end = self.follow(intake, event, methods);
@@ -318,16 +287,10 @@ where
         event: InEvent,
         methods: &Arc<Methods>,
     ) -> Option<Ending>
-        requires known { IsKnown M.known (λ m. answers (m.vtable, m.value))
-            (listed methods.now.value) }
-        requires named { AreNames
-            (IsFirstWith (λ m. (⟦<dyn Method as Method>⟧ m.vtable).name m.value)
-            (listed methods.now.value)) M.names }
-        requires unnamed { AreNames M.names
-            (IsFirstWith (λ m. (⟦<dyn Method as Method>⟧ m.vtable).name m.value)
-            (listed methods.now.value)) }
-        ensures reads { ReadsWith M.known M.names intake.old intake.new (event ∷ []) result
-            self.old.reading self.old.orders self.new.reading self.new.orders }
+        requires methods { AreKnownBy ⟦<dyn Method as Method>⟧ (listed methods.now.value)
+            M.known M.names }
+        ensures reads { FollowsWith M.known M.names intake.old intake.new (event ∷ []) result
+            self.old self.new }
     {
         match event {
             InEvent::Open(id, head) => self.open(intake, id, head, methods),
@@ -345,8 +308,8 @@ where
 
     /// A stream begins without the head of a call.
     fn refuse(&mut self, id: StreamId, fault: HeadFault) -> Option<Ending>
-        ensures reads { ReadsTo M.known M.names (events.BadHead id fault ∷ []) result
-            self.old.reading self.old.orders self.new.reading self.new.orders }
+        ensures reads { Follows M.known M.names (events.BadHead id fault ∷ []) result
+            self.old self.new }
     {
         let decided = self.reading.refuse(id, fault);
         self.act(decided)
@@ -354,8 +317,8 @@ where
 
     /// The client has reset a stream.
     fn reset(&mut self, id: StreamId, code: ErrorCode) -> Option<Ending>
-        ensures reads { ReadsTo M.known M.names (events.Reset id code ∷ []) result
-            self.old.reading self.old.orders self.new.reading self.new.orders }
+        ensures reads { Follows M.known M.names (events.Reset id code ∷ []) result
+            self.old self.new }
     {
         let decided = self.reading.reset(id, code);
         self.act(decided)
@@ -363,8 +326,8 @@ where
 
     /// The client has made an error on a stream.
     fn fail(&mut self, id: StreamId, code: ErrorCode) -> Option<Ending>
-        ensures reads { ReadsTo M.known M.names (events.StreamError id code ∷ []) result
-            self.old.reading self.old.orders self.new.reading self.new.orders }
+        ensures reads { Follows M.known M.names (events.StreamError id code ∷ []) result
+            self.old self.new }
     {
         let decided = self.reading.fail(id, code);
         self.act(decided)
@@ -372,8 +335,8 @@ where
 
     /// Passes on to the writer what the peer says to it.
     fn pass_on(&mut self, news: session::PeerControl) -> Option<Ending>
-        ensures reads { ReadsTo M.known M.names (events.Control news ∷ []) result
-            self.old.reading self.old.orders self.new.reading self.new.orders }
+        ensures reads { Follows M.known M.names (events.Control news ∷ []) result
+            self.old self.new }
     {
         let decided = self.reading.pass_on(news);
         self.act(decided)
@@ -381,8 +344,8 @@ where
 
     /// The client has made an error that ends the connection.
     fn fatal(&mut self, reason: Reason) -> Option<Ending>
-        ensures reads { ReadsTo M.known M.names (events.Fatal reason ∷ []) result
-            self.old.reading self.old.orders self.new.reading self.new.orders }
+        ensures reads { Follows M.known M.names (events.Fatal reason ∷ []) result
+            self.old self.new }
     {
         let decided = self.reading.fatal(reason);
         self.act(decided)
@@ -390,8 +353,7 @@ where
 
     /// The peer opens no more streams.
     fn hear_goaway(&mut self) -> Option<Ending>
-        ensures reads { ReadsTo M.known M.names (events.PeerGoaway ∷ []) result
-            self.old.reading self.old.orders self.new.reading self.new.orders }
+        ensures reads { Follows M.known M.names (events.PeerGoaway ∷ []) result self.old self.new }
     {
         self.reading.hear_goaway();
         None
@@ -400,8 +362,7 @@ where
     /// Does what was decided: puts the orders, then shuts the half that is to be shut. Answers how
     /// the connection ends, if it does.
     fn act(&mut self, decided: Decision<J>) -> Option<Ending>
-        ensures acts { Acts M.known M.names decided self.old.reading self.old.orders
-            self.new.reading self.new.orders }
+        ensures acts { Does M.known M.names decided self.old self.new }
         ensures ends { result ≡ decided.ends }
         ensures draining { self.new.reading.is_draining ≡ self.old.reading.is_draining }
         ensures next { KeepsNext self.old.reading self.new.reading }
@@ -431,9 +392,8 @@ where
         bytes: Bytes,
         flow: u32,
     ) -> Option<Ending>
-        ensures reads { ReadsWith M.known M.names intake.old intake.new
-            (events.Data id bytes flow ∷ []) result
-            self.old.reading self.old.orders self.new.reading self.new.orders }
+        ensures reads { FollowsWith M.known M.names intake.old intake.new
+            (events.Data id bytes flow ∷ []) result self.old self.new }
     {
         let rt = self.rt;
         let padding = flow.saturating_sub(u32::try_from(bytes.len()).unwrap_or(u32::MAX));
@@ -445,9 +405,8 @@ where
 
     /// Bytes came that count on the connection alone.
     fn loose(&mut self, intake: &mut Intake<A, B, C>, flow: u32) -> Option<Ending>
-        ensures reads { ReadsWith M.known M.names intake.old intake.new
-            (events.Loose flow ∷ []) result
-            self.old.reading self.old.orders self.new.reading self.new.orders }
+        ensures reads { FollowsWith M.known M.names intake.old intake.new
+            (events.Loose flow ∷ []) result self.old self.new }
     {
         let receipt = intake.receive(&self.rt, 0, flow, 0);
         self.note_credit(true);
@@ -466,8 +425,7 @@ where
 
     /// The client has ended its half of a stream.
     fn end_half(&mut self, id: StreamId) -> Option<Ending>
-        ensures reads { ReadsTo M.known M.names (events.End id ∷ []) result
-            self.old.reading self.old.orders self.new.reading self.new.orders }
+        ensures reads { Follows M.known M.names (events.End id ∷ []) result self.old self.new }
     {
         let rt = self.rt;
         self.orders.shared.book.lock(&rt).end_remote(id);

@@ -15,26 +15,22 @@ ghost use Rattle.std.specs.Prelude.{
   Some,
   IfErr,
   IfOk,
-  IfSome,
   false,
   length,
   true,
 };
-ghost use Rattle.std.specs.Io.KnownBytes.{Consumes, IsAtEnd};
+ghost use Rattle.std.specs.Io.KnownBytes.{Consumes};
 ghost use Rattle.callparts.specs.Blocks.{items_of};
-ghost use Rattle.callparts.specs.Workers.{IsWithin, answers_by};
 ghost use Rattle.callparts.specs.declared.report.Ending.TheVariants as ending;
 ghost use Rattle.handlers.specs.Listed.{listed};
-ghost use Rattle.lane.specs.Ring.{in_name, out_name, put_in, taken};
-ghost use Rattle.readerloop.specs.Calls.{AreNames, IsFirstWith, SentItems, carried_in};
-ghost use Rattle.readerloop.specs.Readings.{Reads};
-ghost use Rattle.readerloop.specs.Reports.{AreAccounts};
-ghost use Rattle.readerloop.specs.Steps.{Step, reported};
-ghost use Rattle.connection.specs.Endings.{ended_by, unless_lacked};
-ghost use Rattle.connection.specs.Heard.{AreCarried, HasRead, Hears, IsOfInput, KeptFor};
-ghost use Rattle.connection.specs.Limits.{Covers};
+ghost use Rattle.lane.specs.Ring.{in_name, out_name, taken};
+ghost use Rattle.readerloop.specs.Calls.{SentItems};
+ghost use Rattle.connection.specs.Begins.{AreNew, IsUnused};
+ghost use Rattle.connection.specs.Endings.{EndsAs, ended_by, unless_lacked};
+ghost use Rattle.connection.specs.Heard.{AreCarried, Hears};
+ghost use Rattle.connection.specs.Methods.{AreKnownBy, answers_of, paths_of};
 ghost use Rattle.connection.specs.Puts.{put_of};
-ghost use Rattle.connection.specs.Rest.{CarriesOpen, CarriesRest};
+ghost use Rattle.connection.specs.Readers.{CanMeet, HasBegun, HasReadOut, HasTakenBack};
 ghost use Rattle.connection.specs.Served.{IsServed};
 
 use crate::drain::{DrainHandle, Drainer};
@@ -85,16 +81,12 @@ where
     O: ConnWrite + Send + Drop + 'static,
     G: Gate + Send + Sync + Drop + 'static,
     R: Threads + Wait + Clock + Copy + Send + Sync + Drop + 'static,
-    requires came { (handle.came.parts ≡ A.parts) × (0 < A.parts) × (handle.came.amount ≡ 0) }
-    requires calls { (handle.calls.parts ≡ B.parts) × (0 < B.parts) × (handle.calls.amount ≡ 0) }
-    requires announced { (handle.announced.parts ≡ C.parts) × (0 < C.parts)
-        × (handle.announced.amount ≡ 0) }
+    requires handle { IsUnused A.parts B.parts C.parts handle }
     // Over one list of what was heard, one of what was ordered, and one run of the writer.
     ensures served { (came : List ℕ) × Consumes (I.remaining input.old) (I.remaining input.new) came
         × IsServed (λ calls. items_of calls.full calls.last) O.contents O.failed
-        (answers_by (λ method. answers (method.vtable, method.value)) (listed methods.value))
-        (IsFirstWith (λ method. (⟦<dyn Method as Method>⟧ method.vtable).name method.value)
-        (listed methods.value))
+        (answers_of ⟦<dyn Method as Method>⟧ (listed methods.value))
+        (paths_of ⟦<dyn Method as Method>⟧ (listed methods.value))
         came (I.remaining input.new) (O.contents output) (I.failed input.new)
         result.report.ending result.report.calls result.output }
 {
@@ -120,9 +112,8 @@ where
     R: Threads + Wait + Clock + Copy + Send + Sync + Drop + 'static,
     ensures served { (came : List ℕ) × Consumes (I.remaining input.old) (I.remaining input.new) came
         × IsServed (λ calls. items_of calls.full calls.last) O.contents O.failed
-        (answers_by (λ method. answers (method.vtable, method.value)) (listed methods.value))
-        (IsFirstWith (λ method. (⟦<dyn Method as Method>⟧ method.vtable).name method.value)
-        (listed methods.value))
+        (answers_of ⟦<dyn Method as Method>⟧ (listed methods.value))
+        (paths_of ⟦<dyn Method as Method>⟧ (listed methods.value))
         came (I.remaining input.new) (O.contents output) (I.failed input.new)
         result.report.ending result.report.calls result.output }
 {
@@ -155,9 +146,8 @@ where
     requires announced { (blanks.2.name ≡ C.name) × (blanks.2.parts ≡ C.parts) × (0 < C.parts) }
     ensures served { (came : List ℕ) × Consumes (I.remaining input.old) (I.remaining input.new) came
         × IsServed (λ calls. items_of calls.full calls.last) O.contents O.failed
-        (answers_by (λ method. answers (method.vtable, method.value)) (listed methods.value))
-        (IsFirstWith (λ method. (⟦<dyn Method as Method>⟧ method.vtable).name method.value)
-        (listed methods.value))
+        (answers_of ⟦<dyn Method as Method>⟧ (listed methods.value))
+        (paths_of ⟦<dyn Method as Method>⟧ (listed methods.value))
         came (I.remaining input.new) (O.contents output) (I.failed input.new)
         result.report.ending result.report.calls result.output }
 {
@@ -193,13 +183,7 @@ struct Rings<J: Naming> {
 
 impl<J: Naming> Rings<J> {
     fn open(alloc: Global) -> Result<Rings<J>, AllocError>
-        ensures orders { IfOk result (λ rings. in_name rings.orders.0 ≡ out_name rings.orders.1) }
-        ensures senders { IfOk result
-            (λ rings. in_name rings.senders.0 ≡ out_name rings.senders.1) }
-        ensures unused { IfOk result (λ rings. (put_in rings.orders.0 ≡ [])
-            × (taken rings.orders.1 ≡ [])) }
-        ensures unsent { IfOk result (λ rings. (put_in rings.senders.0 ≡ [])
-            × (taken rings.senders.1 ≡ [])) }
+        ensures fresh { IfOk result (λ rings. AreNew rings) }
     {
         Ok(Rings {
             orders: Ring::open(alloc, ORDERS)?,
@@ -260,18 +244,9 @@ where
     O: ConnWrite + Send + Drop + 'static,
     G: Gate + Send + Sync + Drop + 'static,
     R: Threads + Wait + Clock + Copy + Send + Sync + Drop + 'static,
-    requires came { (handle.came.parts ≡ A.parts) × (0 < A.parts) × (handle.came.amount ≡ 0) }
-    requires calls { (handle.calls.parts ≡ B.parts) × (0 < B.parts) × (handle.calls.amount ≡ 0) }
-    requires announced { (handle.announced.parts ≡ C.parts) × (0 < C.parts)
-        × (handle.announced.amount ≡ 0) }
-    requires known { IsWithin M.known
-        (answers_by (λ method. answers (method.vtable, method.value)) (listed methods.value)) }
-    requires named { AreNames
-        (IsFirstWith (λ method. (⟦<dyn Method as Method>⟧ method.vtable).name method.value)
-        (listed methods.value)) M.names }
-    requires unnamed { AreNames M.names
-        (IsFirstWith (λ method. (⟦<dyn Method as Method>⟧ method.vtable).name method.value)
-        (listed methods.value)) }
+    requires handle { IsUnused A.parts B.parts C.parts handle }
+    requires methods { AreKnownBy ⟦<dyn Method as Method>⟧ (listed methods.value)
+        M.known M.names }
     requires book { register.seen.book ≡ J.book }
     ensures served { (came : List ℕ) × Consumes (I.remaining input.old) (I.remaining input.new) came
         × IsServed (λ calls. items_of calls.full calls.last) O.contents O.failed M.known M.names
@@ -310,23 +285,10 @@ where
     O: ConnWrite + Send + Drop + 'static,
     G: Gate + Send + Sync + Drop + 'static,
     R: Threads + Wait + Clock + Copy + Send + Sync + Drop + 'static,
-    requires came { (handle.came.parts ≡ A.parts) × (0 < A.parts) × (handle.came.amount ≡ 0) }
-    requires calls { (handle.calls.parts ≡ B.parts) × (0 < B.parts) × (handle.calls.amount ≡ 0) }
-    requires announced { (handle.announced.parts ≡ C.parts) × (0 < C.parts)
-        × (handle.announced.amount ≡ 0) }
-    requires known { IsWithin M.known
-        (answers_by (λ method. answers (method.vtable, method.value)) (listed methods.value)) }
-    requires named { AreNames
-        (IsFirstWith (λ method. (⟦<dyn Method as Method>⟧ method.vtable).name method.value)
-        (listed methods.value)) M.names }
-    requires unnamed { AreNames M.names
-        (IsFirstWith (λ method. (⟦<dyn Method as Method>⟧ method.vtable).name method.value)
-        (listed methods.value)) }
-    requires rings { (N.ring ≡ Some (in_name rings.orders.0))
-        × (in_name rings.orders.0 ≡ out_name rings.orders.1)
-        × (in_name rings.senders.0 ≡ out_name rings.senders.1) }
-    requires unused { (put_in rings.orders.0 ≡ []) × (taken rings.orders.1 ≡ []) }
-    requires unsent { (put_in rings.senders.0 ≡ []) × (taken rings.senders.1 ≡ []) }
+    requires handle { IsUnused A.parts B.parts C.parts handle }
+    requires methods { AreKnownBy ⟦<dyn Method as Method>⟧ (listed methods.value)
+        M.known M.names }
+    requires rings { (N.ring ≡ Some (in_name rings.orders.0)) × AreNew rings }
     requires book { register.seen.book ≡ J.book }
     ensures served { (came : List ℕ) × Consumes (I.remaining input.old) (I.remaining input.new) came
         × IsServed (λ calls. items_of calls.full calls.last) O.contents O.failed M.known M.names
@@ -389,27 +351,12 @@ where
     O: ConnWrite + Send + Drop + 'static,
     G: Gate + Send + Sync + Drop + 'static,
     R: Threads + Wait + Clock + Copy + Send + Sync + Drop + 'static,
-    requires came { (handle.came.parts ≡ A.parts) × (0 < A.parts) × (handle.came.amount ≡ 0) }
-    requires calls { (handle.calls.parts ≡ B.parts) × (0 < B.parts) × (handle.calls.amount ≡ 0) }
-    requires announced { (handle.announced.parts ≡ C.parts) × (0 < C.parts)
-        × (handle.announced.amount ≡ 0) }
-    requires rings { (N.ring ≡ Some (in_name rings.orders.0))
-        × (in_name rings.orders.0 ≡ out_name rings.orders.1)
-        × (in_name rings.senders.0 ≡ out_name rings.senders.1) }
-    requires unused { (put_in rings.orders.0 ≡ []) × (taken rings.orders.1 ≡ []) }
-    requires unsent { (put_in rings.senders.0 ≡ []) × (taken rings.senders.1 ≡ []) }
+    requires handle { IsUnused A.parts B.parts C.parts handle }
+    requires rings { (N.ring ≡ Some (in_name rings.orders.0)) × AreNew rings }
     requires book { register.seen.book ≡ J.book }
-    ensures kept { IfOk result (λ begun. (sent : List SentItems) → KeptFor M.known M.names sent []
-        begun.reader.reading begun.reader.orders) }
-    ensures none_home { IfOk result (λ begun. taken begun.reader.reading.home ≡ []) }
-    ensures uncounted { IfOk result (λ begun. (begun.intake.calls ≡ 0)
-        × (begun.intake.came ≡ 0)) }
-    ensures device { IfOk result (λ begun. O.contents begun.writing.promise.device.value
-        ≡ O.contents output) }
-    ensures route { IfOk result (λ begun. N.ring
-        ≡ Some (out_name begun.writing.promise.orders.value)) }
-    ensures way { IfOk result (λ begun. out_name begun.reader.reading.home
-        ≡ in_name begun.writing.promise.home.value) }
+    ensures begun { IfOk result (λ begun. HasBegun M.known M.names N.ring (O.contents output)
+        (O.contents begun.writing.promise.device.value) begun.writing.promise.orders.value
+        begun.writing.promise.home.value begun.intake begun.reader) }
     ensures served { IfErr result (λ served. (rest : Option (List ℕ)) (read_failed : Bool)
         → IsServed
         (λ calls. items_of calls.full calls.last) O.contents O.failed M.known M.names
@@ -489,11 +436,8 @@ where
     // The connection is served, whatever was heard, for the senders that came back by then. The
     // report has an account for each call that was admitted.
     ensures served { (sent : List SentItems) × AreCarried sent (taken reader.reading.home)
-        × ((came : List ℕ) (rest : Option (List ℕ)) (told : List Step) (read_failed : Bool)
-        → HasRead M.known M.names sent read came told reader.reading reader.orders
-        → Covers told intake
-        → (read ≡ ending.ReadFailed → read_failed ≡ true)
-        → (IsOfInput read → reader.orders.has_stopped ≡ false → IsAtEnd rest)
+        × ((came : List ℕ) (rest : Option (List ℕ)) (read_failed : Bool)
+        → HasReadOut M.known M.names sent read came rest read_failed intake reader
         → IsServed (λ calls. items_of calls.full calls.last) O.contents O.failed M.known M.names
         came rest (O.contents writing.promise.device.value) read_failed result.report.ending
         result.report.calls result.output
@@ -524,22 +468,14 @@ where
     O: ConnWrite + Send + Drop + 'static,
     G: Gate + Send + Sync + Drop + 'static,
     R: Threads + Wait + Clock + Copy + Send + Sync + Drop + 'static,
-    requires route { N.ring ≡ Some (out_name written.orders) }
-    requires way { out_name reader.reading.home ≡ in_name written.senders.sends.home }
-    requires none_left { reader.orders.backlog.items ≡ [] }
+    requires ends { CanMeet N.ring written.orders written.senders reader }
+    // The orders that the run obeyed begin those that were put.
     ensures obeyed { IsPrefix (taken written.orders) (put_of reader.orders) }
-    ensures came { IsPrefix (taken reader.reading.home) (put_in written.senders.sends.home) }
-    ensures accounts { (sent : List SentItems) (told : List Step)
-        → AreCarried sent (put_in written.senders.sends.home) → CarriesRest sent written.senders
-        → IfSome reader.orders.unput (CarriesOpen sent)
-        → Reads M.known M.names (carried_in sent) told reader.reading
-        → AreAccounts M.known M.names (carried_in sent) told (reported told)
-        (items_of result.report.calls.full result.report.calls.last) }
+    ensures back { HasTakenBack M.known M.names written.senders
+        (items_of result.report.calls.full result.report.calls.last) reader }
     ensures output { result.output ≡ written.device }
-    ensures ending { result.report.ending
-        ≡ ended_by read written.ending reader.orders.has_dropped }
-    ensures halted { reader.orders.has_stopped ≡ true → written.ending ≡ None
-        → reader.orders.has_dropped ≡ true }
+    ensures ends { EndsAs read written.ending reader.orders.has_stopped reader.orders.has_dropped
+        result.report.ending }
 {
     let WriterResult {
         ending,
@@ -573,10 +509,9 @@ where
     requires none_left { orders.backlog.items ≡ [] }
     // The orders that the run obeyed begin those that were put.
     ensures obeyed { IsPrefix (taken rx) (put_of orders) }
-    ensures output { result.output ≡ output }
-    ensures calls { result.report.calls ≡ calls }
-    ensures ending { result.report.ending ≡ ended_by read written orders.has_dropped }
-    ensures halted { orders.has_stopped ≡ true → written ≡ None → orders.has_dropped ≡ true }
+    ensures keeps { (result.output ≡ output) × (result.report.calls ≡ calls) }
+    ensures ends { EndsAs read written orders.has_stopped orders.has_dropped
+        result.report.ending }
 {
     let (has_dropped, has_stopped) = (orders.has_dropped, orders.has_stopped);
     orders.meet(rx);

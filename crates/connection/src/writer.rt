@@ -105,8 +105,8 @@ where
             (ending_told result.written.ending) result.written.device }
         ensures name { out_name result.written.orders ≡ out_name self.writing.inbox.ring }
         ensures way { in_name result.written.senders.sends.home ≡ in_name self.writing.sends.home }
-        ensures amount { result.announced.amount ≡ self.outlet }
-        ensures parts { result.announced.parts ≡ C.parts }
+        ensures share { (result.announced.amount ≡ self.outlet)
+            × (result.announced.parts ≡ C.parts) }
     {
         let Writer {
             outlet,
@@ -457,22 +457,18 @@ where
     W: ConnWrite + Send + Drop + 'static,
     G: Gate + Send + Sync + Drop + 'static,
     R: Threads + Wait + Copy + Send + Sync + Drop + 'static,
-    requires none { taken taking ≡ [] }
-    requires none_back { put_in home ≡ [] }
-    requires untold { outlet ≡ 0 }
-    ensures begun { IfOk result (λ writing. W.contents writing.promise.device.value
-        ≡ W.contents device) }
-    ensures ring { IfOk result (λ writing. writing.promise.orders.value ≡ taking) }
-    ensures way { IfOk result (λ writing. writing.promise.home.value ≡ home) }
-    ensures same { OnOk result (orders.new ≡ orders.old) }
-    ensures put { OnErr result (Ordered [] orders.old
-        → Closed (controls.InputEnded ∷ []) orders.new) }
-    ensures none_left { OnErr result (orders.new.backlog.items ≡ []) }
-    ensures name { IfErr result (λ parted. out_name parted.written.orders ≡ out_name taking) }
+    requires unused { (taken taking ≡ []) × (put_in home ≡ []) × (outlet ≡ 0) }
+    ensures begun { IfOk result (λ writing. (writing.promise.orders.value ≡ taking)
+        × (writing.promise.home.value ≡ home)
+        × (W.contents writing.promise.device.value ≡ W.contents device)
+        × (orders.new ≡ orders.old)) }
+    ensures closed { OnErr result ((orders.new.backlog.items ≡ [])
+        × (Ordered [] orders.old → Closed (controls.InputEnded ∷ []) orders.new)) }
+    ensures own { IfErr result (λ parted. (out_name parted.written.orders ≡ out_name taking)
+        × (parted.announced.parts ≡ C.parts)) }
     ensures sent { IfErr result (λ parted. HasSent W.contents W.failed (W.contents device)
         parted.announced.amount (taken parted.written.orders) parted.written.senders
         (ending_told parted.written.ending) parted.written.device) }
-    ensures parts { IfErr result (λ parted. parted.announced.parts ≡ C.parts) }
 {
     let begun = WriterPromise {
         device: Snapshot::of(&device),

@@ -1,17 +1,16 @@
 //! What the reading thread takes back of calls, and how it ends.
 
-ghost use mathlib.Core.List.{IsPrefix};
-ghost use Rattle.std.specs.Prelude.{◌≡◌, ◌++◌, ◌∷◌, List, [], IfSome, true};
-ghost use Rattle.lane.specs.Ring.{in_name, out_name, put_in, taken};
+ghost use Rattle.std.specs.Prelude.{◌≡◌, ◌++◌, ◌∷◌, List, [], None, IfSome, true};
+ghost use Rattle.lane.specs.Ring.{in_name, out_name};
 ghost use Rattle.callparts.specs.Blocks.{items_of};
 ghost use Rattle.readerloop.specs.Calls.{SentItems, carried_in};
 ghost use Rattle.readerloop.specs.Kept.{unsettled};
 ghost use Rattle.readerloop.specs.Readings.{KeepsNext, Reads};
-ghost use Rattle.readerloop.specs.Reports.{AreAccounts};
-ghost use Rattle.readerloop.specs.Steps.{Step, reported};
-ghost use Rattle.connection.specs.Heard.{AreCarried, Collects, CutsSome, Grows, HasEnded};
+ghost use Rattle.readerloop.specs.Steps.{Step};
+ghost use Rattle.connection.specs.Heard.{Collects};
 ghost use Rattle.outwriter.specs.declared.control.WriterOrder.TheVariants as orders;
-ghost use Rattle.connection.specs.Puts.{put_of};
+ghost use Rattle.connection.specs.Puts.{DropsNone, put_of};
+ghost use Rattle.connection.specs.Readers.{ActsAlone, Finishes, HasTakenBack};
 ghost use Rattle.connection.specs.Rest.{CarriesOpen, CarriesRest};
 
 use super::Reader;
@@ -40,13 +39,7 @@ where
     /// After the last event: ends all halves and workers, and lets the writer end.
     #[inline(never)]
     pub(crate) fn end(&mut self)
-        ensures grows { Grows self.old.reading self.new.reading }
-        ensures none_left { self.new.orders.backlog.items ≡ [] }
-        ensures ended { (sent : List SentItems) (told : List Step)
-            → AreCarried sent (taken self.new.reading.home)
-            → Reads M.known M.names (carried_in sent) told self.old.reading
-            → (cuts : List Step) × HasEnded M.known M.names sent told cuts self.new.reading
-            self.old.orders self.new.orders }
+        ensures finishes { Finishes M.known M.names self.old self.new }
     {
         self.cut_all();
         let rt = self.rt;
@@ -78,9 +71,7 @@ where
         ensures collects { Collects M.known M.names self.old.reading self.new.reading }
         ensures put { put_of self.new.orders ≡ put_of self.old.orders ++ orders.Close ∷ [] }
         ensures none_left { self.new.orders.backlog.items ≡ [] }
-        ensures stopped { self.new.orders.has_stopped ≡ self.old.orders.has_stopped }
-        ensures dropped { self.new.orders.has_dropped ≡ self.old.orders.has_dropped }
-        ensures unput { self.new.orders.unput ≡ self.old.orders.unput }
+        ensures drops { DropsNone self.old.orders self.new.orders }
     {
         let rt = self.rt;
         'tries: for _ in rt.forever() {
@@ -102,17 +93,9 @@ where
     #[inline(never)]
     pub(crate) fn meet(self, senders: Senders<J>) -> (Accounts, Orders<A, B, C, J, N>)
         requires way { out_name self.reading.home ≡ in_name senders.sends.home }
-        ensures came { IsPrefix (taken self.reading.home) (put_in senders.sends.home) }
-        ensures accounts { (sent : List SentItems) (told : List Step)
-            → AreCarried sent (put_in senders.sends.home) → CarriesRest sent senders
-            → IfSome self.orders.unput (CarriesOpen sent)
-            → Reads M.known M.names (carried_in sent) told self.reading
-            → AreAccounts M.known M.names (carried_in sent) told (reported told)
-            (items_of result.0.full result.0.last) }
-        ensures outbox { result.1.outbox ≡ self.orders.outbox }
-        ensures backlog { result.1.backlog ≡ self.orders.backlog }
-        ensures stopped { result.1.has_stopped ≡ self.orders.has_stopped }
-        ensures dropped { result.1.has_dropped ≡ self.orders.has_dropped }
+        ensures back { HasTakenBack M.known M.names senders
+            (items_of result.0.full result.0.last) self }
+        ensures orders { result.1 ≡ record self.orders { unput = None } }
     {
         let mut reader = self;
         reader.take_unput();
@@ -135,10 +118,7 @@ where
             → IfSome self.old.orders.unput (CarriesOpen sent)
             → Reads M.known M.names (carried_in sent) told self.old.reading
             → Reads M.known M.names (carried_in sent) told self.new.reading }
-        ensures outbox { self.new.orders.outbox ≡ self.old.orders.outbox }
-        ensures backlog { self.new.orders.backlog ≡ self.old.orders.backlog }
-        ensures stopped { self.new.orders.has_stopped ≡ self.old.orders.has_stopped }
-        ensures dropped { self.new.orders.has_dropped ≡ self.old.orders.has_dropped }
+        ensures orders { self.new.orders ≡ record self.old.orders { unput = None } }
     {
         if let Some(WriterOrder::Open(_, opening)) = self.orders.unput.take() {
             let OpeningCall { sending, .. } = opening;
@@ -216,8 +196,7 @@ where
 
     /// After the last event: cuts the calls whose halves the client neither ended nor reset.
     fn cut_all(&mut self)
-        ensures cuts { CutsSome M.known M.names true self.old.reading self.old.orders
-            self.new.reading self.new.orders }
+        ensures cuts { ActsAlone M.known M.names true self.old self.new }
     {
         'places: for place in 0..self.reading.unsettled() {
             self.cut_at(place);
@@ -226,8 +205,7 @@ where
 
     /// Cuts the call at this place, if its client neither ended nor reset its half.
     fn cut_at(&mut self, place: usize)
-        ensures cuts { CutsSome M.known M.names true self.old.reading self.old.orders
-            self.new.reading self.new.orders }
+        ensures cuts { ActsAlone M.known M.names true self.old self.new }
     {
         if let Some(decided) = self.reading.cut_off(place) {
             self.act(decided);

@@ -2,14 +2,15 @@
 
 ghost use Rattle.callhead.specs.declared.head.CallHead.{CallHead as Head};
 ghost use Rattle.std.specs.Prelude.{◌≡◌, ◌∷◌, [], IfSome, true};
-ghost use Rattle.callparts.specs.Workers.{IsKnown};
+ghost use Rattle.callparts.specs.Workers.{IsWithin};
 ghost use Rattle.handlers.specs.Listed.{listed};
 ghost use Rattle.session.specs.declared.event.InEvent.TheVariants as events;
-ghost use Rattle.readerloop.specs.Calls.{AreNames, IsFirstWith};
 ghost use Rattle.readerloop.specs.Readings.{IsNext, KeepsNext};
 ghost use Rattle.readerloop.specs.WorkerHandles.{HasPlacesAt};
-ghost use Rattle.connection.specs.Heard.{Collects, ReadsWith};
+ghost use Rattle.connection.specs.Heard.{Collects};
 ghost use Rattle.connection.specs.Limits.{MayTurnAway, Tally, one_more};
+ghost use Rattle.connection.specs.Methods.{AreKnownBy, answers_of};
+ghost use Rattle.connection.specs.Readers.{FollowsWith};
 
 use super::Reader;
 use crate::intake::Intake;
@@ -49,17 +50,10 @@ where
         head: CallHead,
         methods: &Arc<Methods>,
     ) -> Option<Ending>
-        requires known { IsKnown M.known (λ m. answers (m.vtable, m.value))
-            (listed methods.now.value) }
-        requires named { AreNames
-            (IsFirstWith (λ m. (⟦<dyn Method as Method>⟧ m.vtable).name m.value)
-            (listed methods.now.value)) M.names }
-        requires unnamed { AreNames M.names
-            (IsFirstWith (λ m. (⟦<dyn Method as Method>⟧ m.vtable).name m.value)
-            (listed methods.now.value)) }
-        ensures reads { ReadsWith M.known M.names intake.old intake.new
-            (events.Open id head ∷ []) result
-            self.old.reading self.old.orders self.new.reading self.new.orders }
+        requires methods { AreKnownBy ⟦<dyn Method as Method>⟧ (listed methods.now.value)
+            M.known M.names }
+        ensures reads { FollowsWith M.known M.names intake.old intake.new
+            (events.Open id head ∷ []) result self.old self.new }
     {
         let rt = self.rt;
         let index = methods.find(head.path.as_slice());
@@ -80,13 +74,12 @@ where
         request: Request,
         methods: &Arc<Methods>,
     ) -> Option<Ending>
-        requires known { IsKnown M.known (λ m. answers (m.vtable, m.value))
-            (listed methods.now.value) }
+        requires known { IsWithin M.known
+            (answers_of ⟦<dyn Method as Method>⟧ (listed methods.now.value)) }
         requires named { M.names request.head.path request.index }
         requires next { IsNext request.id self.old.reading }
-        ensures reads { ReadsWith M.known M.names intake.old intake.new
-            (events.Open request.id request.head ∷ []) result
-            self.old.reading self.old.orders self.new.reading self.new.orders }
+        ensures reads { FollowsWith M.known M.names intake.old intake.new
+            (events.Open request.id request.head ∷ []) result self.old self.new }
     {
         let rt = self.rt;
         match intake.admit(&rt, request.id) {
@@ -98,8 +91,8 @@ where
     /// A call isn't admitted. If that is because the server drains, GOAWAY is ordered first.
     fn turn_away(&mut self, id: StreamId, fault: AdmitFault) -> Option<Ending>
         ensures reads { (head : Head) (tally : Tally) → MayTurnAway tally.calls true fault
-            → ReadsWith M.known M.names tally tally (events.Open id head ∷ []) result
-            self.old.reading self.old.orders self.new.reading self.new.orders }
+            → FollowsWith M.known M.names tally tally (events.Open id head ∷ []) result
+            self.old self.new }
     {
         match fault {
             AdmitFault::Draining => self.turn_away_drained(id),
@@ -110,8 +103,8 @@ where
     /// A call isn't admitted because the server drains. GOAWAY is ordered first.
     fn turn_away_drained(&mut self, id: StreamId) -> Option<Ending>
         ensures reads { (head : Head) (tally : Tally)
-            → ReadsWith M.known M.names tally tally (events.Open id head ∷ []) result
-            self.old.reading self.old.orders self.new.reading self.new.orders }
+            → FollowsWith M.known M.names tally tally (events.Open id head ∷ []) result
+            self.old self.new }
     {
         self.drain();
         self.decline(id, AdmitFault::Draining)
@@ -121,8 +114,8 @@ where
     fn decline(&mut self, id: StreamId, fault: AdmitFault) -> Option<Ending>
         ensures reads { (head : Head) (tally : Tally)
             → MayTurnAway tally.calls self.old.reading.is_draining fault
-            → ReadsWith M.known M.names tally tally (events.Open id head ∷ []) result
-            self.old.reading self.old.orders self.new.reading self.new.orders }
+            → FollowsWith M.known M.names tally tally (events.Open id head ∷ []) result
+            self.old self.new }
     {
         let decided = self.reading.turn_away(id, fault);
         self.act(decided)
@@ -132,13 +125,12 @@ where
     /// are as many as calls may be live, one of them is at a call that is no longer live, and soon
     /// is free. Once the writer was seen to have stopped no call begins.
     fn start(&mut self, request: Request, methods: &Arc<Methods>) -> Option<Ending>
-        requires known { IsKnown M.known (λ m. answers (m.vtable, m.value))
-            (listed methods.now.value) }
+        requires known { IsWithin M.known
+            (answers_of ⟦<dyn Method as Method>⟧ (listed methods.now.value)) }
         requires named { M.names request.head.path request.index }
         requires next { IsNext request.id self.old.reading }
-        ensures reads { (tally : Tally) → ReadsWith M.known M.names tally (one_more tally)
-            (events.Open request.id request.head ∷ []) result
-            self.old.reading self.old.orders self.new.reading self.new.orders }
+        ensures reads { (tally : Tally) → FollowsWith M.known M.names tally (one_more tally)
+            (events.Open request.id request.head ∷ []) result self.old self.new }
     {
         let rt = self.rt;
         let (id, method) = (request.id, request.index);
@@ -199,9 +191,8 @@ where
         requires named { M.names request.head.path request.index }
         requires next { IsNext request.id self.old.reading }
         requires places { HasPlacesAt number self.old.reading.workers }
-        ensures reads { (tally : Tally) → ReadsWith M.known M.names tally (one_more tally)
-            (events.Open request.id request.head ∷ []) result
-            self.old.reading self.old.orders self.new.reading self.new.orders }
+        ensures reads { (tally : Tally) → FollowsWith M.known M.names tally (one_more tally)
+            (events.Open request.id request.head ∷ []) result self.old self.new }
     {
         let (id, method) = (request.id, request.index);
         match self.reading.engage(number, request) {
@@ -212,8 +203,8 @@ where
 
     /// Starts one more worker.
     fn hire(&mut self, methods: &Arc<Methods>) -> Result<(), AllocError>
-        requires known { IsKnown M.known (λ m. answers (m.vtable, m.value))
-            (listed methods.now.value) }
+        requires known { IsWithin M.known
+            (answers_of ⟦<dyn Method as Method>⟧ (listed methods.now.value)) }
         ensures reading { self.new.reading
             ≡ record self.old.reading { workers = self.new.reading.workers } }
         ensures orders { self.new.orders ≡ self.old.orders }
@@ -232,8 +223,8 @@ where
     fn lose(&mut self, id: StreamId, method: usize) -> Option<Ending>
         requires next { IsNext id self.old.reading }
         ensures reads { (head : Head) (tally : Tally) → M.names head.path method
-            → ReadsWith M.known M.names tally (one_more tally) (events.Open id head ∷ []) result
-            self.old.reading self.old.orders self.new.reading self.new.orders }
+            → FollowsWith M.known M.names tally (one_more tally) (events.Open id head ∷ []) result
+            self.old self.new }
     {
         self.gate.settled(&CallAccount::unserved(id, method));
         let decided = self.reading.lose(id, method);
@@ -245,8 +236,8 @@ where
         requires next { IsNext id self.old.reading }
         requires stopped { self.old.orders.has_stopped ≡ true }
         ensures reads { (head : Head) (tally : Tally) → M.names head.path method
-            → ReadsWith M.known M.names tally (one_more tally) (events.Open id head ∷ []) result
-            self.old.reading self.old.orders self.new.reading self.new.orders }
+            → FollowsWith M.known M.names tally (one_more tally) (events.Open id head ∷ []) result
+            self.old self.new }
     {
         self.gate.settled(&CallAccount::unserved(id, method));
         let decided = self.reading.pass_over(id, method);

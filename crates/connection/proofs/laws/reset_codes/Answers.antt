@@ -1,8 +1,14 @@
-use Rattle.connection.proofs.Codes.{reset-codes}
+use Rattle.connection.proofs.Codes.{order-codes, reset-codes}
 use Rattle.connection.proofs.laws.reset_codes.Goals as goal
 
 pub returns : goal.returns
-returns c =
-    λ end came told put run given entries accounts heard rising just ends are framed left streams.
-    reset-codes end came told put run given entries accounts heard rising just ends are
-    framed left streams
+returns c = record {
+  written = λ came told put run accounts given entries history are framed.
+      reset-codes history.end came told put run given entries accounts history.heard history.rising
+      history.justified history.ended are framed history.left history.rows history.ordered
+      history.obeyed history.lawful;
+  taken = λ came told put run accounts given entries history are framed.
+      order-codes history.end came told put run given entries accounts history.heard history.rising
+      history.justified history.ended are framed history.left history.rows history.ordered
+      history.obeyed;
+}

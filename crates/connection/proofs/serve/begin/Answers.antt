@@ -2,7 +2,7 @@ use Rattle.std.proofs.Common.{◌≡◌, ◌≢◌, ◌∙◌, ◌++◌, arith, 
 use Rattle.callparts.specs.Blocks.{items_of}
 use Rattle.callparts.specs.declared.report.Ending.{Ending}
 use Rattle.callparts.specs.declared.report.Ending.TheVariants.{Drained, OutOfMemory, WriteFailed}
-use Rattle.lane.specs.Ring.{taken}
+use Rattle.lane.specs.Ring.{in_name, out_name, taken}
 use Rattle.outwriter.specs.declared.control.WriterOrder.TheVariants.{InputEnded}
 use Rattle.writerloop.specs.Endings.{ending_told}
 use Rattle.writerloop.specs.Orders.{order_in, orders_of}
@@ -28,13 +28,28 @@ not-drained one lacked drained = cc
 spare : {P : Type 0} (one : Ending) → one ≡ OutOfMemory → (Some one ≢ Some OutOfMemory) → P
 spare one lacked other = absurd (other (ap Some lacked))
 
-pub returns-in-Ok-start-clause-kept : goal.returns-in-Ok-start-clause-kept
-returns-in-Ok-start-clause-kept g c = λ sent.
-    kept-none sent _ _ (c.new-in-Ok-start.ensures.reads sent)
-    (ap put_of (c.new-in-Ok-start.ensures.orders ∙ c.in-Ok-start.ensures.same)
-    ∙ c.new-orders.ensures.put c.requires.unused.0)
-    (ap (λ orders. orders.unput) (c.new-in-Ok-start.ensures.orders ∙ c.in-Ok-start.ensures.same)
-    ∙ c.new-orders.ensures.unput)
+pub returns-in-Ok-start-clause-begun : goal.returns-in-Ok-start-clause-begun
+returns-in-Ok-start-clause-begun g c =
+    let begun = c.in-Ok-start.ensures.begun in
+    let rings = c.requires.rings.1 in
+    let handle = c.requires.handle in
+    let orders = c.new-in-Ok-start.ensures.orders ∙ begun.3 in
+    record {
+      kept = λ sent.
+          kept-none sent _ _ (c.new-in-Ok-start.ensures.reads sent)
+          (ap put_of orders ∙ c.new-orders.ensures.put rings.unput.0)
+          (ap (λ orders. orders.unput) orders ∙ c.new-orders.ensures.unput);
+      none_home = ap taken c.new-in-Ok-start.ensures.home ∙ rings.unsent.1;
+      uncounted = (
+        c.new-intake.ensures.calls ∙ handle.calls.2,
+        c.new-intake.ensures.came ∙ handle.came.2,
+      );
+      device = begun.2;
+      orders = c.requires.rings.0 ∙ ap Some (rings.orders ∙ sym (ap out_name begun.0));
+      way =
+          ap out_name c.new-in-Ok-start.ensures.home
+          ∙ (sym rings.senders ∙ sym (ap in_name begun.1));
+    }
 
 pub returns-in_default-clause-served : goal.returns-in_default-clause-served
 returns-in_default-clause-served g c = λ rest read_failed.
@@ -53,7 +68,7 @@ returns-in-Err-clause-served g c = λ rest read_failed.
     let written = parted.written in
     let sent = c.in-Err.ensures.sent in
     let lacked : c.meet.result.report.ending ≡ OutOfMemory =
-    is.ending ∙ lacked-by written.ending c.start.new.orders.has_dropped in
+    is.ends.ending ∙ lacked-by written.ending c.start.new.orders.has_dropped in
     let left = orders_of (order_in written.senders.aside) ++ orders_of is.obeyed.0 in
     let all : put_orders c.start.new.orders ≡ orders_of sent.given ++ left =
     given-first sent.given (order_in written.senders.aside) (taken written.orders) is.obeyed.0
@@ -70,12 +85,12 @@ returns-in-Err-clause-served g c = λ rest read_failed.
     absurd (not-drained c.meet.result.report.ending lacked
     (drained-is c.meet.result.report.ending drained))) in
     let ordered = closed-put (InputEnded ∷ []) c.start.new.orders
-    (c.in-Err.ensures.put (ordered-none c.new-orders.result
-    (c.new-orders.ensures.put c.requires.unused.0) c.new-orders.ensures.unput)) in
+    (c.in-Err.ensures.closed.1 (ordered-none c.new-orders.result
+    (c.new-orders.ensures.put c.requires.rings.1.unput.0) c.new-orders.ensures.unput)) in
     served-by _ _ (λ calls. items_of calls.full calls.last) contents failed _ rest _
-    _ _ _ _ _ is.output
+    _ _ _ _ _ is.keeps.0
     (none-served _ _ (λ calls. items_of calls.full calls.last) contents failed rest
     (contents c.args.output) _ _ c.meet.result.report.ending _
     c.meet.result.report.calls written.device lacked
-    (ap (λ calls. items_of calls.full calls.last) is.calls ∙ c.new-calls.ensures) ordered
-    (omega (arith, c.audit.ensures.within, c.new-intake.ensures.came, c.requires.came.2)) put)
+    (ap (λ calls. items_of calls.full calls.last) is.keeps.1 ∙ c.new-calls.ensures) ordered
+    (omega (arith, c.audit.ensures.within, c.new-intake.ensures.came, c.requires.handle.came.2)) put)

@@ -10,13 +10,14 @@ use Rattle.connection.proofs.Ends.{ended-accounted, ended-served, gave, gave-the
 use Rattle.connection.proofs.Reports.{served-by}
 use Rattle.connection.proofs.serve.end.Goals as goal
 
-pub meet_writer-requires-clause-route : goal.meet_writer-requires-clause-route
-meet_writer-requires-clause-route g c = λ κs within.
-    c.requires.route ∙ ap Some (sym c.join-written.ensures.0)
-
-pub meet_writer-requires-clause-way : goal.meet_writer-requires-clause-way
-meet_writer-requires-clause-way g c = λ κs within.
-    c.end.ensures.grows.name ∙ (c.requires.way ∙ sym c.join-written.ensures.1)
+pub meet_writer-requires : goal.meet_writer-requires
+meet_writer-requires g c = λ κs within. record {
+  ends = record {
+    orders = c.requires.route ∙ ap Some (sym c.join-written.ensures.0);
+    way = c.end.ensures.finishes.grows.name ∙ (c.requires.way ∙ sym c.join-written.ensures.1);
+    none_left = c.end.ensures.finishes.none_left;
+  };
+}
 
 pub returns : goal.returns
 returns g c =
@@ -39,31 +40,32 @@ returns g c =
     record {
       served = (
         gave known names (λ (calls : Accounts). items_of calls.full calls.last) contents failed
-            reading mid old orders c.end.ensures.grows c.end.ensures.ended c.requires.heard before
-            amount took written.senders told written.device sent is.came is.obeyed,
+            reading mid old orders c.end.ensures.finishes.grows c.end.ensures.finishes.ended c.requires.heard before
+            amount took written.senders told written.device sent is.back.came is.obeyed,
         gave-there known names (λ (calls : Accounts). items_of calls.full calls.last) contents
-            failed reading mid old orders c.end.ensures.grows c.end.ensures.ended c.requires.heard
-            before amount took written.senders told written.device sent is.came is.obeyed,
-        λ came rest heard read_failed has covers unread over. (
+            failed reading mid old orders c.end.ensures.finishes.grows c.end.ensures.finishes.ended c.requires.heard
+            before amount took written.senders told written.device sent is.back.came is.obeyed,
+        λ came rest read_failed has. (
           served-by known names (λ (calls : Accounts). items_of calls.full calls.last) contents
               failed came rest before read_failed report.ending report.calls written.device
               c.meet_writer.result.output is.output
               (ended-served known names
               (λ (calls : Accounts). items_of calls.full calls.last) contents failed reading
-              mid old orders c.end.ensures.grows c.end.ensures.ended c.requires.heard before
-              amount took written.senders told written.device sent is.came is.obeyed
-              c.args.read report.ending report.calls came rest heard read_failed
+              mid old orders c.end.ensures.finishes.grows c.end.ensures.finishes.ended c.requires.heard before
+              amount took written.senders told written.device sent is.back.came is.obeyed
+              c.args.read report.ending report.calls came rest has.told read_failed
               (λ (unbroken : c.args.read ≢ WriteFailed).
               subst (λ (ending : Ending). Meets c.args.read ending told orders.has_dropped)
-              (sym is.ending) (meets c.args.read written.ending orders.has_dropped unbroken))
-              is.accounts has (omega (arith, c.audit.ensures.within, covers.came)) unread over
-              (λ stopped none. is.halted stopped (untold written.ending none))),
-          le_trans covers.calls
+              (sym is.ends.ending) (meets c.args.read written.ending orders.has_dropped unbroken))
+              is.back.accounts has.read (omega (arith, c.audit.ensures.within, has.covered.came))
+              has.failed has.over
+              (λ stopped none. is.ends.halted stopped (untold written.ending none))),
+          le_trans has.covered.calls
               (ended-accounted known names
               (λ (calls : Accounts). items_of calls.full calls.last) contents failed reading mid
-              old orders c.end.ensures.grows c.end.ensures.ended c.requires.heard before amount
-              took written.senders told written.device sent is.came is.obeyed
-              report.calls heard is.accounts has.reads),
+              old orders c.end.ensures.finishes.grows c.end.ensures.finishes.ended c.requires.heard before amount
+              took written.senders told written.device sent is.back.came is.obeyed
+              report.calls has.told is.back.accounts has.read.reads),
         ),
       );
     }

@@ -9,27 +9,30 @@ use Rattle.connection.proofs.serve.meet_writer.Goals as goal
 
 pub returns-clause-obeyed : goal.returns-clause-obeyed
 returns-clause-obeyed g c =
-    let first = c.meet.ensures.obeyed in (
+    let first = c.meet.ensures.obeyed in
+    let orders = c.meet-calls.ensures.orders in (
       first.0,
       first.1
-          ∙ put-same c.args.reader.orders c.meet-calls.result.1 c.meet-calls.ensures.outbox
-          c.meet-calls.ensures.backlog,
+          ∙ put-same c.args.reader.orders c.meet-calls.result.1
+          (ap (λ orders. orders.outbox) orders) (ap (λ orders. orders.backlog) orders),
     )
 
-pub returns-clause-accounts : goal.returns-clause-accounts
-returns-clause-accounts g c = λ sent told carried rest unput reads.
-    subst (λ calls.
-    AreAccounts g.M.Answering.known g.M.Answering.names (carried_in sent) told (reported told)
-    (items_of calls.full calls.last)) (sym c.meet.ensures.calls)
-    (c.meet-calls.ensures.accounts sent told carried rest unput reads)
+pub returns-clause-back : goal.returns-clause-back
+returns-clause-back g c = record {
+  came = c.meet-calls.ensures.back.came;
+  accounts = λ sent told carried rest unput reads.
+      subst (λ calls.
+      AreAccounts g.M.Answering.known g.M.Answering.names (carried_in sent) told (reported told)
+      (items_of calls.full calls.last)) (sym c.meet.ensures.keeps.1)
+      (c.meet-calls.ensures.back.accounts sent told carried rest unput reads);
+}
 
-pub returns-clause-ending : goal.returns-clause-ending
-returns-clause-ending g c =
-    c.meet.ensures.ending
-    ∙ ap (λ dropped. ended_by c.args.read c.args.written.ending dropped)
-    c.meet-calls.ensures.dropped
-
-pub returns-clause-halted : goal.returns-clause-halted
-returns-clause-halted g c = λ stopped none.
-    sym c.meet-calls.ensures.dropped
-    ∙ c.meet.ensures.halted (c.meet-calls.ensures.stopped ∙ stopped) none
+pub returns-clause-ends : goal.returns-clause-ends
+returns-clause-ends g c =
+    let ends = c.meet.ensures.ends in
+    let dropped = ap (λ orders. orders.has_dropped) c.meet-calls.ensures.orders in
+    let stopped = ap (λ orders. orders.has_stopped) c.meet-calls.ensures.orders in
+    record {
+      ending = ends.ending ∙ ap (ended_by c.args.read c.args.written.ending) dropped;
+      halted = λ was none. sym dropped ∙ ends.halted (stopped ∙ was) none;
+    }

@@ -6,17 +6,15 @@ use Rattle.connection.proofs.serve.serve_over.Goals as goal
 
 pub end-requires-clause-heard : goal.end-requires-clause-heard
 end-requires-clause-heard g c = λ κs within sent carried.
-    let read = c.read-read.ensures.heard sent carried (c.in-Ok.ensures.kept sent) in
-    (read.2.0, read.2.1.reads, read.2.1.ordered)
+    let read = c.read-read.ensures.read sent carried (c.in-Ok.ensures.begun.kept sent) in
+    (read.2.told, read.2.read.reads, read.2.read.ordered)
 
 pub returns : goal.returns
 returns g c =
     let is = c.end.ensures.served in
-    let read = c.read-read.ensures.heard is.0 is.1 (c.in-Ok.ensures.kept is.0) in
+    let read = c.read-read.ensures.read is.0 is.1 (c.in-Ok.ensures.begun.kept is.0) in
     let served =
-    is.2 read.0 (g.I.ConnRead.remaining c.read-read.new.input) read.2.0 _ read.2.1 read.2.2
-    (c.read-read.ensures.failed is.0 is.1 (c.in-Ok.ensures.kept is.0))
-    (c.read-read.ensures.over is.0 is.1 (c.in-Ok.ensures.kept is.0)) in
+    is.2 read.0 (g.I.ConnRead.remaining c.read-read.new.input) _ read.2 in
     record {
       served = (
         read.0,
@@ -28,7 +26,7 @@ returns g c =
             (g.I.ConnRead.failed c.read-read.new.input) c.end.result.report.ending
             c.end.result.report.calls
             c.end.result.output)
-            c.in-Ok.ensures.device served.0,
+            c.in-Ok.ensures.begun.device served.0,
       );
     }
 

@@ -14,7 +14,7 @@ returns-in-Err-clause-sent g c =
     let led =
     subst (λ (credit : ℕ).
     Led contents failed (contents c.of.result.value) credit c.new-writing.result)
-    (sym c.requires.untold) c.new-writing.ensures.led in
+    (sym c.requires.unused.2) c.new-writing.ensures.led in
     let kept : HasSent contents failed (contents c.of.result.value) parted.announced.amount
     (taken parted.written.orders) parted.written.senders (ending_told parted.written.ending)
     parted.written.device =
@@ -24,11 +24,14 @@ returns-in-Err-clause-sent g c =
     parted.written.senders (ending_told parted.written.ending) parted.written.device)
     (ap contents c.of.ensures) kept
 
-pub returns-in-Err-clause-put : goal.returns-in-Err-clause-put
-returns-in-Err-clause-put g c = λ ordered.
-    closed-behind (InputEnded ∷ []) c.put.new.self c.close.new.self c.close.ensures.put
-    c.close.ensures.dropped c.close.ensures.unput
-    (ordered-put [] InputEnded c.args.orders.now c.put.new.self c.put.ensures.puts tt ordered)
+pub returns-in-Err-clause-closed : goal.returns-in-Err-clause-closed
+returns-in-Err-clause-closed g c = (
+  c.close.ensures.none_left,
+  λ ordered.
+      closed-behind (InputEnded ∷ []) c.put.new.self c.close.new.self c.close.ensures.put
+      c.close.ensures.drops.dropped c.close.ensures.drops.unput
+      (ordered-put [] InputEnded c.args.orders.now c.put.new.self c.put.ensures.puts tt ordered),
+)
 
 pub spawn_with-requires-clause-keeps : goal.spawn_with-requires-clause-keeps
 spawn_with-requires-clause-keeps g c = λ κs within r claims.
@@ -45,6 +48,6 @@ spawn_with-requires-clause-keeps g c = λ κs within r claims.
       claims.1.1.0 (contents c.of.result.value)
           (subst (λ (credit : ℕ).
           Led contents failed (contents c.of.result.value) credit c.new-writing.result)
-          (sym c.requires.untold) c.new-writing.ensures.led),
+          (sym c.requires.unused.2) c.new-writing.ensures.led),
       claims.1.1.1,
     ) in kept

@@ -1,10 +1,8 @@
 use Rattle.std.proofs.Common.{◌≡◌}
-use Rattle.connection.specs.Puts.{put_of}
+use Rattle.connection.specs.Puts.{DropsNone, put_of}
 use Rattle.connection.proofs.orders.Orders.close.Given as goal
 
 -- the last order wasn't put yet
 abbrev pub invariant-tries : goal.invariant-tries
 invariant-tries g l =
-    (put_of l.self ≡ put_of l.fn.self) × (l.self.has_dropped ≡ l.fn.self.has_dropped)
-    × (l.self.unput ≡ l.fn.self.unput)
-    × (l.self.has_stopped ≡ l.fn.self.has_stopped)
+    (put_of l.self ≡ put_of l.fn.self) × DropsNone l.fn.self l.self

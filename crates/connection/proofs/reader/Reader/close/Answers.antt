@@ -1,6 +1,7 @@
 use Rattle.std.proofs.Common.{◌≡◌, ◌∙◌, List, [], ◌∷◌, ◌++◌, ap, refl}
 use Rattle.outwriter.specs.declared.control.WriterOrder.TheVariants.{Close}
 use Rattle.connection.specs.Puts.{put_of}
+use Rattle.connection.proofs.Heard.{drops-none, drops-then}
 use Rattle.connection.proofs.HeardActs.{collects-none, collects-then}
 use Rattle.connection.proofs.reader.Reader.close.Goals as goal
 
@@ -9,19 +10,15 @@ behind : {T : Type 0} (was now all : List T) (one : T) → all ≡ now ++ one �
 behind was now all one placed same = placed ∙ ap (λ (xs : List _). xs ++ one ∷ []) same
 
 pub tries-init : goal.tries-init
-tries-init g c = (collects-none _ _ refl, refl, refl, refl, refl)
+tries-init g c = (collects-none _ _ refl, refl, drops-none _ _ refl)
 
 pub tries-preserved : goal.tries-preserved
 tries-preserved g c = (
   collects-then _ _ _ c.tries.invariant.0 c.settle_all.ensures.collects,
   c.try_close.ensures.full c.if-try_close.false
       ∙ (ap put_of c.settle_all.ensures.orders ∙ c.tries.invariant.1),
-  c.try_close.ensures.dropped
-      ∙ (ap (λ orders. orders.has_dropped) c.settle_all.ensures.orders ∙ c.tries.invariant.2),
-  c.try_close.ensures.unput
-      ∙ (ap (λ orders. orders.unput) c.settle_all.ensures.orders ∙ c.tries.invariant.3),
-  c.try_close.ensures.stopped
-      ∙ (ap (λ orders. orders.has_stopped) c.settle_all.ensures.orders ∙ c.tries.invariant.4),
+  drops-then _ _ _ c.tries.invariant.2
+      (drops-then _ _ _ (drops-none _ _ c.settle_all.ensures.orders) c.try_close.ensures.drops),
 )
 
 pub returns-then-try_close : goal.returns-then-try_close
@@ -31,13 +28,7 @@ returns-then-try_close g c = record {
       behind _ _ _ Close (c.try_close.ensures.put c.if-try_close.true)
       (ap put_of c.settle_all.ensures.orders ∙ c.tries.invariant.1);
   none_left = c.try_close.ensures.none_left c.if-try_close.true;
-  dropped =
-      c.try_close.ensures.dropped
-      ∙ (ap (λ orders. orders.has_dropped) c.settle_all.ensures.orders ∙ c.tries.invariant.2);
-  stopped =
-      c.try_close.ensures.stopped
-      ∙ (ap (λ orders. orders.has_stopped) c.settle_all.ensures.orders ∙ c.tries.invariant.4);
-  unput =
-      c.try_close.ensures.unput
-      ∙ (ap (λ orders. orders.unput) c.settle_all.ensures.orders ∙ c.tries.invariant.3);
+  drops =
+      drops-then _ _ _ c.tries.invariant.2
+      (drops-then _ _ _ (drops-none _ _ c.settle_all.ensures.orders) c.try_close.ensures.drops);
 }

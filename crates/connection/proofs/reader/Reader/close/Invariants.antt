@@ -1,6 +1,6 @@
 use Rattle.std.proofs.Common.{◌≡◌}
 use Rattle.connection.specs.Heard.{Collects}
-use Rattle.connection.specs.Puts.{put_of}
+use Rattle.connection.specs.Puts.{DropsNone, put_of}
 use Rattle.connection.proofs.reader.Reader.close.Given as goal
 
 -- nothing was put yet
@@ -8,6 +8,4 @@ abbrev pub invariant-tries : goal.invariant-tries
 invariant-tries g l =
     Collects g.M.Answering.known g.M.Answering.names l.fn.self.reading l.self.reading
     × (put_of l.self.orders ≡ put_of l.fn.self.orders)
-    × (l.self.orders.has_dropped ≡ l.fn.self.orders.has_dropped)
-    × (l.self.orders.unput ≡ l.fn.self.orders.unput)
-    × (l.self.orders.has_stopped ≡ l.fn.self.orders.has_stopped)
+    × DropsNone l.fn.self.orders l.self.orders

@@ -6,12 +6,6 @@ returns-then-is_draining-clause-cuts g c = cuts-none _ _ _
 
 pub returns-clause-cuts : goal.returns-clause-cuts
 returns-clause-cuts g c =
-    cuts-same-orders _ _ _ _ _ (
-      c.wake_writer.ensures.outbox,
-      c.wake_writer.ensures.dropped,
-      c.wake_writer.ensures.unput,
-      c.wake_writer.ensures.backlog,
-      c.wake_writer.ensures.stopped,
-    )
+    cuts-same-orders _ _ _ _ _ c.wake_writer.ensures.same
     (cuts-drain _ _ _ _ _ _ c.drain-decided.ensures.home c.drain-decided.ensures.decides
     c.act.ensures.acts)

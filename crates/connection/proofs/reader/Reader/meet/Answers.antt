@@ -11,21 +11,21 @@ meet_home-requires g c = record {
       ∙ (ap out_name c.take_rest-home.ensures.home ∙ ap out_name c.take_unput.ensures.home)));
 }
 
-pub returns-clause-came : goal.returns-clause-came
-returns-clause-came g c =
-    prefix-before c.args.self.reading c.take_rest-home.new.self.reading
-    c.settle_rest.new.self.reading _ _ (c.take_rest-home.ensures.home ∙ c.take_unput.ensures.home)
-    c.settle_rest.ensures.collects.grows (ap (λ ring. put_in ring) c.take_rest-home.ensures.way)
-    c.meet_home.ensures.came
-
-pub returns-clause-accounts : goal.returns-clause-accounts
-returns-clause-accounts g c = λ sent told carried rest unput reads.
-    c.into_accounts.ensures.accounts sent told
-    (reads-home sent told _ _ c.meet_home.ensures.rest
-    (c.settle_rest.ensures.collects.keeps sent told (carried-front sent
-    c.settle_rest.new.self.reading _ _ (ap (λ ring. put_in ring) c.take_rest-home.ensures.way)
-    c.meet_home.ensures.came carried)
-    (c.take_rest-home.ensures.stays sent told rest
-    (c.take_unput.ensures.stays sent told unput reads))))
-    (ap (λ reading. reading.calls.calls.items) c.meet_home.ensures.rest
-    ∙ c.settle_rest.ensures.none)
+pub returns-clause-back : goal.returns-clause-back
+returns-clause-back g c = record {
+  came =
+      prefix-before c.args.self.reading c.take_rest-home.new.self.reading
+      c.settle_rest.new.self.reading _ _ (c.take_rest-home.ensures.home ∙ c.take_unput.ensures.home)
+      c.settle_rest.ensures.collects.grows (ap (λ ring. put_in ring) c.take_rest-home.ensures.way)
+      c.meet_home.ensures.came;
+  accounts = λ sent told carried rest unput reads.
+      c.into_accounts.ensures.accounts sent told
+      (reads-home sent told _ _ c.meet_home.ensures.rest
+      (c.settle_rest.ensures.collects.keeps sent told (carried-front sent
+      c.settle_rest.new.self.reading _ _ (ap (λ ring. put_in ring) c.take_rest-home.ensures.way)
+      c.meet_home.ensures.came carried)
+      (c.take_rest-home.ensures.stays sent told rest
+      (c.take_unput.ensures.stays sent told unput reads))))
+      (ap (λ reading. reading.calls.calls.items) c.meet_home.ensures.rest
+      ∙ c.settle_rest.ensures.none);
+}

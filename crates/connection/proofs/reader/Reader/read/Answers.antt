@@ -93,27 +93,26 @@ pieces-init g c = (
   ),
 )
 
-pub returns-in-Err-Device-clause-heard : goal.returns-in-Err-Device-clause-heard
-returns-in-Err-Device-clause-heard g c = λ sent carried none.
+pub returns-in-Err-Device-clause-read : goal.returns-in-Err-Device-clause-read
+returns-in-Err-Device-clause-read g c = λ sent carried none.
     let h = c.pieces.invariant.1 sent carried none in (
       h.0,
       consumes-keeps _ _ _ h.0 h.3
           (c.in-Err-Device.ensures.kept (ap Err c.in-Err-Device.field-0-is)),
-      (h.2, failed-read sent h.1 h.2 h.0 h.0 _ _ _ refl h.4 h.5 h.6 h.7, h.8),
+      record {
+        told = h.2;
+        read = failed-read sent h.1 h.2 h.0 h.0 _ _ _ refl h.4 h.5 h.6 h.7;
+        covered = h.8;
+        failed = λ failed. c.in-Err-Device.ensures.marked (ap Err c.in-Err-Device.field-0-is);
+        over = λ input going. absurd (not-of-read input);
+      },
     )
 
 pub returns-in-Err-Device-clause-grows : goal.returns-in-Err-Device-clause-grows
 returns-in-Err-Device-clause-grows g c = c.pieces.invariant.0
 
-pub returns-in-Err-Device-clause-failed : goal.returns-in-Err-Device-clause-failed
-returns-in-Err-Device-clause-failed g c = λ sent carried none failed.
-    c.in-Err-Device.ensures.marked (ap Err c.in-Err-Device.field-0-is)
-
-pub returns-in-Err-Device-clause-over : goal.returns-in-Err-Device-clause-over
-returns-in-Err-Device-clause-over g c = λ sent carried none input going. absurd (not-of-read input)
-
-pub returns-in-Err-OutOfMemory-clause-heard : goal.returns-in-Err-OutOfMemory-clause-heard
-returns-in-Err-OutOfMemory-clause-heard g c = λ sent carried none.
+pub returns-in-Err-OutOfMemory-clause-read : goal.returns-in-Err-OutOfMemory-clause-read
+returns-in-Err-OutOfMemory-clause-read g c = λ sent carried none.
     let before =
     carried-before sent c.pieces.self.reading c.lack.new.self.reading
     (grows-home c.pieces.self.reading c.lack.new.self.reading c.lack.ensures.home) carried in
@@ -121,23 +120,21 @@ returns-in-Err-OutOfMemory-clause-heard g c = λ sent carried none.
     let some = c.in-Err-OutOfMemory.ensures.prefix in (
       h.0 ++ some.0,
       consumes-then _ _ _ h.0 some.0 h.3 some.1,
-      (
-        Lacks ∷ h.2,
-        none-read sent h.1 h.2 h.0 some.0 _ _ _ h.4 h.5 (c.lack.ensures.kept sent h.2 h.7),
-        covers-more _ (Lacks ∷ []) h.2 h.8,
-      ),
+      record {
+        told = Lacks ∷ h.2;
+        read = none-read sent h.1 h.2 h.0 some.0 _ _ _ h.4 h.5 (c.lack.ensures.kept sent h.2 h.7);
+        covered = covers-more _ (Lacks ∷ []) h.2 h.8;
+        failed = λ failed. cc;
+        over = λ input going. absurd (true≢false (sym (input-out OutOfMemory input)));
+      },
     )
 
 pub returns-in-Err-OutOfMemory-clause-grows : goal.returns-in-Err-OutOfMemory-clause-grows
 returns-in-Err-OutOfMemory-clause-grows g c =
     grows-then _ _ _ c.pieces.invariant.0 (grows-home _ _ c.lack.ensures.home)
 
-pub returns-in-Err-OutOfMemory-clause-over : goal.returns-in-Err-OutOfMemory-clause-over
-returns-in-Err-OutOfMemory-clause-over g c = λ sent carried none input going.
-    absurd (true≢false (sym (input-out OutOfMemory input)))
-
-pub returns-then-has_stopped-clause-heard : goal.returns-then-has_stopped-clause-heard
-returns-then-has_stopped-clause-heard g c = λ sent carried none.
+pub returns-then-has_stopped-clause-read : goal.returns-then-has_stopped-clause-read
+returns-then-has_stopped-clause-read g c = λ sent carried none.
     let h = c.pieces.invariant.1 sent carried none in
     let kept =
     kept-stopped sent h.2 c.pieces.self.reading c.pieces.self.orders
@@ -145,27 +142,22 @@ returns-then-has_stopped-clause-heard g c = λ sent carried none.
     let ending = c.ending.ensures in (
       h.0,
       h.3,
-      (
-        h.2,
-        input-read sent _ h.1 h.2 h.0 h.0 _ _ _ refl h.4 h.5 h.6 kept ending.input ending.goaway
-            ending.drained ending.draining,
-        h.8,
-      ),
+      record {
+        told = h.2;
+        read =
+            input-read sent _ h.1 h.2 h.0 h.0 _ _ _ refl h.4 h.5 h.6 kept ending.input ending.goaway
+            ending.drained ending.draining;
+        covered = h.8;
+        failed = λ failed. absurd (not-by-fault _ ending.input failed);
+        over = λ input going. absurd (true≢false going);
+      },
     )
 
 pub returns-then-has_stopped-clause-grows : goal.returns-then-has_stopped-clause-grows
 returns-then-has_stopped-clause-grows g c = c.pieces.invariant.0
 
-pub returns-then-has_stopped-clause-failed : goal.returns-then-has_stopped-clause-failed
-returns-then-has_stopped-clause-failed g c = λ sent carried none failed.
-    absurd (not-by-fault _ c.ending.ensures.input failed)
-
-pub returns-then-has_stopped-clause-over : goal.returns-then-has_stopped-clause-over
-returns-then-has_stopped-clause-over g c = λ sent carried none input going.
-    absurd (true≢false going)
-
-pub returns-then-count-eq0-clause-heard : goal.returns-then-count-eq0-clause-heard
-returns-then-count-eq0-clause-heard g c = λ sent carried none.
+pub returns-then-count-eq0-clause-read : goal.returns-then-count-eq0-clause-read
+returns-then-count-eq0-clause-read g c = λ sent carried none.
     let h =
     c.pieces.invariant.1 sent (carried-before sent c.pieces.self.reading
     c.heed_drain.new.self.reading (grows-home c.pieces.self.reading
@@ -175,29 +167,24 @@ returns-then-count-eq0-clause-heard g c = λ sent carried none.
     let ending = c.ending-then-count-eq0.ensures in (
       h.0 ++ came.0,
       consumes-then _ _ _ h.0 came.0 h.3 came.2,
-      (
-        b.0 ++ h.2,
-        input-read sent _ h.1 (b.0 ++ h.2) h.0 (h.0 ++ came.0) _ _ _
+      record {
+        told = b.0 ++ h.2;
+        read =
+            input-read sent _ h.1 (b.0 ++ h.2) h.0 (h.0 ++ came.0) _ _ _
             (none-came h.0 came.0 (came.1 ∙ c.if-count-eq0.true)) h.4 (b.1 ∙ h.5) b.2 b.3
-            ending.input ending.goaway ending.drained ending.draining,
-        b.4,
-      ),
+            ending.input ending.goaway ending.drained ending.draining;
+        covered = b.4;
+        failed = λ failed. absurd (not-by-fault _ ending.input failed);
+        over = λ input going. c.in-Ok.ensures.end c.if-count-eq0.true;
+      },
     )
 
 pub returns-then-count-eq0-clause-grows : goal.returns-then-count-eq0-clause-grows
 returns-then-count-eq0-clause-grows g c =
     grows-then _ _ _ c.pieces.invariant.0 (grows-home _ _ c.heed_drain.ensures.cuts.0)
 
-pub returns-then-count-eq0-clause-failed : goal.returns-then-count-eq0-clause-failed
-returns-then-count-eq0-clause-failed g c = λ sent carried none failed.
-    absurd (not-by-fault _ c.ending-then-count-eq0.ensures.input failed)
-
-pub returns-then-count-eq0-clause-over : goal.returns-then-count-eq0-clause-over
-returns-then-count-eq0-clause-over g c = λ sent carried none input going.
-    c.in-Ok.ensures.end c.if-count-eq0.true
-
-pub returns-then-heed_drain-clause-heard : goal.returns-then-heed_drain-clause-heard
-returns-then-heed_drain-clause-heard g c = λ sent carried none.
+pub returns-then-heed_drain-clause-read : goal.returns-then-heed_drain-clause-read
+returns-then-heed_drain-clause-read g c = λ sent carried none.
     let behind =
     carried-before sent c.take.new.self.reading c.heed_drain-in-pieces.new.self.reading (grows-home
     c.take.new.self.reading c.heed_drain-in-pieces.new.self.reading
@@ -217,14 +204,19 @@ returns-then-heed_drain-clause-heard g c = λ sent carried none.
     let ending = c.ending-then-heed_drain.ensures in (
       h.0 ++ came.0,
       consumes-then _ _ _ h.0 came.0 h.3 came.2,
-      (
-        b.0 ++ (more.0 ++ h.2),
-        input-read sent _ (h.1 ++ _) (b.0 ++ (more.0 ++ h.2)) (h.0 ++ came.0) (h.0 ++ came.0) _ _ _
-            refl (came.3 h.0 h.1 h.4)
+      record {
+        told = b.0 ++ (more.0 ++ h.2);
+        read =
+            input-read sent _ (h.1 ++ _) (b.0 ++ (more.0 ++ h.2)) (h.0 ++ came.0) (h.0 ++ came.0)
+            _ _ _ refl (came.3 h.0 h.1 h.4)
             (b.1 ∙ all-told h.2 more.0 h.1 _ h.5 (more.1.all c.in_default.is)) b.2 b.3 ending.input
-            ending.goaway ending.drained ending.draining,
-        b.4,
-      ),
+            ending.goaway ending.drained ending.draining;
+        covered = b.4;
+        failed = λ failed. absurd (not-by-fault _ ending.input failed);
+        over = λ input going.
+            absurd (not-drained _ (ending.draining
+            (c.heed_drain-in-pieces.ensures.draining c.if-heed_drain.true)) input);
+      },
     )
 
 pub returns-then-heed_drain-clause-grows : goal.returns-then-heed_drain-clause-grows
@@ -232,15 +224,6 @@ returns-then-heed_drain-clause-grows g c =
     grows-then _ _ _ (grows-then _ _ _
     (grows-then _ _ _ c.pieces.invariant.0 c.collect.ensures.collects.grows) c.take.ensures.reads.0)
     (grows-home _ _ c.heed_drain-in-pieces.ensures.cuts.0)
-
-pub returns-then-heed_drain-clause-failed : goal.returns-then-heed_drain-clause-failed
-returns-then-heed_drain-clause-failed g c = λ sent carried none failed.
-    absurd (not-by-fault _ c.ending-then-heed_drain.ensures.input failed)
-
-pub returns-then-heed_drain-clause-over : goal.returns-then-heed_drain-clause-over
-returns-then-heed_drain-clause-over g c = λ sent carried none input going.
-    absurd (not-drained _ (c.ending-then-heed_drain.ensures.draining
-    (c.heed_drain-in-pieces.ensures.draining c.if-heed_drain.true)) input)
 
 pub pieces-preserved : goal.pieces-preserved
 pieces-preserved g c = (
@@ -276,8 +259,8 @@ pieces-preserved g c = (
       ),
 )
 
-pub returns-in-Some-take-clause-heard : goal.returns-in-Some-take-clause-heard
-returns-in-Some-take-clause-heard g c = λ sent carried none.
+pub returns-in-Some-take-clause-read : goal.returns-in-Some-take-clause-read
+returns-in-Some-take-clause-read g c = λ sent carried none.
     let before = carried-before sent _ _ c.take.ensures.reads.0 carried in
     let h =
     c.pieces.invariant.1 sent
@@ -285,38 +268,27 @@ returns-in-Some-take-clause-heard g c = λ sent carried none.
     let kept =
     kept-collected sent h.2 _ _ _ _ c.collect.ensures.collects before
     c.collect.ensures.orders h.7 in
-    let came = c.in-Ok.ensures.events in (
+    let came = c.in-Ok.ensures.events in
+    let ended = with-end _ _ _ _ _ _ _ _ _ c.in-Some-take.is c.take.ensures.reads in
+    let all =
+    some-read sent _ _ c.in-Some-take.ending _ h.1 h.2 _ _ _ _ _ _ carried (came.3 h.0 h.1 h.4)
+    h.5 ended kept h.8 in (
       h.0 ++ came.0,
       consumes-then _ _ _ h.0 came.0 h.3 came.2,
-      some-read sent _ _ c.in-Some-take.ending _ h.1 h.2 _ _ _ _ _ _ carried (came.3 h.0 h.1 h.4)
-          h.5 (with-end _ _ _ _ _ _ _ _ _ c.in-Some-take.is c.take.ensures.reads) kept h.8,
+      record {
+        told = all.0;
+        read = all.1;
+        covered = all.2;
+        failed = λ failed.
+            absurd (some-sound sent _ _ c.in-Some-take.ending _ h.2 _ _ _ _ carried ended kept h.8
+            failed);
+        over = λ input going.
+            absurd (some-harsh sent _ _ c.in-Some-take.ending _ h.2 _ _ _ _ carried ended kept h.8
+            input);
+      },
     )
 
 pub returns-in-Some-take-clause-grows : goal.returns-in-Some-take-clause-grows
 returns-in-Some-take-clause-grows g c =
     grows-then _ _ _ (grows-then _ _ _ c.pieces.invariant.0 c.collect.ensures.collects.grows)
     c.take.ensures.reads.0
-
-pub returns-in-Some-take-clause-over : goal.returns-in-Some-take-clause-over
-returns-in-Some-take-clause-over g c = λ sent carried none input going.
-    let before = carried-before sent _ _ c.take.ensures.reads.0 carried in
-    let h =
-    c.pieces.invariant.1 sent
-    (carried-before sent _ _ c.collect.ensures.collects.grows before) none in
-    let kept =
-    kept-collected sent h.2 _ _ _ _ c.collect.ensures.collects before
-    c.collect.ensures.orders h.7 in
-    absurd (some-harsh sent _ _ c.in-Some-take.ending _ h.2 _ _ _ _ carried
-    (with-end _ _ _ _ _ _ _ _ _ c.in-Some-take.is c.take.ensures.reads) kept h.8 input)
-
-pub returns-in-Some-take-clause-failed : goal.returns-in-Some-take-clause-failed
-returns-in-Some-take-clause-failed g c = λ sent carried none failed.
-    let before = carried-before sent _ _ c.take.ensures.reads.0 carried in
-    let h =
-    c.pieces.invariant.1 sent
-    (carried-before sent _ _ c.collect.ensures.collects.grows before) none in
-    let kept =
-    kept-collected sent h.2 _ _ _ _ c.collect.ensures.collects before
-    c.collect.ensures.orders h.7 in
-    absurd (some-sound sent _ _ c.in-Some-take.ending _ h.2 _ _ _ _ carried
-    (with-end _ _ _ _ _ _ _ _ _ c.in-Some-take.is c.take.ensures.reads) kept h.8 failed)

@@ -20,10 +20,10 @@ returns-then-turn g c =
           subst (λ (credit : ℕ).
           HasSent g.W.ConnWrite.contents g.W.ConnWrite.failed before credit (taken written.orders)
           written.senders (ending_told written.ending) written.device)
-          (sym c.part.ensures.amount)
+          (sym c.part.ensures.share.0)
           (c.part.ensures.sent before _
           (c.turn.ensures.over c.if-turn.true before (c.turns.invariant.on before led)));
       name = c.part.ensures.name ∙ (c.turn.ensures.leads.name ∙ c.turns.invariant.name);
       way = c.part.ensures.way ∙ (c.turn.ensures.leads.way ∙ c.turns.invariant.way);
-      parts = c.part.ensures.parts;
+      parts = c.part.ensures.share.1;
     }
