@@ -121,11 +121,10 @@ module _ {A B C J M N R G : Type 0} {book : Naming J} {route : Ghosts N}
         → Reads known names (carried_in sent) told reader.reading
         → AreAccounts known names (carried_in sent) told (reported told) calls
 
-module _ {A B C J M N R G : Type 0} {book : Naming J} {route : Ghosts N} where
-  -- The reader and the writer have the two ends of each ring, of orders and of senders, and no
-  -- order waits to be put.
-  pub record CanMeet (ring : Option RingName) (taking : RingOut (WriterOrder (OpeningCall J book)))
-      (senders : Senders J book) (reader : Reader A B C J M N R G book route) : Type 0 where
-    pub orders : ring ≡ Some (out_name taking)
-    pub way : out_name reader.reading.home ≡ in_name senders.sends.home
-    pub none_left : reader.orders.backlog.items ≡ []
+-- The reader and the writer have the two ends of each ring, of orders and of senders, and no order
+-- waits to be put.
+pub record CanMeet {X : Type 0} (ring : Option RingName) (taking home way : RingName)
+    (backlog : List X) : Type 0 where
+  pub orders : ring ≡ Some taking
+  pub senders : home ≡ way
+  pub none_left : backlog ≡ []

@@ -468,7 +468,8 @@ where
     O: ConnWrite + Send + Drop + 'static,
     G: Gate + Send + Sync + Drop + 'static,
     R: Threads + Wait + Clock + Copy + Send + Sync + Drop + 'static,
-    requires ends { CanMeet N.ring written.orders written.senders reader }
+    requires ends { CanMeet N.ring (out_name written.orders) (out_name reader.reading.home)
+        (in_name written.senders.sends.home) reader.orders.backlog.items }
     // The orders that the run obeyed begin those that were put.
     ensures obeyed { IsPrefix (taken written.orders) (put_of reader.orders) }
     ensures back { HasTakenBack M.known M.names written.senders

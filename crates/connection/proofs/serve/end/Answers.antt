@@ -14,7 +14,7 @@ pub meet_writer-requires : goal.meet_writer-requires
 meet_writer-requires g c = λ κs within. record {
   ends = record {
     orders = c.requires.route ∙ ap Some (sym c.join-written.ensures.0);
-    way = c.end.ensures.finishes.grows.name ∙ (c.requires.way ∙ sym c.join-written.ensures.1);
+    senders = c.end.ensures.finishes.grows.name ∙ (c.requires.way ∙ sym c.join-written.ensures.1);
     none_left = c.end.ensures.finishes.none_left;
   };
 }

@@ -30,7 +30,7 @@ returns-in-Err g c = record {
       none-first _ _ _ c.args.head.path _ index (ap (λ methods. listed methods) c.deref.ensures)
       c.as_slice.ensures
       (none-of _ c.find-index.ensures.none (c.in-Err.ensures.unnamed goes admits))
-      (c.requires.unnamed c.args.head.path index named)));
+      (c.requires.methods.unnamed c.args.head.path index named)));
 }
 
 pub returns-in-Ok : goal.returns-in-Ok

@@ -9,8 +9,10 @@ use Rattle.std.proofs.Common.{
   [],
   ◌∷◌,
   ◌++◌,
+  Bool,
   Err,
   ap,
+  false,
   append-nil,
   arith,
   length,
@@ -19,6 +21,7 @@ use Rattle.std.proofs.Common.{
   true,
   true≢false,
 }
+use Rattle.callparts.specs.declared.report.Ending.{Ending}
 use Rattle.callparts.specs.declared.report.Ending.TheVariants.{OutOfMemory, ReadFailed}
 use Rattle.session.specs.declared.event.InEvent.{InEvent}
 use Rattle.readerloop.specs.Steps.{Lacks, Step, events_of}
@@ -111,6 +114,10 @@ returns-in-Err-Device-clause-read g c = λ sent carried none.
 pub returns-in-Err-Device-clause-grows : goal.returns-in-Err-Device-clause-grows
 returns-in-Err-Device-clause-grows g c = c.pieces.invariant.0
 
+is_read_failure : Ending → Bool
+is_read_failure ReadFailed = true
+is_read_failure _ = false
+
 pub returns-in-Err-OutOfMemory-clause-read : goal.returns-in-Err-OutOfMemory-clause-read
 returns-in-Err-OutOfMemory-clause-read g c = λ sent carried none.
     let before =
@@ -124,7 +131,7 @@ returns-in-Err-OutOfMemory-clause-read g c = λ sent carried none.
         told = Lacks ∷ h.2;
         read = none-read sent h.1 h.2 h.0 some.0 _ _ _ h.4 h.5 (c.lack.ensures.kept sent h.2 h.7);
         covered = covers-more _ (Lacks ∷ []) h.2 h.8;
-        failed = λ failed. cc;
+        failed = λ failed. absurd (true≢false (sym (ap is_read_failure failed)));
         over = λ input going. absurd (true≢false (sym (input-out OutOfMemory input)));
       },
     )
