@@ -120,11 +120,3 @@ module _ {A B C J M N R G : Type 0} {book : Naming J} {route : Ghosts N}
         → IfSome reader.orders.unput (CarriesOpen sent)
         → Reads known names (carried_in sent) told reader.reading
         → AreAccounts known names (carried_in sent) told (reported told) calls
-
--- The reader and the writer have the two ends of each ring, of orders and of senders, and no order
--- waits to be put.
-pub record CanMeet {X : Type 0} (ring : Option RingName) (taking home way : RingName)
-    (backlog : List X) : Type 0 where
-  pub orders : ring ≡ Some taking
-  pub senders : home ≡ way
-  pub none_left : backlog ≡ []

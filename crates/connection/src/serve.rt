@@ -30,7 +30,7 @@ ghost use Rattle.connection.specs.Endings.{EndsAs, ended_by, unless_lacked};
 ghost use Rattle.connection.specs.Heard.{AreCarried, Hears};
 ghost use Rattle.connection.specs.Methods.{AreKnownBy, answers_of, paths_of};
 ghost use Rattle.connection.specs.Puts.{put_of};
-ghost use Rattle.connection.specs.Readers.{CanMeet, HasBegun, HasReadOut, HasTakenBack};
+ghost use Rattle.connection.specs.Readers.{HasBegun, HasReadOut, HasTakenBack};
 ghost use Rattle.connection.specs.Served.{IsServed};
 
 use crate::drain::{DrainHandle, Drainer};
@@ -468,8 +468,9 @@ where
     O: ConnWrite + Send + Drop + 'static,
     G: Gate + Send + Sync + Drop + 'static,
     R: Threads + Wait + Clock + Copy + Send + Sync + Drop + 'static,
-    requires ends { CanMeet N.ring (out_name written.orders) (out_name reader.reading.home)
-        (in_name written.senders.sends.home) reader.orders.backlog.items }
+    requires route { N.ring ≡ Some (out_name written.orders) }
+    requires way { out_name reader.reading.home ≡ in_name written.senders.sends.home }
+    requires none_left { reader.orders.backlog.items ≡ [] }
     // The orders that the run obeyed begin those that were put.
     ensures obeyed { IsPrefix (taken written.orders) (put_of reader.orders) }
     ensures back { HasTakenBack M.known M.names written.senders

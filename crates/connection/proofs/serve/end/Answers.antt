@@ -10,14 +10,16 @@ use Rattle.connection.proofs.Ends.{ended-accounted, ended-served, gave, gave-the
 use Rattle.connection.proofs.Reports.{served-by}
 use Rattle.connection.proofs.serve.end.Goals as goal
 
-pub meet_writer-requires : goal.meet_writer-requires
-meet_writer-requires g c = λ κs within. record {
-  ends = record {
-    orders = c.requires.route ∙ ap Some (sym c.join-written.ensures.0);
-    senders = c.end.ensures.finishes.grows.name ∙ (c.requires.way ∙ sym c.join-written.ensures.1);
-    none_left = c.end.ensures.finishes.none_left;
-  };
-}
+pub meet_writer-requires-clause-route : goal.meet_writer-requires-clause-route
+meet_writer-requires-clause-route g c = λ κs within.
+    c.requires.route ∙ ap Some (sym c.join-written.ensures.0)
+
+pub meet_writer-requires-clause-way : goal.meet_writer-requires-clause-way
+meet_writer-requires-clause-way g c = λ κs within.
+    c.end.ensures.finishes.grows.name ∙ (c.requires.way ∙ sym c.join-written.ensures.1)
+
+pub meet_writer-requires-clause-none_left : goal.meet_writer-requires-clause-none_left
+meet_writer-requires-clause-none_left g c = λ κs within. c.end.ensures.finishes.none_left
 
 pub returns : goal.returns
 returns g c =
