@@ -7,6 +7,7 @@ use crate::fault::Fault;
 use crate::line::Line;
 use crate::method::{HeadExtra, Method};
 use crate::mismatch::ReplyFault;
+use crate::request::Request;
 use bytes::Bytes;
 use h2frame::StreamId;
 use lists::Field;
@@ -19,7 +20,7 @@ const TOO_MANY: usize = 100;
 /// The bytes before a message.
 const PREFIX_LEN: usize = 5;
 
-/// A call that was begun.
+/// A call.
 #[derive(Drop)]
 pub struct Call {
     stream: StreamId,
@@ -30,6 +31,8 @@ pub struct Call {
     waiting: usize,
     /// How many replies were answered.
     pub count: usize,
+    /// Those that were read to the call's end.
+    pub replies: Vec<Bytes>,
     /// The fields that begin the response, none where they didn't come.
     pub head: Vec<Field>,
     /// The fields that end the response, none where they didn't come.
@@ -42,41 +45,49 @@ pub struct Call {
 }
 
 impl Call {
-    /// Begins a call on a stream.
-    pub fn begin<S: Line>(
-        connection: &mut Connection<S>,
-        stream: StreamId,
-        method: Method,
-        asked: HeadExtra,
-    ) -> Result<Call, Fault>
-        requires some { 0 < stream }
-        requires within { stream < 2 ^ 31 }
-    {
-        let alloc = connection.alloc;
-        let fields = method.fields(alloc, asked)?;
-        connection.open(stream, fields.as_slice())?;
-        Ok(Call {
-            stream,
+    /// None was begun yet.
+    pub fn new(alloc: Global) -> Call {
+        Call {
+            stream: 0,
             splitter: Splitter::new(alloc),
             piece: Bytes::new(),
             waiting: 0,
             count: 0,
+            replies: Vec::new(alloc),
             head: Vec::new(alloc),
             trailers: Vec::new(alloc),
             ended: false,
             reset: None,
-        })
+        }
+    }
+
+    /// Begins a call on a stream.
+    pub fn begin<S: Line>(
+        &mut self,
+        connection: &mut Connection<S>,
+        stream: StreamId,
+        method: Method,
+        asked: HeadExtra,
+    ) -> Result<(), Fault>
+        requires some { 0 < stream }
+        requires within { stream < 2 ^ 31 }
+    {
+        *self = Call::new(connection.alloc);
+        self.stream = stream;
+        let fields = method.fields(connection.alloc, asked)?;
+        connection.open(stream, fields.as_slice())
     }
 
     /// Sends a message; nothing is sent after the last one.
     pub fn send<S: Line>(
         &self,
         connection: &mut Connection<S>,
-        message: &[u8],
+        request: &Request<'_>,
         last: bool,
     ) -> Result<(), Fault> {
+        let message = request.encode(connection.alloc)?;
         let mut bytes = Vec::new(connection.alloc);
-        if write_message(message, &mut bytes).is_err() {
+        if write_message(message.as_slice(), &mut bytes).is_err() {
             return Err(Fault::OutOfMemory);
         }
         connection.send(self.stream, bytes.as_slice(), last)
@@ -147,17 +158,13 @@ impl Call {
         }
     }
 
-    /// The replies that are still to come.
-    pub fn replies<S: Line>(
-        &mut self,
-        connection: &mut Connection<S>,
-    ) -> Result<Vec<Bytes>, Fault> {
-        let mut replies = Vec::new(connection.alloc);
+    /// Reads the replies that are still to come.
+    pub fn read_replies<S: Line>(&mut self, connection: &mut Connection<S>) -> Result<(), Fault> {
         for _ in 0..TOO_MANY {
             let Some(reply) = self.reply(connection)? else {
-                return Ok(replies);
+                return Ok(());
             };
-            replies.push(reply)?;
+            self.replies.push(reply)?;
         }
         Err(Fault::Reply(ReplyFault::TooMany { most: TOO_MANY }))
     }

@@ -4,7 +4,7 @@ ghost use Rattle.std.specs.Prelude.{◌≡◌, Some, IfSome, IfNone};
 ghost use Rattle.cases.specs.Names.{IsNoName, name_of};
 
 /// A case.
-#[derive(Clone, Copy, Debug, PartialEq, Eq)]
+#[derive(Clone, Copy)]
 pub enum Case {
     EmptyUnary,
     LargeUnary,

@@ -439,7 +439,7 @@ impl<S: Line> Connection<S> {
                 WaitGoal::Settings
             }
             WaitGoal::Head(_) | WaitGoal::Trailers(_, _)
-                if how == Silence::Stalled && self.pings.is_open() => { WaitGoal::Ping }
+                if matches!(how, Silence::Stalled) && self.pings.is_open() => { WaitGoal::Ping }
             awaited => awaited,
         }
     }

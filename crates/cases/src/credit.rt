@@ -16,8 +16,8 @@ ghost use Rattle.std.specs.Prelude.{◌≡◌, ◌<◌, ◌≤◌, IsSome, OnOk,
 ghost use Rattle.creditbook.specs.Books.{call_at, window_of};
 ghost use Rattle.cases.specs.Windows.{IsPast};
 
+use crate::phrase::{Value, write_phrase};
 use creditbook::{Book, BookFault};
-use figures::{ByteCount, GroupedNumber};
 use h2frame::{MAX_PAYLOAD, StreamId};
 use std::alloc::Global;
 use std::fmt;
@@ -52,7 +52,7 @@ pub enum WindowViolation {
 }
 
 /// How the client gives credit.
-#[derive(Clone, Copy, Debug, PartialEq, Eq)]
+#[derive(Clone, Copy)]
 pub enum Windows {
     /// It lets the windows run low first, so that a server is seen to keep each.
     Held,
@@ -174,7 +174,7 @@ impl Credit {
     /// DATA came on a stream. Where windows are held, the server is to be asked if it stops once
     /// its largest frame might not fit them; else they are opened while they are half full.
     pub fn came(&mut self, stream: StreamId) -> CreditStep {
-        if self.windows == Windows::Open {
+        if matches!(self.windows, Windows::Open) {
             return if self.left(stream) < LOW {
                 CreditStep::OpenBoth(stream)
             } else {
@@ -249,40 +249,33 @@ impl fmt::Display for WindowViolation {
                 stream,
                 length,
                 window,
-            } => {
-                let (length, window) = (
-                    ByteCount(u64::from(length)),
-                    GroupedNumber(u64::from(window)),
-                );
-                write!(
-                    f,
-                    "DATA of {length} on stream {stream} exceeds its window of {window} (RFC 9113, 6.9.1)"
-                )
-            }
-            WindowViolation::Connection { length, window } => {
-                let (length, window) = (
-                    ByteCount(u64::from(length)),
-                    GroupedNumber(u64::from(window)),
-                );
-                write!(
-                    f,
-                    "DATA of {length} exceeds the connection's window of {window} (RFC 9113, 6.9.1)"
-                )
-            }
-            WindowViolation::Overflow { stream, increment } => {
-                let increment = GroupedNumber(u64::from(increment));
-                write!(
-                    f,
-                    "WINDOW_UPDATE of {increment} on stream {stream} takes its window past 2,147,483,647 (RFC 9113, 6.9.1)"
-                )
-            }
-            WindowViolation::InitialOverflow { size } => {
-                let size = GroupedNumber(u64::from(size));
-                write!(
-                    f,
-                    "SETTINGS_INITIAL_WINDOW_SIZE of {size} takes a window past 2,147,483,647 (RFC 9113, 6.9.2)"
-                )
-            }
+            } => write_phrase(
+                f,
+                "DATA of {} on stream {} exceeds its window of {} (RFC 9113, 6.9.1)",
+                &[
+                    Value::Bytes(u64::from(length)),
+                    Value::Stream(stream),
+                    Value::Grouped(u64::from(window)),
+                ],
+            ),
+            WindowViolation::Connection { length, window } => write_phrase(
+                f,
+                "DATA of {} exceeds the connection's window of {} (RFC 9113, 6.9.1)",
+                &[
+                    Value::Bytes(u64::from(length)),
+                    Value::Grouped(u64::from(window)),
+                ],
+            ),
+            WindowViolation::Overflow { stream, increment } => write_phrase(
+                f,
+                "WINDOW_UPDATE of {} on stream {} takes its window past 2,147,483,647 (RFC 9113, 6.9.1)",
+                &[Value::Grouped(u64::from(increment)), Value::Stream(stream)],
+            ),
+            WindowViolation::InitialOverflow { size } => write_phrase(
+                f,
+                "SETTINGS_INITIAL_WINDOW_SIZE of {} takes a window past 2,147,483,647 (RFC 9113, 6.9.2)",
+                &[Value::Grouped(u64::from(size))],
+            ),
         }
     }
 }

@@ -79,15 +79,12 @@ fn expect_zeros(reply: usize, body: &[u8], wanted: usize) -> Result<(), Fault> {
             wanted,
         }));
     }
-    match body
-        .iter()
-        .copied()
-        .enumerate()
-        .find(|(_, byte)| *byte != 0)
-    {
-        Some((at, byte)) => Err(Fault::Reply(ReplyFault::Byte { reply, at, byte })),
-        None => Ok(()),
+    for (at, byte) in body.iter().copied().enumerate() {
+        if byte != 0 {
+            return Err(Fault::Reply(ReplyFault::Byte { reply, at, byte }));
+        }
     }
+    Ok(())
 }
 
 /// There is one reply, whatever its body has.
@@ -158,7 +155,7 @@ pub fn expect_sum(alloc: Global, replies: &[Bytes], wanted: i32) -> Result<(), F
 /// Both values came back, the one in the head of the response, the other in its trailers.
 pub fn expect_echoes(alloc: Global, call: &Call) -> Result<(), Fault> {
     let head = call.head.as_slice();
-    if !head.iter().any(is_initial_echo) {
+    if !has_initial_echo(head) {
         let came = shown_value(alloc, head, INITIAL)?;
         return Err(Fault::Echo(EchoFault::Initial(came)));
     }
@@ -184,8 +181,14 @@ const INITIAL: &[u8] = b"x-grpc-test-echo-initial";
 
 const TRAILING: &[u8] = b"x-grpc-test-echo-trailing-bin";
 
-fn is_initial_echo(field: &Field) -> bool {
-    field.name.as_slice() == INITIAL && field.value.as_slice() == INITIAL_VALUE.as_bytes()
+fn has_initial_echo(fields: &[Field]) -> bool {
+    for field in fields {
+        let value = field.value.as_slice();
+        if field.name.as_slice() == INITIAL && value == INITIAL_VALUE.as_bytes() {
+            return true;
+        }
+    }
+    false
 }
 
 fn is_trailing_echo(alloc: Global, field: &Field) -> Result<bool, AllocError> {
@@ -195,10 +198,10 @@ fn is_trailing_echo(alloc: Global, field: &Field) -> Result<bool, AllocError> {
     let Some(values) = read_bin_values(alloc, field.value.as_slice())? else {
         return Ok(false);
     };
-    Ok(
-        values
-            .as_slice()
-            .iter()
-            .any(|value| value.as_slice() == TRAILING_VALUE),
-    )
+    for value in values.as_slice() {
+        if value.as_slice() == TRAILING_VALUE {
+            return Ok(true);
+        }
+    }
+    Ok(false)
 }

@@ -7,6 +7,7 @@ ghost use Rattle.cases.specs.declared.fault.CaseFault.TheVariants.{OutOfMemory};
 use crate::credit::WindowViolation;
 use crate::frame_rules::FrameViolation;
 use crate::mismatch::{EchoFault, ReplyFault, StatusFault};
+use crate::phrase::{Value, write_phrase};
 use crate::pings::PingViolation;
 use crate::response::StreamViolation;
 use crate::settings::SettingViolation;
@@ -15,9 +16,10 @@ use crate::violation::{BlockViolation, Violation};
 use h2frame::StreamId;
 use std::alloc::{AllocError, AllocFailed};
 use std::fmt;
+use std::fmt::Display;
 
 /// Why a case fails, as programs tell it apart by its number.
-#[derive(Clone, Copy, Debug, PartialEq, Eq)]
+#[derive(Clone, Copy)]
 pub enum CaseFault {
     /// The server ended the connection with an error, or broke a rule of HTTP/2 or of gRPC over
     /// HTTP/2.
@@ -102,20 +104,21 @@ pub enum OwnBound {
 
 impl fmt::Display for OwnBound {
     fn fmt<W: fmt::Write>(&self, f: &mut fmt::Formatter<W>) -> fmt::Result {
-        match *self {
-            OwnBound::Block(stream) => write!(
-                f,
-                "not judged: the header block of stream {stream} has over 65,536 bytes, this client's bound"
+        let (text, stream) = match *self {
+            OwnBound::Block(stream) => (
+                "not judged: the header block of stream {} has over 65,536 bytes, this client's bound",
+                stream,
             ),
-            OwnBound::Fields(stream) => write!(
-                f,
-                "not judged: what is decoded of stream {stream} has over 65,536 bytes, this client's bound"
+            OwnBound::Fields(stream) => (
+                "not judged: what is decoded of stream {} has over 65,536 bytes, this client's bound",
+                stream,
             ),
-            OwnBound::Integer(stream) => write!(
-                f,
-                "not judged: an integer in the header block of stream {stream} has over six bytes, or is over 4,294,967,295, this client's bound"
+            OwnBound::Integer(stream) => (
+                "not judged: an integer in the header block of stream {} has over six bytes, or is over 4,294,967,295, this client's bound",
+                stream,
             ),
-        }
+        };
+        write_phrase(f, text, &[Value::Stream(stream)])
     }
 }
 
@@ -141,15 +144,15 @@ impl Fault {
 impl fmt::Display for Fault {
     fn fmt<W: fmt::Write>(&self, f: &mut fmt::Formatter<W>) -> fmt::Result {
         match self {
-            Fault::Violation(violation) => write!(f, "{violation}"),
-            Fault::Status(fault) => write!(f, "{fault}"),
-            Fault::Reply(fault) => write!(f, "{fault}"),
-            Fault::Echo(fault) => write!(f, "{fault}"),
-            Fault::UnknownCase => write!(f, "no case has this name"),
-            Fault::Silence(fault) => write!(f, "{fault}"),
-            Fault::Unwritable => write!(f, "the client has a frame that it can't write"),
-            Fault::OutOfMemory => write!(f, "out of memory"),
-            Fault::OwnBound(bound) => write!(f, "{bound}"),
+            Fault::Violation(violation) => violation.fmt(f),
+            Fault::Status(fault) => fault.fmt(f),
+            Fault::Reply(fault) => fault.fmt(f),
+            Fault::Echo(fault) => fault.fmt(f),
+            Fault::UnknownCase => f.write_str("no case has this name"),
+            Fault::Silence(fault) => fault.fmt(f),
+            Fault::Unwritable => f.write_str("the client has a frame that it can't write"),
+            Fault::OutOfMemory => f.write_str("out of memory"),
+            Fault::OwnBound(bound) => bound.fmt(f),
         }
     }
 }
@@ -163,12 +166,6 @@ impl From<AllocError> for Fault {
 impl<T: Drop> From<AllocFailed<T>> for Fault {
     fn from(_error: AllocFailed<T>) -> Fault {
         Fault::OutOfMemory
-    }
-}
-
-impl From<Violation> for Fault {
-    fn from(violation: Violation) -> Fault {
-        Fault::Violation(violation)
     }
 }
 
@@ -205,23 +202,5 @@ impl From<PingViolation> for Fault {
 impl From<BlockViolation> for Fault {
     fn from(violation: BlockViolation) -> Fault {
         Fault::Violation(Violation::Block(violation))
-    }
-}
-
-impl From<StatusFault> for Fault {
-    fn from(fault: StatusFault) -> Fault {
-        Fault::Status(fault)
-    }
-}
-
-impl From<ReplyFault> for Fault {
-    fn from(fault: ReplyFault) -> Fault {
-        Fault::Reply(fault)
-    }
-}
-
-impl From<EchoFault> for Fault {
-    fn from(fault: EchoFault) -> Fault {
-        Fault::Echo(fault)
     }
 }

@@ -4,11 +4,13 @@
 //! Whether fields are malformed is decided in `fields`; here is what is said of them.
 
 use crate::fields::is_unknown;
+use crate::phrase::{Value, write_phrase};
 use callhead::{count_named, first_value, is_named, is_pseudo_header};
 use figures::{BrokenRule, FieldRule, field_rule, shown};
 use lists::Field;
 use std::alloc::{AllocError, Global};
 use std::fmt;
+use std::fmt::Display;
 
 /// A rule on the fields of a response that the server broke. Names and values are shown by their
 /// front.
@@ -65,10 +67,12 @@ pub fn trailers_violation(alloc: Global, fields: &[Field]) -> Result<FieldViolat
     if let Some(violation) = field_violation(alloc, fields)? {
         return Ok(violation);
     }
-    match fields.iter().find(|field| is_pseudo_header(field)) {
-        Some(field) => broken(alloc, FieldRule::InTrailers, field),
-        None => Ok(FieldViolation::Malformed),
+    for field in fields {
+        if is_pseudo_header(field) {
+            return broken(alloc, FieldRule::InTrailers, field);
+        }
     }
+    Ok(FieldViolation::Malformed)
 }
 
 /// The rule that the first field breaks that breaks one by itself. `te` speaks of one connection in
@@ -97,42 +101,38 @@ fn name_of(alloc: Global, field: &Field) -> Result<String, AllocError> {
 impl fmt::Display for FieldViolation {
     fn fmt<W: fmt::Write>(&self, f: &mut fmt::Formatter<W>) -> fmt::Result {
         match self {
-            FieldViolation::Field(rule, name) => {
-                let broken = BrokenRule(*rule, name.as_str());
-                write!(f, "{broken}")
-            }
-            FieldViolation::PseudoHeader(name) => {
-                write!(
-                    f,
-                    "the pseudo-header {name:?}, wanted :status alone (RFC 9113, 8.3)"
-                )
-            }
-            FieldViolation::Statuses(0) => {
-                write!(f, ":status did not come, wanted once (RFC 9113, 8.3.2)")
-            }
-            FieldViolation::Statuses(count) => {
-                write!(f, ":status came {count} times, wanted once (RFC 9113, 8.3)")
-            }
-            FieldViolation::Status(value) => {
-                write!(
-                    f,
-                    ":status is {value:?}, wanted \"200\" (gRPC over HTTP/2, Responses)"
-                )
-            }
-            FieldViolation::InformationalEnd(value) => {
-                write!(
-                    f,
-                    ":status is {value:?} with END_STREAM, wanted a final one (RFC 9113, 8.1)"
-                )
-            }
-            FieldViolation::Malformed => write!(f, "malformed fields (RFC 9113, 8.1.1)"),
-            FieldViolation::NoContentType => write!(
+            FieldViolation::Field(rule, name) => BrokenRule(*rule, name.as_str()).fmt(f),
+            FieldViolation::PseudoHeader(name) => write_phrase(
                 f,
-                "no content-type, wanted \"application/grpc\" (gRPC over HTTP/2, Responses)"
+                "the pseudo-header {}, wanted :status alone (RFC 9113, 8.3)",
+                &[Value::Quoted(name.as_str())],
             ),
-            FieldViolation::ContentType(value) => write!(
+            FieldViolation::Statuses(0) => {
+                f.write_str(":status did not come, wanted once (RFC 9113, 8.3.2)")
+            }
+            FieldViolation::Statuses(count) => write_phrase(
                 f,
-                "content-type is {value:?}, wanted \"application/grpc\" at its front (gRPC over HTTP/2, Responses)"
+                ":status came {} times, wanted once (RFC 9113, 8.3)",
+                &[Value::Number(*count as u64)],
+            ),
+            FieldViolation::Status(value) => write_phrase(
+                f,
+                ":status is {}, wanted \"200\" (gRPC over HTTP/2, Responses)",
+                &[Value::Quoted(value.as_str())],
+            ),
+            FieldViolation::InformationalEnd(value) => write_phrase(
+                f,
+                ":status is {} with END_STREAM, wanted a final one (RFC 9113, 8.1)",
+                &[Value::Quoted(value.as_str())],
+            ),
+            FieldViolation::Malformed => f.write_str("malformed fields (RFC 9113, 8.1.1)"),
+            FieldViolation::NoContentType => f.write_str(
+                "no content-type, wanted \"application/grpc\" (gRPC over HTTP/2, Responses)",
+            ),
+            FieldViolation::ContentType(value) => write_phrase(
+                f,
+                "content-type is {}, wanted \"application/grpc\" at its front (gRPC over HTTP/2, Responses)",
+                &[Value::Quoted(value.as_str())],
             ),
         }
     }

@@ -99,10 +99,12 @@ pub fn judge_trailers(alloc: Global, fields: &[Field]) -> Result<(), FieldFault>
 /// Whether a `:status` is one of 100 to 199, but not 101, which HTTP/2 doesn't have (RFC 9113,
 /// section 8.6).
 fn is_informational(status: &[u8]) -> bool {
-    status.len() == 3
-        && status.first() == Some(&b'1')
-        && status.iter().all(|byte| byte.is_ascii_digit())
-        && status != b"101".as_slice()
+    match status {
+        [b'1', tens, ones] => {
+            tens.is_ascii_digit() && ones.is_ascii_digit() && status != b"101".as_slice()
+        }
+        _ => false,
+    }
 }
 
 fn has_status_200(fields: &[Field]) -> bool

@@ -3,7 +3,8 @@
 ghost use Rattle.std.specs.Prelude.{◌≢◌, None};
 ghost use Rattle.h2frame.specs.declared.fault.FrameFault.TheVariants.{OutOfMemory};
 
-use figures::{ByteCount, FrameName, KindName, section_of, wanted_length};
+use crate::phrase::{Value, write_phrase};
+use figures::wanted_length;
 use h2frame::{FrameFault, FrameHead, StreamId};
 use std::fmt;
 
@@ -44,52 +45,64 @@ impl FrameViolation {
 impl fmt::Display for FrameViolation {
     fn fmt<W: fmt::Write>(&self, f: &mut fmt::Formatter<W>) -> fmt::Result {
         match *self {
-            FrameViolation::TooLong(head) => {
-                let (frame, length) = (FrameName(head), ByteCount(u64::from(head.length)));
-                write!(f, "{frame} of {length}, at most 16,384 (RFC 9113, 4.2)")
-            }
-            FrameViolation::WrongStream(head) => {
-                let (kind, section) = (KindName(head.kind), section_of(head.kind));
-                let wanted = if head.stream == 0 {
-                    "one of a stream"
-                } else {
-                    "stream 0"
-                };
-                let stream = head.stream;
-                write!(
-                    f,
-                    "{kind} on stream {stream}, wanted {wanted} (RFC 9113, {section})"
-                )
-            }
-            FrameViolation::BadLength(head) => {
-                let (frame, length) = (FrameName(head), ByteCount(u64::from(head.length)));
-                let (wanted, section) = (wanted_length(&head), section_of(head.kind));
-                write!(
-                    f,
-                    "{frame} of {length}, wanted {wanted} (RFC 9113, {section})"
-                )
-            }
-            FrameViolation::BadPadding(head, padding) => {
-                let (frame, length) = (FrameName(head), ByteCount(u64::from(head.length)));
-                let section = section_of(head.kind);
-                write!(
-                    f,
-                    "{frame} of {length}, {padding} of them padding (RFC 9113, {section})"
-                )
-            }
-            FrameViolation::PaddingNotZero(head, byte) => {
-                let (frame, section) = (FrameName(head), section_of(head.kind));
-                write!(
-                    f,
-                    "{frame}: a byte of its padding is {byte:02x}, wanted 00 (RFC 9113, {section})"
-                )
-            }
-            FrameViolation::ZeroIncrement(stream) => {
-                write!(
-                    f,
-                    "WINDOW_UPDATE of 0 on stream {stream}, wanted more (RFC 9113, 6.9)"
-                )
-            }
+            FrameViolation::TooLong(head) => write_phrase(
+                f,
+                "{} of {}, at most 16,384 (RFC 9113, 4.2)",
+                &[Value::Frame(head), Value::length_of(&head)],
+            ),
+            FrameViolation::WrongStream(head) => write_phrase(
+                f,
+                "{} on stream {}, wanted {} (RFC 9113, {})",
+                &[
+                    Value::Kind(head.kind),
+                    Value::stream_of(&head),
+                    Value::Text(wanted_stream(&head)),
+                    Value::section_of(&head),
+                ],
+            ),
+            FrameViolation::BadLength(head) => write_phrase(
+                f,
+                "{} of {}, wanted {} (RFC 9113, {})",
+                &[
+                    Value::Frame(head),
+                    Value::length_of(&head),
+                    Value::Text(wanted_length(&head)),
+                    Value::section_of(&head),
+                ],
+            ),
+            FrameViolation::BadPadding(head, padding) => write_phrase(
+                f,
+                "{} of {}, {} of them padding (RFC 9113, {})",
+                &[
+                    Value::Frame(head),
+                    Value::length_of(&head),
+                    Value::Number(u64::from(padding)),
+                    Value::section_of(&head),
+                ],
+            ),
+            FrameViolation::PaddingNotZero(head, byte) => write_phrase(
+                f,
+                "{}: a byte of its padding is {}, wanted 00 (RFC 9113, {})",
+                &[
+                    Value::Frame(head),
+                    Value::Byte(byte),
+                    Value::section_of(&head),
+                ],
+            ),
+            FrameViolation::ZeroIncrement(stream) => write_phrase(
+                f,
+                "WINDOW_UPDATE of 0 on stream {}, wanted more (RFC 9113, 6.9)",
+                &[Value::Stream(stream)],
+            ),
         }
+    }
+}
+
+/// Where a frame has to be that came on another stream.
+fn wanted_stream(head: &FrameHead) -> &'static str {
+    if head.stream == 0 {
+        "one of a stream"
+    } else {
+        "stream 0"
     }
 }

@@ -150,9 +150,10 @@ fn padding_fault(head: &FrameHead, padding: u8, raw: &[u8]) -> Option<u8> {
         return None;
     }
     let padded = usize::from(padding);
-    raw.iter()
-        .rev()
-        .take(padded)
-        .copied()
-        .find(|byte| *byte != 0)
+    for byte in raw.iter().rev().take(padded) {
+        if *byte != 0 {
+            return Some(*byte);
+        }
+    }
+    None
 }

@@ -17,7 +17,7 @@ use std::time::{Clock, Duration, Instant};
 pub const TICK: u64 = 100;
 
 /// How a case's time is spent, in milliseconds.
-#[derive(Clone, Copy, Debug, PartialEq, Eq)]
+#[derive(Clone, Copy)]
 pub struct Pace {
     /// How long the case has gone on.
     pub spent: u64,

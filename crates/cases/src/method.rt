@@ -16,7 +16,7 @@ pub const INITIAL_VALUE: &str = "test_initial_metadata_value";
 pub const TRAILING_VALUE: &[u8] = b"\xab\xab\xab";
 
 /// What is called.
-#[derive(Clone, Copy, Debug, PartialEq, Eq)]
+#[derive(Clone, Copy)]
 pub enum Method {
     EmptyCall,
     UnaryCall,
@@ -30,7 +30,7 @@ pub enum Method {
 }
 
 /// What a call's head asks for beside its method.
-#[derive(Clone, Copy, Debug, PartialEq, Eq)]
+#[derive(Clone, Copy)]
 pub enum HeadExtra {
     Nothing,
     /// One value back in the head of the response, and one in the trailers.

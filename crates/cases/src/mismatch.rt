@@ -1,9 +1,10 @@
 //! How what came of a call differs from what was wanted.
 
 use crate::method::INITIAL_VALUE;
-use figures::{ErrorName, GroupedNumber, byte_count};
+use crate::phrase::{Value, write_phrase};
 use lpm::LpmFault;
 use std::fmt;
+use std::fmt::Display;
 use testproto::ProtoFault;
 
 /// A status that a call has to end with. No text is wanted where none is given.
@@ -110,93 +111,135 @@ impl ReplyFault {
 
 impl fmt::Display for WantedStatus {
     fn fmt<W: fmt::Write>(&self, f: &mut fmt::Formatter<W>) -> fmt::Result {
-        let code = self.code;
+        let code = Value::Code(self.code);
         match self.text {
-            Some(text) => write!(f, "status {code} {text:?}"),
-            None => write!(f, "status {code}"),
+            Some(text) => write_phrase(f, "status {} {}", &[code, Value::Quoted(text)]),
+            None => write_phrase(f, "status {}", &[code]),
         }
     }
 }
 
 impl fmt::Display for StatusFault {
     fn fmt<W: fmt::Write>(&self, f: &mut fmt::Formatter<W>) -> fmt::Result {
-        match self {
+        let wanted = match self {
             StatusFault::Reset(code, wanted) => {
-                let error = ErrorName(*code);
-                write!(f, "RST_STREAM {code} ({error}), wanted {wanted}")
+                write_phrase(
+                    f,
+                    "RST_STREAM {} ({})",
+                    &[Value::Code(*code), Value::Error(*code)],
+                )?;
+                wanted
             }
             StatusFault::NoTrailers(wanted) => {
-                write!(f, "the stream ended without trailers, wanted {wanted}")
+                f.write_str("the stream ended without trailers")?;
+                wanted
             }
             StatusFault::NoStatus(wanted) => {
-                write!(f, "trailers without grpc-status, wanted {wanted}")
+                f.write_str("trailers without grpc-status")?;
+                wanted
             }
             StatusFault::NotStatus(value, wanted) => {
-                write!(f, "grpc-status is {value:?}, wanted {wanted}")
+                write_phrase(f, "grpc-status is {}", &[Value::Quoted(value.as_str())])?;
+                wanted
             }
             StatusFault::Other(code, text, wanted) => {
-                write!(f, "status {code} {text:?}, wanted {wanted}")
+                write_phrase(
+                    f,
+                    "status {} {}",
+                    &[Value::Code(*code), Value::Quoted(text.as_str())],
+                )?;
+                wanted
             }
-        }
+        };
+        f.write_str(", wanted ")?;
+        wanted.fmt(f)
     }
 }
 
 impl fmt::Display for ReplyFault {
     fn fmt<W: fmt::Write>(&self, f: &mut fmt::Formatter<W>) -> fmt::Result {
         match *self {
-            ReplyFault::Count { came, wanted } => {
-                let replies = if came == 1 { "reply" } else { "replies" };
-                write!(f, "{came} {replies} came, wanted {wanted}")
+            ReplyFault::Count { came, wanted } => write_phrase(
+                f,
+                "{} {} came, wanted {}",
+                &[
+                    Value::Number(came as u64),
+                    Value::Text(if came == 1 { "reply" } else { "replies" }),
+                    Value::Number(wanted as u64),
+                ],
+            ),
+            ReplyFault::Ended { reply } => write_phrase(
+                f,
+                "the call ended, wanted reply {}",
+                &[Value::Number(reply as u64)],
+            ),
+            ReplyFault::TooMany { most } => {
+                write_phrase(f, "over {} replies came", &[Value::Number(most as u64)])
             }
-            ReplyFault::Ended { reply } => { write!(f, "the call ended, wanted reply {reply}") }
-            ReplyFault::TooMany { most } => write!(f, "over {most} replies came"),
             ReplyFault::Length {
                 reply,
                 came,
                 wanted,
-            } => {
-                let (came, wanted) = (byte_count(came), GroupedNumber(wanted as u64));
-                write!(f, "reply {reply}: a body of {came}, wanted {wanted}")
-            }
-            ReplyFault::Byte { reply, at, byte } => {
-                let at = GroupedNumber(at as u64);
-                write!(
-                    f,
-                    "reply {reply}: byte {at} of the body is {byte:02x}, wanted 00"
-                )
-            }
-            ReplyFault::NotEmpty { came } => {
-                let came = byte_count(came);
-                write!(f, "reply 1 has {came}, wanted none")
-            }
-            ReplyFault::Sum { came, wanted } => {
-                let sign = if came < 0 { "-" } else { "" };
-                let came = GroupedNumber(u64::from(came.unsigned_abs()));
-                let wanted = GroupedNumber(u64::from(wanted.unsigned_abs()));
-                write!(f, "the sum is {sign}{came}, wanted {wanted}")
-            }
+            } => write_phrase(
+                f,
+                "reply {}: a body of {}, wanted {}",
+                &[
+                    Value::Number(reply as u64),
+                    Value::Bytes(came as u64),
+                    Value::Grouped(wanted as u64),
+                ],
+            ),
+            ReplyFault::Byte { reply, at, byte } => write_phrase(
+                f,
+                "reply {}: byte {} of the body is {}, wanted 00",
+                &[
+                    Value::Number(reply as u64),
+                    Value::Grouped(at as u64),
+                    Value::Byte(byte),
+                ],
+            ),
+            ReplyFault::NotEmpty { came } => write_phrase(
+                f,
+                "reply 1 has {}, wanted none",
+                &[Value::Bytes(came as u64)],
+            ),
+            ReplyFault::Sum { came, wanted } => write_phrase(
+                f,
+                "the sum is {}{}, wanted {}",
+                &[
+                    Value::Text(if came < 0 { "-" } else { "" }),
+                    Value::Grouped(u64::from(came.unsigned_abs())),
+                    Value::Grouped(u64::from(wanted.unsigned_abs())),
+                ],
+            ),
             ReplyFault::NoMessage {
                 reply,
                 length,
                 fault,
-            } => {
-                let length = byte_count(length);
-                write!(f, "reply {reply}: no message in {length}: {fault}")
-            }
-            ReplyFault::Flag { reply, flag } => write!(
+            } => write_phrase(
                 f,
-                "reply {reply}: its flag is {flag:02x}, wanted 00 (gRPC over HTTP/2, Length-Prefixed-Message)"
+                "reply {}: no message in {}: {}",
+                &[
+                    Value::Number(reply as u64),
+                    Value::Bytes(length as u64),
+                    Value::Proto(fault),
+                ],
             ),
-            ReplyFault::TooLong { reply } => {
-                write!(f, "reply {reply}: its prefix says over 4,194,304 bytes")
-            }
-            ReplyFault::Cut { reply, came } => {
-                let came = GroupedNumber(came as u64);
-                write!(
-                    f,
-                    "reply {reply}: the stream ended after {came} of its bytes, prefix included (gRPC over HTTP/2, Length-Prefixed-Message)"
-                )
-            }
+            ReplyFault::Flag { reply, flag } => write_phrase(
+                f,
+                "reply {}: its flag is {}, wanted 00 (gRPC over HTTP/2, Length-Prefixed-Message)",
+                &[Value::Number(reply as u64), Value::Byte(flag)],
+            ),
+            ReplyFault::TooLong { reply } => write_phrase(
+                f,
+                "reply {}: its prefix says over 4,194,304 bytes",
+                &[Value::Number(reply as u64)],
+            ),
+            ReplyFault::Cut { reply, came } => write_phrase(
+                f,
+                "reply {}: the stream ended after {} of its bytes, prefix included (gRPC over HTTP/2, Length-Prefixed-Message)",
+                &[Value::Number(reply as u64), Value::Grouped(came as u64)],
+            ),
         }
     }
 }
@@ -204,30 +247,24 @@ impl fmt::Display for ReplyFault {
 impl fmt::Display for EchoFault {
     fn fmt<W: fmt::Write>(&self, f: &mut fmt::Formatter<W>) -> fmt::Result {
         match self {
-            EchoFault::Initial(None) => {
-                write!(
-                    f,
-                    "no x-grpc-test-echo-initial in the head of the response, wanted {INITIAL_VALUE:?}"
-                )
-            }
-            EchoFault::Initial(Some(value)) => {
-                write!(
-                    f,
-                    "x-grpc-test-echo-initial is {value:?}, wanted {INITIAL_VALUE:?}"
-                )
-            }
-            EchoFault::Trailing(None) => {
-                write!(
-                    f,
-                    "no x-grpc-test-echo-trailing-bin in the trailers, wanted \"q6ur\""
-                )
-            }
-            EchoFault::Trailing(Some(value)) => {
-                write!(
-                    f,
-                    "x-grpc-test-echo-trailing-bin is {value:?}, wanted \"q6ur\""
-                )
-            }
+            EchoFault::Initial(None) => write_phrase(
+                f,
+                "no x-grpc-test-echo-initial in the head of the response, wanted {}",
+                &[Value::Quoted(INITIAL_VALUE)],
+            ),
+            EchoFault::Initial(Some(value)) => write_phrase(
+                f,
+                "x-grpc-test-echo-initial is {}, wanted {}",
+                &[Value::Quoted(value.as_str()), Value::Quoted(INITIAL_VALUE)],
+            ),
+            EchoFault::Trailing(None) => f.write_str(
+                "no x-grpc-test-echo-trailing-bin in the trailers, wanted \"q6ur\"",
+            ),
+            EchoFault::Trailing(Some(value)) => write_phrase(
+                f,
+                "x-grpc-test-echo-trailing-bin is {}, wanted \"q6ur\"",
+                &[Value::Quoted(value.as_str())],
+            ),
         }
     }
 }

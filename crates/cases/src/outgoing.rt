@@ -5,7 +5,7 @@ ghost use Rattle.cases.specs.Frames.{IsWritableShape};
 use h2frame::{Flags, FrameKind};
 
 /// What a frame of the client is.
-#[derive(Clone, Copy, Debug, PartialEq, Eq)]
+#[derive(Clone, Copy)]
 pub enum Outgoing {
     Settings,
     SettingsAck,

@@ -4,6 +4,7 @@
 //! An acknowledgement has to have the bytes of a PING. That one comes twice, or without a PING, no
 //! sentence forbids: such a one says nothing.
 
+use crate::phrase::{Value, write_phrase};
 use std::fmt;
 
 /// A rule on PING that the server broke. The eight bytes are shown as hexadecimal text.
@@ -60,13 +61,11 @@ impl Pings {
 
 impl fmt::Display for PingViolation {
     fn fmt<W: fmt::Write>(&self, f: &mut fmt::Formatter<W>) -> fmt::Result {
-        match *self {
-            PingViolation::OtherBytes { came, wanted } => {
-                write!(
-                    f,
-                    "PING with ACK has {came:016x}, wanted {wanted:016x} (RFC 9113, 6.7)"
-                )
-            }
-        }
+        let PingViolation::OtherBytes { came, wanted } = *self;
+        write_phrase(
+            f,
+            "PING with ACK has {}, wanted {} (RFC 9113, 6.7)",
+            &[Value::EightBytes(came), Value::EightBytes(wanted)],
+        )
     }
 }

@@ -13,7 +13,7 @@ use std::alloc::{AllocError, AllocFailed, Global};
 use std::io::Write;
 
 /// What came of a case.
-#[derive(Clone, Copy, Debug, PartialEq, Eq)]
+#[derive(Clone, Copy)]
 pub struct Outcome {
     pub case: Case,
     pub answer: Result<(), CaseFault>,
@@ -29,7 +29,7 @@ impl Outcome {
 }
 
 /// Why cases were not reported.
-#[derive(Clone, Copy, Debug, PartialEq, Eq)]
+#[derive(Clone, Copy)]
 pub enum ReportFault {
     /// A line could not be written.
     WriteFailed,
@@ -70,10 +70,10 @@ pub fn push_line(
     ensures { OnOk result (text.new.items ≡ text.old.items ++ line_of name.now answer) }
 {
     match answer {
-        Ok(()) => writeln!(text, "case {name} ok").map_err(|_| AllocError),
+        Ok(()) => writeln!(text, "case {name} ok").or(Err(AllocError)),
         Err(fault) => {
             let code = fault.code();
-            writeln!(text, "case {name} failed {code}").map_err(|_| AllocError)
+            writeln!(text, "case {name} failed {code}").or(Err(AllocError))
         }
     }
 }

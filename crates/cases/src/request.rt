@@ -9,7 +9,7 @@ use testproto::{
 };
 
 /// A status that the server is asked to end a call with.
-#[derive(Clone, Copy, Debug)]
+#[derive(Clone, Copy)]
 pub struct AskedStatus {
     pub code: i32,
     pub text: &'static str,
@@ -49,19 +49,60 @@ fn echo_status(status: Option<AskedStatus>) -> Option<EchoStatus<'static>> {
     })
 }
 
-/// A request for one response of this size.
-pub fn simple_request(
-    alloc: Global,
-    response_size: i32,
-    body_len: usize,
-    status: Option<AskedStatus>,
-) -> Result<Vec<u8>, Fault> {
-    let body = zeros(alloc, body_len)?;
-    simple_request_of(alloc, response_size, body.as_slice(), status)
+/// A message that is sent.
+#[derive(Clone, Copy)]
+pub enum Request<'a> {
+    /// The one that has no fields.
+    Empty,
+    /// For one response of this size.
+    Simple {
+        response_size: i32,
+        body_len: usize,
+        status: Option<AskedStatus>,
+    },
+    /// For one empty response, with the digits of this number as its body.
+    Stamped(u128),
+    /// For a response of each of these sizes.
+    Output {
+        sizes: &'a [i32],
+        body_len: usize,
+        status: Option<AskedStatus>,
+    },
+    /// A part of what is summed up.
+    Input {
+        body_len: usize,
+    },
+}
+
+impl<'a> Request<'a> {
+    /// Its bytes.
+    pub fn encode(&self, alloc: Global) -> Result<Vec<u8>, Fault> {
+        match *self {
+            Request::Empty => Ok(Vec::new(alloc)),
+            Request::Simple {
+                response_size,
+                body_len,
+                status,
+            } => {
+                let body = zeros(alloc, body_len)?;
+                simple_request(alloc, response_size, body.as_slice(), status)
+            }
+            Request::Stamped(number) => {
+                let body = format!(in alloc; "{number}")?;
+                simple_request(alloc, 0, body.as_bytes(), None)
+            }
+            Request::Output {
+                sizes,
+                body_len,
+                status,
+            } => output_request(alloc, sizes, body_len, status),
+            Request::Input { body_len } => input_request(alloc, body_len),
+        }
+    }
 }
 
 /// A request for one payload, with this body.
-pub fn simple_request_of(
+fn simple_request(
     alloc: Global,
     response_size: i32,
     body: &[u8],
@@ -84,7 +125,7 @@ pub fn simple_request_of(
 }
 
 /// A request for a response of each of these sizes.
-pub fn output_request(
+fn output_request(
     alloc: Global,
     sizes: &[i32],
     body_len: usize,
@@ -112,7 +153,7 @@ pub fn output_request(
 }
 
 /// A part of what is summed up.
-pub fn input_request(alloc: Global, body_len: usize) -> Result<Vec<u8>, Fault> {
+fn input_request(alloc: Global, body_len: usize) -> Result<Vec<u8>, Fault> {
     let body = zeros(alloc, body_len)?;
     let request = StreamingInputCallRequest {
         payload: payload(&body),

@@ -7,7 +7,7 @@
 ghost use Rattle.std.specs.Prelude.{◌≡◌, true, false, IfOk, IfErr};
 ghost use Rattle.cases.specs.Responses.{is_lawful, phase_after};
 
-use figures::FrameName;
+use crate::phrase::{Value, write_phrase};
 use h2frame::{Flags, FrameHead, FrameKind, StreamId};
 use std::fmt;
 
@@ -86,31 +86,33 @@ impl Phase {
 impl fmt::Display for StreamViolation {
     fn fmt<W: fmt::Write>(&self, f: &mut fmt::Formatter<W>) -> fmt::Result {
         match *self {
-            StreamViolation::Idle(head) => {
-                let frame = FrameName(head);
-                write!(f, "{frame}, which the client did not open (RFC 9113, 5.1)")
-            }
-            StreamViolation::Even(head) => {
-                let frame = FrameName(head);
-                write!(
-                    f,
-                    "{frame}, wanted an odd number, since pushes are off (RFC 9113, 5.1)"
-                )
-            }
-            StreamViolation::DataBeforeHeaders(head) => {
-                let frame = FrameName(head);
-                write!(f, "{frame} came before HEADERS (RFC 9113, 8.1)")
-            }
-            StreamViolation::BehindEnd(head) => {
-                let frame = FrameName(head);
-                write!(f, "{frame} came after END_STREAM (RFC 9113, 5.1)")
-            }
-            StreamViolation::BehindReset(head) => {
-                let frame = FrameName(head);
-                write!(f, "{frame} came after RST_STREAM (RFC 9113, 5.1)")
-            }
+            StreamViolation::Idle(head) => write_phrase(
+                f,
+                "{}, which the client did not open (RFC 9113, 5.1)",
+                &[Value::Frame(head)],
+            ),
+            StreamViolation::Even(head) => write_phrase(
+                f,
+                "{}, wanted an odd number, since pushes are off (RFC 9113, 5.1)",
+                &[Value::Frame(head)],
+            ),
+            StreamViolation::DataBeforeHeaders(head) => write_phrase(
+                f,
+                "{} came before HEADERS (RFC 9113, 8.1)",
+                &[Value::Frame(head)],
+            ),
+            StreamViolation::BehindEnd(head) => write_phrase(
+                f,
+                "{} came after END_STREAM (RFC 9113, 5.1)",
+                &[Value::Frame(head)],
+            ),
+            StreamViolation::BehindReset(head) => write_phrase(
+                f,
+                "{} came after RST_STREAM (RFC 9113, 5.1)",
+                &[Value::Frame(head)],
+            ),
             StreamViolation::TrailersWithoutEnd(_) => {
-                write!(f, "trailers came without END_STREAM (RFC 9113, 8.1)")
+                f.write_str("trailers came without END_STREAM (RFC 9113, 8.1)")
             }
         }
     }

@@ -8,19 +8,14 @@ use crate::call::Call;
 use crate::case::Case;
 use crate::connection::{CANCEL, Connection};
 use crate::credit::Windows;
-use crate::expect::{
-    expect_bodies, expect_body, expect_count, expect_echoes, expect_empty, expect_response,
-    expect_status, expect_sum,
-};
+use crate::expect::{expect_body, expect_count, expect_echoes, expect_status, expect_sum};
 use crate::failure::Failure;
 use crate::fault::Fault;
 use crate::line::Line;
 use crate::method::{HeadExtra, Method};
 use crate::mismatch::{ReplyFault, WantedStatus};
-use crate::request::{
-    AskedStatus, input_request, output_request, simple_request, simple_request_of,
-};
-use bytes::Bytes;
+use crate::plan::{CallPlan, WantedReplies};
+use crate::request::{AskedStatus, Request};
 use h2frame::StreamId;
 use std::alloc::Global;
 
@@ -50,6 +45,42 @@ const DEADLINE_EXCEEDED: WantedStatus = WantedStatus {
 const UNIMPLEMENTED: WantedStatus = WantedStatus {
     code: 12,
     text: None,
+};
+
+/// The calls of cases that ask once.
+const EMPTY: CallPlan<'static> = CallPlan {
+    method: Method::EmptyCall,
+    asked: HeadExtra::Nothing,
+    request: Request::Empty,
+    status: OK,
+    replies: WantedReplies::Empty,
+};
+
+const LARGE: CallPlan<'static> = CallPlan {
+    method: Method::UnaryCall,
+    request: Request::Simple {
+        response_size: LARGE_SIZE,
+        body_len: LARGE_BODY,
+        status: None,
+    },
+    replies: WantedReplies::Bodies(&[LARGE_REPLY]),
+    ..EMPTY
+};
+
+const STREAMED: CallPlan<'static> = CallPlan {
+    method: Method::StreamingOutputCall,
+    request: Request::Output {
+        sizes: &[31_415, 9, 2_653, 58_979],
+        body_len: 0,
+        status: None,
+    },
+    replies: WantedReplies::Bodies(&[31_415, 9, 2_653, 58_979]),
+    ..EMPTY
+};
+
+const ECHOED: CallPlan<'static> = CallPlan {
+    asked: HeadExtra::Echoes,
+    ..LARGE
 };
 
 const PLAIN: AskedStatus = AskedStatus {
@@ -114,82 +145,73 @@ pub fn explain<S: Line>(
 
 /// Runs a case, and reads on for a short while after it.
 fn run<S: Line>(connection: &mut Connection<S>, case: Case) -> Result<(), Fault> {
+    let mut call = Call::new(connection.alloc);
+    run_to_end(connection, &mut call, case)
+}
+
+fn run_to_end<S: Line>(
+    connection: &mut Connection<S>,
+    call: &mut Call,
+    case: Case,
+) -> Result<(), Fault> {
     connection.greet()?;
-    run_calls(connection, case)?;
+    run_calls(connection, call, case)?;
     connection.finish()
 }
 
-fn run_calls<S: Line>(connection: &mut Connection<S>, case: Case) -> Result<(), Fault> {
+fn run_calls<S: Line>(
+    connection: &mut Connection<S>,
+    call: &mut Call,
+    case: Case,
+) -> Result<(), Fault> {
     match case {
-        Case::EmptyUnary => empty_unary(connection),
-        Case::LargeUnary => large_unary(connection),
-        Case::ClientStreaming => client_streaming(connection),
-        Case::ServerStreaming => server_streaming(connection),
-        Case::PingPong => ping_pong(connection),
-        Case::EmptyStream => empty_stream(connection),
-        Case::CustomMetadata => custom_metadata(connection),
-        Case::StatusCodeAndMessage => status_code_and_message(connection),
-        Case::SpecialStatusMessage => ask_status(connection, FIRST, SPECIAL),
-        Case::UnimplementedMethod => unimplemented(connection, Method::UnimplementedCall),
-        Case::UnimplementedService => unimplemented(connection, Method::UnimplementedService),
-        Case::CancelAfterBegin => cancel_after_begin(connection),
-        Case::CancelAfterFirstResponse => cancel_after_first_response(connection),
-        Case::TimeoutOnSleepingServer => timeout_on_sleeping_server(connection),
-        Case::CacheableUnary => cacheable_unary(connection),
+        Case::EmptyUnary => EMPTY.run(connection, call, FIRST),
+        Case::LargeUnary => LARGE.run(connection, call, FIRST),
+        Case::ClientStreaming => client_streaming(connection, call),
+        Case::ServerStreaming => STREAMED.run(connection, call, FIRST),
+        Case::PingPong => ping_pong(connection, call),
+        Case::EmptyStream => empty_stream(connection, call),
+        Case::CustomMetadata => custom_metadata(connection, call),
+        Case::StatusCodeAndMessage => status_code_and_message(connection, call),
+        Case::SpecialStatusMessage => ask_status(connection, call, SPECIAL),
+        Case::UnimplementedMethod => unimplemented(connection, call, Method::UnimplementedCall),
+        Case::UnimplementedService => {
+            unimplemented(connection, call, Method::UnimplementedService)
+        }
+        Case::CancelAfterBegin => cancel_after_begin(connection, call),
+        Case::CancelAfterFirstResponse => cancel_after_first_response(connection, call),
+        Case::TimeoutOnSleepingServer => timeout_on_sleeping_server(connection, call),
+        Case::CacheableUnary => cacheable_unary(connection, call),
     }
 }
 
-/// A call with one message, and what it is answered.
-fn ask<S: Line>(
-    connection: &mut Connection<S>,
-    method: Method,
-    request: &[u8],
-) -> Result<(Call, Vec<Bytes>), Fault> {
-    let mut call = Call::begin(connection, FIRST, method, HeadExtra::Nothing)?;
-    call.send(connection, request, true)?;
-    let replies = call.replies(connection)?;
-    Ok((call, replies))
-}
-
-fn empty_unary<S: Line>(connection: &mut Connection<S>) -> Result<(), Fault> {
-    let alloc = connection.alloc;
-    let (call, replies) = ask(connection, Method::EmptyCall, &[])?;
-    expect_status(alloc, &call, OK)?;
-    expect_empty(replies.as_slice())
-}
-
-fn large_unary<S: Line>(connection: &mut Connection<S>) -> Result<(), Fault> {
-    let alloc = connection.alloc;
-    let request = simple_request(alloc, LARGE_SIZE, LARGE_BODY, None)?;
-    let (call, replies) = ask(connection, Method::UnaryCall, request.as_slice())?;
-    expect_status(alloc, &call, OK)?;
-    expect_bodies(alloc, replies.as_slice(), &[LARGE_REPLY])
-}
-
-fn client_streaming<S: Line>(connection: &mut Connection<S>) -> Result<(), Fault> {
-    let alloc = connection.alloc;
-    let mut call = Call::begin(
+fn client_streaming<S: Line>(connection: &mut Connection<S>, call: &mut Call) -> Result<(), Fault> {
+    call.begin(
         connection,
         FIRST,
         Method::StreamingInputCall,
         HeadExtra::Nothing,
     )?;
     for body_len in [27_182_usize, 8, 1_828, 45_904] {
-        let request = input_request(alloc, body_len)?;
-        call.send(connection, request.as_slice(), false)?;
+        call.send(connection, &Request::Input { body_len }, false)?;
     }
     call.half_close(connection)?;
-    let replies = call.replies(connection)?;
-    expect_status(alloc, &call, OK)?;
-    expect_sum(alloc, replies.as_slice(), 74_922)
+    call.read_replies(connection)?;
+    expect_status(connection.alloc, call, OK)?;
+    expect_sum(connection.alloc, call.replies.as_slice(), 74_922)
 }
 
-fn server_streaming<S: Line>(connection: &mut Connection<S>) -> Result<(), Fault> {
-    let alloc = connection.alloc;
-    let request = output_request(alloc, &[31_415, 9, 2_653, 58_979], 0, None)?;
-    let (call, replies) = ask(connection, Method::StreamingOutputCall, request.as_slice())?;
-    expect_status(alloc, &call, OK)?;
-    expect_bodies(alloc, replies.as_slice(), &[31_415, 9, 2_653, 58_979])
+/// Begins a call of FullDuplexCall.
+fn begin_duplex<S: Line>(
+    connection: &mut Connection<S>,
+    call: &mut Call,
+    stream: StreamId,
+    asked: HeadExtra,
+) -> Result<(), Fault>
+    requires some { 0 < stream }
+    requires within { stream < 2 ^ 31 }
+{
+    call.begin(connection, stream, Method::FullDuplexCall, asked)
 }
 
 /// Sends a request for one reply of this size, and reads the reply.
@@ -200,118 +222,113 @@ fn exchange<S: Line>(
     reply_len: usize,
     body_len: usize,
 ) -> Result<(), Fault> {
-    let alloc = connection.alloc;
-    let request = output_request(alloc, &[size], body_len, None)?;
-    call.send(connection, request.as_slice(), false)?;
+    let request = Request::Output {
+        sizes: &[size],
+        body_len,
+        status: None,
+    };
+    call.send(connection, &request, false)?;
     let Some(reply) = call.reply(connection)? else {
         return Err(Fault::Reply(ReplyFault::Ended {
             reply: call.count.saturating_add(1),
         }));
     };
-    expect_body(alloc, call.count, &reply, reply_len)
+    expect_body(connection.alloc, call.count, &reply, reply_len)
 }
 
 /// Half-closes, and expects no further reply.
 fn finish<S: Line>(connection: &mut Connection<S>, call: &mut Call) -> Result<(), Fault> {
-    let alloc = connection.alloc;
     call.half_close(connection)?;
-    let replies = call.replies(connection)?;
-    expect_status(alloc, call, OK)?;
-    expect_count(replies.as_slice(), 0)
+    call.read_replies(connection)?;
+    expect_status(connection.alloc, call, OK)?;
+    expect_count(call.replies.as_slice(), 0)
 }
 
-fn ping_pong<S: Line>(connection: &mut Connection<S>) -> Result<(), Fault> {
-    let mut call = Call::begin(
-        connection,
-        FIRST,
-        Method::FullDuplexCall,
-        HeadExtra::Nothing,
-    )?;
-    exchange(connection, &mut call, 31_415, 31_415, 27_182)?;
-    exchange(connection, &mut call, 9, 9, 8)?;
-    exchange(connection, &mut call, 2_653, 2_653, 1_828)?;
-    exchange(connection, &mut call, 58_979, 58_979, 45_904)?;
-    finish(connection, &mut call)
+fn ping_pong<S: Line>(connection: &mut Connection<S>, call: &mut Call) -> Result<(), Fault> {
+    begin_duplex(connection, call, FIRST, HeadExtra::Nothing)?;
+    exchange(connection, call, 31_415, 31_415, 27_182)?;
+    exchange(connection, call, 9, 9, 8)?;
+    exchange(connection, call, 2_653, 2_653, 1_828)?;
+    exchange(connection, call, 58_979, 58_979, 45_904)?;
+    finish(connection, call)
 }
 
-fn empty_stream<S: Line>(connection: &mut Connection<S>) -> Result<(), Fault> {
-    let mut call = Call::begin(
-        connection,
-        FIRST,
-        Method::FullDuplexCall,
-        HeadExtra::Nothing,
-    )?;
-    finish(connection, &mut call)
+fn empty_stream<S: Line>(connection: &mut Connection<S>, call: &mut Call) -> Result<(), Fault> {
+    begin_duplex(connection, call, FIRST, HeadExtra::Nothing)?;
+    finish(connection, call)
 }
 
-fn custom_metadata<S: Line>(connection: &mut Connection<S>) -> Result<(), Fault> {
-    let alloc = connection.alloc;
-    let mut unary = Call::begin(connection, FIRST, Method::UnaryCall, HeadExtra::Echoes)?;
-    let request = simple_request(alloc, LARGE_SIZE, LARGE_BODY, None)?;
-    unary.send(connection, request.as_slice(), true)?;
-    let replies = unary.replies(connection)?;
-    expect_status(alloc, &unary, OK)?;
-    expect_bodies(alloc, replies.as_slice(), &[LARGE_REPLY])?;
-    expect_echoes(alloc, &unary)?;
-    duplex_metadata(connection)
-}
-
-/// The second call of custom_metadata.
-fn duplex_metadata<S: Line>(connection: &mut Connection<S>) -> Result<(), Fault> {
-    let alloc = connection.alloc;
-    let mut call = Call::begin(
-        connection,
-        SECOND,
-        Method::FullDuplexCall,
-        HeadExtra::Echoes,
-    )?;
-    exchange(connection, &mut call, LARGE_SIZE, LARGE_REPLY, LARGE_BODY)?;
-    finish(connection, &mut call)?;
-    expect_echoes(alloc, &call)
+fn custom_metadata<S: Line>(connection: &mut Connection<S>, call: &mut Call) -> Result<(), Fault> {
+    ECHOED.run(connection, call, FIRST)?;
+    expect_echoes(connection.alloc, call)?;
+    begin_duplex(connection, call, SECOND, HeadExtra::Echoes)?;
+    exchange(connection, call, LARGE_SIZE, LARGE_REPLY, LARGE_BODY)?;
+    finish(connection, call)?;
+    expect_echoes(connection.alloc, call)
 }
 
 /// UnaryCall ends with the status that it was asked for.
 fn ask_status<S: Line>(
     connection: &mut Connection<S>,
-    stream: StreamId,
+    call: &mut Call,
     status: AskedStatus,
-) -> Result<(), Fault>
-    requires some { 0 < stream }
-    requires within { stream < 2 ^ 31 }
-{
-    let alloc = connection.alloc;
-    let mut call = Call::begin(connection, stream, Method::UnaryCall, HeadExtra::Nothing)?;
-    let request = simple_request(alloc, 0, 0, Some(status))?;
-    call.send(connection, request.as_slice(), true)?;
-    let _replies = call.replies(connection)?;
-    expect_status(alloc, &call, status.wanted())
+) -> Result<(), Fault> {
+    let request = Request::Simple {
+        response_size: 0,
+        body_len: 0,
+        status: Some(status),
+    };
+    let plan = CallPlan {
+        method: Method::UnaryCall,
+        request,
+        status: status.wanted(),
+        replies: WantedReplies::Any,
+        ..EMPTY
+    };
+    plan.run(connection, call, FIRST)
 }
 
-fn status_code_and_message<S: Line>(connection: &mut Connection<S>) -> Result<(), Fault> {
-    ask_status(connection, FIRST, PLAIN)?;
-    let alloc = connection.alloc;
-    let mut call = Call::begin(
-        connection,
-        SECOND,
-        Method::FullDuplexCall,
-        HeadExtra::Nothing,
-    )?;
-    let request = output_request(alloc, &[], 0, Some(PLAIN))?;
-    call.send(connection, request.as_slice(), true)?;
-    let _replies = call.replies(connection)?;
-    expect_status(alloc, &call, PLAIN.wanted())
+fn status_code_and_message<S: Line>(
+    connection: &mut Connection<S>,
+    call: &mut Call,
+) -> Result<(), Fault> {
+    ask_status(connection, call, PLAIN)?;
+    let request = Request::Output {
+        sizes: &[],
+        body_len: 0,
+        status: Some(PLAIN),
+    };
+    let plan = CallPlan {
+        method: Method::FullDuplexCall,
+        request,
+        status: PLAIN.wanted(),
+        replies: WantedReplies::Any,
+        ..EMPTY
+    };
+    plan.run(connection, call, SECOND)
 }
 
-fn unimplemented<S: Line>(connection: &mut Connection<S>, method: Method) -> Result<(), Fault> {
-    let alloc = connection.alloc;
-    let (call, _replies) = ask(connection, method, &[])?;
-    expect_status(alloc, &call, UNIMPLEMENTED)
+fn unimplemented<S: Line>(
+    connection: &mut Connection<S>,
+    call: &mut Call,
+    method: Method,
+) -> Result<(), Fault> {
+    let plan = CallPlan {
+        method,
+        status: UNIMPLEMENTED,
+        replies: WantedReplies::Any,
+        ..EMPTY
+    };
+    plan.run(connection, call, FIRST)
 }
 
 /// The client's own status of what it cancelled is CANCELLED: what is to be seen is that the server
 /// goes on.
-fn cancel_after_begin<S: Line>(connection: &mut Connection<S>) -> Result<(), Fault> {
-    let call = Call::begin(
+fn cancel_after_begin<S: Line>(
+    connection: &mut Connection<S>,
+    call: &mut Call,
+) -> Result<(), Fault> {
+    call.begin(
         connection,
         FIRST,
         Method::StreamingInputCall,
@@ -320,60 +337,51 @@ fn cancel_after_begin<S: Line>(connection: &mut Connection<S>) -> Result<(), Fau
     call.cancel(connection)
 }
 
-fn cancel_after_first_response<S: Line>(connection: &mut Connection<S>) -> Result<(), Fault> {
-    let mut call = Call::begin(
-        connection,
-        FIRST,
-        Method::FullDuplexCall,
-        HeadExtra::Nothing,
-    )?;
-    exchange(connection, &mut call, 31_415, 31_415, 27_182)?;
+fn cancel_after_first_response<S: Line>(
+    connection: &mut Connection<S>,
+    call: &mut Call,
+) -> Result<(), Fault> {
+    begin_duplex(connection, call, FIRST, HeadExtra::Nothing)?;
+    exchange(connection, call, 31_415, 31_415, 27_182)?;
     call.cancel(connection)
 }
 
 /// A server may end such a call by a status or by cancelling it, and either means that its time is
 /// over. No sentence has it end the call at all: a client's own clock does. So a call that the
 /// server lets stand is left, as a client leaves it.
-fn timeout_on_sleeping_server<S: Line>(connection: &mut Connection<S>) -> Result<(), Fault> {
-    let alloc = connection.alloc;
-    let mut call = Call::begin(
-        connection,
-        FIRST,
-        Method::FullDuplexCall,
-        HeadExtra::OneMillisecond,
-    )?;
-    let request = output_request(alloc, &[], 27_182, None)?;
-    call.send(connection, request.as_slice(), false)?;
+fn timeout_on_sleeping_server<S: Line>(
+    connection: &mut Connection<S>,
+    call: &mut Call,
+) -> Result<(), Fault> {
+    begin_duplex(connection, call, FIRST, HeadExtra::OneMillisecond)?;
+    let request = Request::Output {
+        sizes: &[],
+        body_len: 27_182,
+        status: None,
+    };
+    call.send(connection, &request, false)?;
     if !call.ends_within(connection, GRACE)? {
         return call.cancel(connection);
     }
-    let replies = call.replies(connection)?;
-    expect_count(replies.as_slice(), 0)?;
+    call.read_replies(connection)?;
+    expect_count(call.replies.as_slice(), 0)?;
     if call.reset == Some(CANCEL) {
         return Ok(());
     }
-    expect_status(alloc, &call, DEADLINE_EXCEEDED)?;
+    expect_status(connection.alloc, call, DEADLINE_EXCEEDED)?;
     call.leave(connection)
 }
 
 /// Two calls with one request, which has only the time, in nanoseconds. That both bodies are equal
 /// is up to a proxy that caches (gRPC's clients send GET for it), not to a server.
-fn cacheable_unary<S: Line>(connection: &mut Connection<S>) -> Result<(), Fault> {
-    let alloc = connection.alloc;
-    let now = connection.timestamp();
-    let body = format!(in alloc; "{now}")?;
-    let request = simple_request_of(alloc, 0, body.as_bytes(), None)?;
-    for stream in [FIRST, SECOND] {
-        let mut call = Call::begin(
-            connection,
-            stream,
-            Method::CacheableUnaryCall,
-            HeadExtra::UserAddress,
-        )?;
-        call.send(connection, request.as_slice(), true)?;
-        let replies = call.replies(connection)?;
-        expect_status(alloc, &call, OK)?;
-        expect_response(alloc, replies.as_slice())?;
-    }
-    Ok(())
+fn cacheable_unary<S: Line>(connection: &mut Connection<S>, call: &mut Call) -> Result<(), Fault> {
+    let plan = CallPlan {
+        method: Method::CacheableUnaryCall,
+        asked: HeadExtra::UserAddress,
+        request: Request::Stamped(connection.timestamp()),
+        replies: WantedReplies::Response,
+        ..EMPTY
+    };
+    plan.run(connection, call, FIRST)?;
+    plan.run(connection, call, SECOND)
 }

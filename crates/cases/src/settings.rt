@@ -2,7 +2,7 @@
 
 ghost use Rattle.std.specs.Prelude.{◌≡◌, length};
 
-use figures::GroupedNumber;
+use crate::phrase::{Value, write_phrase};
 use h2frame::{PeerSetting, SettingId};
 use session::Parameter;
 use std::fmt;
@@ -60,7 +60,6 @@ fn name_of(id: SettingId) -> SettingName {
 
 impl fmt::Display for SettingViolation {
     fn fmt<W: fmt::Write>(&self, f: &mut fmt::Formatter<W>) -> fmt::Result {
-        let value = GroupedNumber(u64::from(self.value));
         let (name, wanted) = match self.parameter {
             SettingName::EnablePush => ("SETTINGS_ENABLE_PUSH", "0 of a server"),
             SettingName::InitialWindowSize => {
@@ -69,6 +68,14 @@ impl fmt::Display for SettingViolation {
             SettingName::MaxFrameSize => ("SETTINGS_MAX_FRAME_SIZE", "16,384 to 16,777,215"),
             SettingName::Other => ("a parameter of SETTINGS", "another value"),
         };
-        write!(f, "{name} is {value}, wanted {wanted} (RFC 9113, 6.5.2)")
+        write_phrase(
+            f,
+            "{} is {}, wanted {} (RFC 9113, 6.5.2)",
+            &[
+                Value::Text(name),
+                Value::Grouped(u64::from(self.value)),
+                Value::Text(wanted),
+            ],
+        )
     }
 }

@@ -1,12 +1,13 @@
 //! Why nothing more comes, and what was waited for.
 
 use crate::input::Progress;
-use figures::{ByteCount, FrameName, GroupedNumber};
+use crate::phrase::{Value, write_phrase};
 use h2frame::{FrameHead, StreamId};
 use std::fmt;
+use std::fmt::Display;
 
 /// How a connection fell silent.
-#[derive(Clone, Copy, PartialEq, Eq)]
+#[derive(Clone, Copy)]
 pub enum Silence {
     /// Nothing came any more until the case's time was over, and the connection stands.
     Stalled,
@@ -82,108 +83,144 @@ impl SilenceFault {
 }
 
 impl SilenceFault {
+    /// Whether the server went on, or didn't read, until the case's time was over.
+    fn has_lasted(&self) -> bool {
+        matches!(self.how, Silence::Endless | Silence::Untaken)
+    }
+
+    /// Writes after how many seconds the case's time was over, with a digit after the point.
+    fn tell_time<W: fmt::Write>(&self, f: &mut fmt::Formatter<W>) -> fmt::Result {
+        if !self.has_lasted() {
+            return Ok(());
+        }
+        write_phrase(
+            f,
+            " after {}.{} s",
+            &[
+                Value::Number(self.spent / 1000),
+                Value::Number(self.spent % 1000 / 100),
+            ],
+        )
+    }
+
+    /// Writes how far the next frame had come.
+    fn tell_progress<W: fmt::Write>(&self, f: &mut fmt::Formatter<W>) -> fmt::Result {
+        if self.progress.came == 0 {
+            return Ok(());
+        }
+        f.write_str("; ")?;
+        self.progress.fmt(f)?;
+        f.write_str(" came")
+    }
+
+    /// Writes that a GOAWAY came, if one did.
+    fn tell_goaway<W: fmt::Write>(&self, f: &mut fmt::Formatter<W>) -> fmt::Result {
+        match self.goaway {
+            Some(last) => write_phrase(
+                f,
+                "; GOAWAY 0 (NO_ERROR) with the last stream {} came before",
+                &[Value::Stream(last)],
+            ),
+            None => Ok(()),
+        }
+    }
+
     /// Writes what came last.
     fn tell_last<W: fmt::Write>(&self, f: &mut fmt::Formatter<W>) -> fmt::Result {
         let Some(head) = self.last else {
             return Ok(());
         };
-        let (frames, last) = (GroupedNumber(self.frames), FrameName(head));
+        let last = Value::Frame(head);
         if self.frames == 1 {
-            write!(f, "; one frame came, {last}")
+            write_phrase(f, "; one frame came, {}", &[last])
         } else {
-            write!(f, "; {frames} frames came, the last {last}")
+            write_phrase(
+                f,
+                "; {} frames came, the last {}",
+                &[Value::Grouped(self.frames), last],
+            )
         }
-    }
-}
-
-/// Milliseconds, as seconds with a digit after the point.
-#[derive(Clone, Copy)]
-struct Seconds(u64);
-
-impl fmt::Display for Seconds {
-    fn fmt<W: fmt::Write>(&self, f: &mut fmt::Formatter<W>) -> fmt::Result {
-        let (seconds, tenths) = (self.0 / 1000, self.0 % 1000 / 100);
-        write!(f, "{seconds}.{tenths} s")
     }
 }
 
 impl fmt::Display for Silence {
     fn fmt<W: fmt::Write>(&self, f: &mut fmt::Formatter<W>) -> fmt::Result {
-        match self {
-            Silence::Stalled => write!(f, "stalled"),
-            Silence::Endless => write!(f, "not ended"),
-            Silence::Untaken => write!(f, "the server stopped reading"),
-            Silence::Closed => write!(f, "the server closed the connection"),
-            Silence::Broken => write!(f, "the connection broke"),
-            Silence::Unwritten => write!(f, "a write failed"),
-        }
+        f.write_str(match self {
+            Silence::Stalled => "stalled",
+            Silence::Endless => "not ended",
+            Silence::Untaken => "the server stopped reading",
+            Silence::Closed => "the server closed the connection",
+            Silence::Broken => "the connection broke",
+            Silence::Unwritten => "a write failed",
+        })
     }
 }
 
 impl fmt::Display for WaitGoal {
     fn fmt<W: fmt::Write>(&self, f: &mut fmt::Formatter<W>) -> fmt::Result {
         match *self {
-            WaitGoal::Window { sent, of } => {
-                let (sent, of) = (GroupedNumber(sent as u64), ByteCount(of as u64));
-                write!(f, "sent {sent} of {of}, send window 0")
-            }
-            WaitGoal::Settings => write!(f, "no SETTINGS came (RFC 9113, 3.4)"),
-            WaitGoal::Head(stream) => write!(f, "no HEADERS came on stream {stream}"),
-            WaitGoal::FinalHead(stream) => {
-                write!(f, "informational HEADERS alone came on stream {stream}")
-            }
-            WaitGoal::Trailers(stream, bytes) => {
-                let bytes = ByteCount(bytes);
-                write!(
-                    f,
-                    "{bytes} of DATA came on stream {stream}, and no trailers"
-                )
-            }
-            WaitGoal::Block(stream) => {
-                write!(
-                    f,
-                    "the header block on stream {stream} goes on, and no CONTINUATION ended it"
-                )
-            }
-            WaitGoal::Ping => write!(f, "PING was not acknowledged (RFC 9113, 6.7)"),
+            WaitGoal::Window { sent, of } => write_phrase(
+                f,
+                "sent {} of {}, send window 0",
+                &[Value::Grouped(sent as u64), Value::Bytes(of as u64)],
+            ),
+            WaitGoal::Settings => f.write_str("no SETTINGS came (RFC 9113, 3.4)"),
+            WaitGoal::Head(stream) => write_phrase(
+                f,
+                "no HEADERS came on stream {}",
+                &[Value::Stream(stream)],
+            ),
+            WaitGoal::FinalHead(stream) => write_phrase(
+                f,
+                "informational HEADERS alone came on stream {}",
+                &[Value::Stream(stream)],
+            ),
+            WaitGoal::Trailers(stream, bytes) => write_phrase(
+                f,
+                "{} of DATA came on stream {}, and no trailers",
+                &[Value::Bytes(bytes), Value::Stream(stream)],
+            ),
+            WaitGoal::Block(stream) => write_phrase(
+                f,
+                "the header block on stream {} goes on, and no CONTINUATION ended it",
+                &[Value::Stream(stream)],
+            ),
+            WaitGoal::Ping => f.write_str("PING was not acknowledged (RFC 9113, 6.7)"),
         }
     }
 }
 
 impl fmt::Display for Progress {
     fn fmt<W: fmt::Write>(&self, f: &mut fmt::Formatter<W>) -> fmt::Result {
-        let came = self.came;
         match self.head {
-            Some(head) => {
-                let (frame, length) = (FrameName(head), ByteCount(u64::from(head.length)));
-                let came = GroupedNumber(came.saturating_sub(9) as u64);
-                write!(f, "{came} of {length} of {frame}")
-            }
-            None => write!(f, "{came} of 9 bytes of a frame's head"),
+            Some(head) => write_phrase(
+                f,
+                "{} of {} of {}",
+                &[
+                    Value::Grouped(self.came.saturating_sub(9) as u64),
+                    Value::length_of(&head),
+                    Value::Frame(head),
+                ],
+            ),
+            None => write_phrase(
+                f,
+                "{} of 9 bytes of a frame's head",
+                &[Value::Number(self.came as u64)],
+            ),
         }
     }
 }
 
 impl fmt::Display for SilenceFault {
     fn fmt<W: fmt::Write>(&self, f: &mut fmt::Formatter<W>) -> fmt::Result {
-        let (how, awaited, progress) = (self.how, self.awaited, self.progress);
-        match how {
-            Silence::Endless | Silence::Untaken => {
-                let spent = Seconds(self.spent);
-                write!(f, "{how} after {spent}: {awaited}")?;
-                self.tell_last(f)?;
-            }
-            _ => write!(f, "{how}: {awaited}")?,
+        self.how.fmt(f)?;
+        self.tell_time(f)?;
+        f.write_str(": ")?;
+        self.awaited.fmt(f)?;
+        if self.has_lasted() {
+            self.tell_last(f)?;
         }
-        if progress.came > 0 {
-            write!(f, "; {progress} came")?;
-        }
-        match self.goaway {
-            Some(last) => write!(
-                f,
-                "; GOAWAY 0 (NO_ERROR) with the last stream {last} came before"
-            ),
-            None => Ok(()),
-        }
+        self.tell_progress(f)?;
+        self.tell_goaway(f)
     }
 }

@@ -7,19 +7,19 @@ ghost use Rattle.cases.specs.Names.{IsNoSoak, soak_name_of};
 use crate::call::Call;
 use crate::connection::Connection;
 use crate::credit::Windows;
-use crate::expect::{expect_bodies, expect_status};
 use crate::failure::Failure;
 use crate::fault::Fault;
 use crate::line::Line;
 use crate::method::{HeadExtra, Method};
 use crate::mismatch::WantedStatus;
-use crate::request::simple_request;
+use crate::plan::{CallPlan, WantedReplies};
+use crate::request::Request;
 use crate::runs::explain;
 use h2frame::StreamId;
 use std::alloc::Global;
 
 /// A soak.
-#[derive(Clone, Copy, Debug, PartialEq, Eq)]
+#[derive(Clone, Copy)]
 pub enum Soak {
     /// Its calls share a connection.
     Rpc,
@@ -56,7 +56,7 @@ impl Soak {
 }
 
 /// What a call of a soak asks.
-#[derive(Clone, Copy, Debug, PartialEq, Eq)]
+#[derive(Clone, Copy)]
 pub struct SoakSizes {
     /// How many bytes the body of a request and that of a response has.
     pub request: usize,
@@ -108,23 +108,22 @@ impl<S: Line + Drop> Channel<S> {
             return Err(Fault::Unwritable);
         }
         self.next = stream + 2;
-        let connection = &mut self.connection;
-        let alloc = connection.alloc;
-        let SoakSizes { request, response } = sizes;
-        let wanted = WantedStatus {
-            code: 0,
-            text: None,
+        let plan = CallPlan {
+            method: Method::UnaryCall,
+            asked: HeadExtra::Nothing,
+            request: Request::Simple {
+                response_size: sizes.response,
+                body_len: sizes.request,
+                status: None,
+            },
+            status: WantedStatus {
+                code: 0,
+                text: None,
+            },
+            replies: WantedReplies::Bodies(&[sizes.response.unsigned_abs() as usize]),
         };
-        let message = simple_request(alloc, response, request, None)?;
-        let mut call = Call::begin(connection, stream, Method::UnaryCall, HeadExtra::Nothing)?;
-        call.send(connection, message.as_slice(), true)?;
-        let replies = call.replies(connection)?;
-        expect_status(alloc, &call, wanted)?;
-        expect_bodies(
-            alloc,
-            replies.as_slice(),
-            &[response.unsigned_abs() as usize],
-        )
+        let mut call = Call::new(self.connection.alloc);
+        plan.run(&mut self.connection, &mut call, stream)
     }
 
     /// Reads on for a short while after the last call, as after a case.

@@ -45,8 +45,12 @@ impl Streams {
 
     /// The server's half of a stream, and how many bytes of DATA came, if the stream was opened.
     pub fn find(&self, id: StreamId) -> Option<(Phase, u64)> {
-        let stream = self.streams.iter().rev().find(|stream| stream.id == id)?;
-        Some((stream.phase, stream.bytes))
+        for stream in self.streams.iter().rev() {
+            if stream.id == id {
+                return Some((stream.phase, stream.bytes));
+            }
+        }
+        None
     }
 
     /// Judges a frame of a stream by what came before it. Its phase is answered where the frame is

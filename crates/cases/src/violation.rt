@@ -3,13 +3,14 @@
 use crate::credit::WindowViolation;
 use crate::field_rules::FieldViolation;
 use crate::frame_rules::FrameViolation;
+use crate::phrase::{Value, write_phrase};
 use crate::pings::PingViolation;
 use crate::response::StreamViolation;
 use crate::settings::SettingViolation;
-use figures::{ErrorName, FrameName, byte_count};
 use h2frame::{FrameHead, StreamId};
 use hpack_codec::HpackFault;
 use std::fmt;
+use std::fmt::Display;
 
 /// A rule of HTTP/2, or of gRPC over HTTP/2, that the server broke; or the error with which it
 /// ended the connection.
@@ -63,46 +64,47 @@ pub enum BlockViolation {
 impl fmt::Display for Violation {
     fn fmt<W: fmt::Write>(&self, f: &mut fmt::Formatter<W>) -> fmt::Result {
         match self {
-            Violation::Frame(violation) => write!(f, "{violation}"),
-            Violation::Stream(violation) => write!(f, "{violation}"),
-            Violation::Window(violation) => write!(f, "{violation}"),
-            Violation::Setting(violation) => write!(f, "{violation}"),
-            Violation::Ping(violation) => write!(f, "{violation}"),
-            Violation::Block(violation) => write!(f, "{violation}"),
-            Violation::Field(stream, violation) => write!(f, "stream {stream}: {violation}"),
-            Violation::FirstFrame { head, is_ack } => {
-                let frame = FrameName(*head);
-                let with = if *is_ack { " with ACK" } else { "" };
-                write!(
-                    f,
-                    "{frame}{with} came first, wanted SETTINGS (RFC 9113, 3.4)"
-                )
+            Violation::Frame(violation) => violation.fmt(f),
+            Violation::Stream(violation) => violation.fmt(f),
+            Violation::Window(violation) => violation.fmt(f),
+            Violation::Setting(violation) => violation.fmt(f),
+            Violation::Ping(violation) => violation.fmt(f),
+            Violation::Block(violation) => violation.fmt(f),
+            Violation::Field(stream, violation) => {
+                write_phrase(f, "stream {}: ", &[Value::Stream(*stream)])?;
+                violation.fmt(f)
             }
-            Violation::SettingsUnacknowledged => {
-                write!(
-                    f,
-                    "SETTINGS were not acknowledged in the whole time, and a PING after them was (RFC 9113, 6.5.3)"
-                )
-            }
-            Violation::PushPromise(stream) => {
-                write!(
-                    f,
-                    "PUSH_PROMISE on stream {stream}, wanted none, since pushes are off (RFC 9113, 6.6)"
-                )
-            }
-            Violation::GoAway { code, last, text } => {
-                let error = ErrorName(*code);
-                write!(
-                    f,
-                    "GOAWAY {code} ({error}) with the last stream {last}: {text:?}"
-                )
-            }
-            Violation::GoAwayRises { before, last } => {
-                write!(
-                    f,
-                    "GOAWAY with the last stream {last}, wanted at most {before} (RFC 9113, 6.8)"
-                )
-            }
+            Violation::FirstFrame { head, is_ack } => write_phrase(
+                f,
+                "{}{} came first, wanted SETTINGS (RFC 9113, 3.4)",
+                &[
+                    Value::Frame(*head),
+                    Value::Text(if *is_ack { " with ACK" } else { "" }),
+                ],
+            ),
+            Violation::SettingsUnacknowledged => f.write_str(
+                "SETTINGS were not acknowledged in the whole time, and a PING after them was (RFC 9113, 6.5.3)",
+            ),
+            Violation::PushPromise(stream) => write_phrase(
+                f,
+                "PUSH_PROMISE on stream {}, wanted none, since pushes are off (RFC 9113, 6.6)",
+                &[Value::Stream(*stream)],
+            ),
+            Violation::GoAway { code, last, text } => write_phrase(
+                f,
+                "GOAWAY {} ({}) with the last stream {}: {}",
+                &[
+                    Value::Code(*code),
+                    Value::Error(*code),
+                    Value::Stream(*last),
+                    Value::Quoted(text.as_str()),
+                ],
+            ),
+            Violation::GoAwayRises { before, last } => write_phrase(
+                f,
+                "GOAWAY with the last stream {}, wanted at most {} (RFC 9113, 6.8)",
+                &[Value::Stream(*last), Value::Stream(*before)],
+            ),
         }
     }
 }
@@ -110,28 +112,30 @@ impl fmt::Display for Violation {
 impl fmt::Display for BlockViolation {
     fn fmt<W: fmt::Write>(&self, f: &mut fmt::Formatter<W>) -> fmt::Result {
         match *self {
-            BlockViolation::Lone(head) => {
-                let frame = FrameName(head);
-                write!(f, "{frame} came outside a header block (RFC 9113, 6.10)")
-            }
-            BlockViolation::Interrupted(stream, head) => {
-                let frame = FrameName(head);
-                write!(
-                    f,
-                    "{frame} came inside the header block of stream {stream} (RFC 9113, 4.3)"
-                )
-            }
+            BlockViolation::Lone(head) => write_phrase(
+                f,
+                "{} came outside a header block (RFC 9113, 6.10)",
+                &[Value::Frame(head)],
+            ),
+            BlockViolation::Interrupted(stream, head) => write_phrase(
+                f,
+                "{} came inside the header block of stream {} (RFC 9113, 4.3)",
+                &[Value::Frame(head), Value::Stream(stream)],
+            ),
             BlockViolation::Hpack {
                 stream,
                 length,
                 fault,
-            } => {
-                let (length, section) = (byte_count(length), section_of(fault));
-                write!(
-                    f,
-                    "the header block of stream {stream}, of {length}: {fault} ({section})"
-                )
-            }
+            } => write_phrase(
+                f,
+                "the header block of stream {}, of {}: {} ({})",
+                &[
+                    Value::Stream(stream),
+                    Value::Bytes(length as u64),
+                    Value::Hpack(fault),
+                    Value::Text(section_of(fault)),
+                ],
+            ),
         }
     }
 }

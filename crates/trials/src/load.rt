@@ -20,7 +20,7 @@ use std::time::{Clock, Instant};
 use words::CaseRun;
 
 /// What came of a run.
-#[derive(Clone, Copy, Debug, PartialEq, Eq)]
+#[derive(Clone, Copy)]
 struct Run {
     fault: Option<CaseFault>,
     /// How long it took, in microseconds.

@@ -19,7 +19,7 @@ use words::{CaseRun, SoakWords};
 type Open<R> = Channel<TimedConn<R, Line<TcpStream, R>>>;
 
 /// What came of a call.
-#[derive(Clone, Copy, Debug, PartialEq, Eq)]
+#[derive(Clone, Copy)]
 struct Iteration {
     fault: Option<CaseFault>,
     /// How long it took, in microseconds.
@@ -184,7 +184,7 @@ fn leave<R: Wait + Clock + Eprint + Drop>(
     let Some(channel) = channel else {
         return Ok(None);
     };
-    if plan.soak == Soak::Rpc && channel.is_open() {
+    if matches!(plan.soak, Soak::Rpc) && channel.is_open() {
         return Ok(Some(channel));
     }
     close(rt, plan, channel)?;
@@ -199,7 +199,7 @@ fn close<R: Wait + Clock + Eprint + Drop>(
     channel: Open<R>,
 ) -> Result<(), CaseFault> {
     match channel.close() {
-        Err(failure) if failure.fault == CaseFault::Connection => {
+        Err(failure) if matches!(failure.fault, CaseFault::Connection) => {
             let (name, Failure { fault, note }) = (plan.soak.name(), failure);
             let _said = eprintln!(rt; "{name}: {note}");
             Err(fault)

@@ -8,7 +8,7 @@ use std::alloc::AllocError;
 use std::io::Write;
 
 /// What came of the runs of a case.
-#[derive(Clone, Copy, Debug, PartialEq, Eq)]
+#[derive(Clone, Copy)]
 pub struct Tally {
     /// How many passed.
     pub passed: u16,
