@@ -367,7 +367,7 @@ impl<L: Line> Connection<L> {
         if stream == 0 || stream % 2 == 0 {
             return Err(Halt::Broke(EVEN_STREAM));
         }
-        if self.calls.iter().any(|call| call.stream > stream) || self.windows.has(stream) {
+        if has_later(self.calls.as_slice(), stream) || self.windows.has(stream) {
             return Err(Halt::Broke(OLD_STREAM));
         }
         let live = open_calls(self.calls.as_slice());
@@ -420,18 +420,16 @@ impl<L: Line> Connection<L> {
     /// The client gives the connection up. The first reason counts, but for NO_ERROR.
     fn goaway(&mut self, code: u32) {
         self.stir();
-        if self.goaway.is_none_or(|before| before.code == 0) {
-            self.goaway = Some(Ending {
-                code,
-                is_goaway: true,
-                is_early: self
-                    .calls
-                    .iter()
-                    .any(|call| !call.is_over && call.reset.is_none()),
-                is_after_reading: self.has_read,
-                is_late: self.is_all_read,
-            });
+        if matches!(self.goaway, Some(before) if before.code != 0) {
+            return;
         }
+        self.goaway = Some(Ending {
+            code,
+            is_goaway: true,
+            is_early: has_unended(self.calls.as_slice()),
+            is_after_reading: self.has_read,
+            is_late: self.is_all_read,
+        });
     }
 
     /// The client's SETTINGS hold from now on.
@@ -522,7 +520,33 @@ fn allow_frame(call: &Call) -> Result<(), Halt>
 
 /// How many calls neither side has ended.
 pub fn open_calls(calls: &[Call]) -> usize {
-    calls.iter().filter(|call| call.is_open()).count()
+    let mut count: usize = 0;
+    for call in calls {
+        if call.is_open() {
+            count = count.saturating_add(1);
+        }
+    }
+    count
+}
+
+/// Whether a call came on a later stream.
+fn has_later(calls: &[Call], stream: StreamId) -> bool {
+    for call in calls {
+        if call.stream > stream {
+            return true;
+        }
+    }
+    false
+}
+
+/// Whether the server hasn't said all of a call that the client didn't reset.
+fn has_unended(calls: &[Call]) -> bool {
+    for call in calls {
+        if !call.is_over && call.reset.is_none() {
+            return true;
+        }
+    }
+    false
 }
 
 /// Changes the windows of all calls by this much.

@@ -183,7 +183,12 @@ impl<W: World> Host<W> {
 
     /// Whether a connection is open.
     fn is_connected(&self) -> bool {
-        self.is_main_open() || self.others.iter().any(|other| other.connection.is_open)
+        for other in &self.others {
+            if other.connection.is_open {
+                return true;
+            }
+        }
+        self.is_main_open()
     }
 
     fn is_main_open(&self) -> bool {

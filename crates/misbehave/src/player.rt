@@ -98,7 +98,7 @@ impl<L: Line> Player<L> {
     pub fn reset(&self) -> Option<Ending> {
         match self.current_call() {
             Some(call) => call.reset,
-            None => self.connection.calls.iter().find_map(|call| call.reset),
+            None => first_reset(self.connection.calls.as_slice()),
         }
     }
 
@@ -107,11 +107,7 @@ impl<L: Line> Player<L> {
     pub fn is_over(&self) -> bool {
         match self.current_call() {
             Some(call) => call.is_over,
-            None => self
-                .connection
-                .calls
-                .iter()
-                .all(|call| call.is_over || call.reset.is_some()),
+            None => are_over(self.connection.calls.as_slice()),
         }
     }
 
@@ -282,10 +278,10 @@ impl<L: Line> Player<L> {
         match step {
             PlayStep::AwaitCall => Ok(self.await_call()),
             PlayStep::AwaitUpdatedCall => self.await_updated_call(),
-            PlayStep::AwaitRequest => Ok(
-                self.current_call()
-                    .is_none_or(|call| { call.is_whole || call.reset.is_some() }),
-            ),
+            PlayStep::AwaitRequest => Ok(match self.current_call() {
+                Some(call) => call.is_whole || call.reset.is_some(),
+                None => true,
+            }),
             PlayStep::AwaitBytes(count) => self.await_bytes(*count),
             PlayStep::AwaitAcks => Ok(self.connection.rules.is_acknowledged()),
             PlayStep::AwaitPongs => Ok(self.connection.rules.is_answered()),
@@ -389,11 +385,12 @@ impl<L: Line> Player<L> {
     /// Whether a call came after the acknowledgement of all SETTINGS that were sent.
     fn await_updated_call(&mut self) -> Result<bool, Halt> {
         let acks = self.connection.rules.acks();
-        let mut calls = self.connection.calls.iter();
-        match calls.find(|call| !call.is_played && call.acks >= acks) {
-            Some(call) if call.is_updated => Ok(true),
-            Some(_) if self.connection.intake.has_entries() => Err(Halt::Broke(NO_SIZE_UPDATE)),
-            Some(_) => Err(Halt::Lacks(ClientLack::Seen(NO_ENTRIES))),
+        match next_update(self.connection.calls.as_slice(), acks) {
+            Some(true) => Ok(true),
+            Some(false) if self.connection.intake.has_entries() => {
+                Err(Halt::Broke(NO_SIZE_UPDATE))
+            }
+            Some(false) => Err(Halt::Lacks(ClientLack::Seen(NO_ENTRIES))),
             None => Ok(false),
         }
     }
@@ -427,16 +424,53 @@ impl<L: Line> Player<L> {
     /// Whether a call that is whole has long waited for another beside it.
     fn has_waited(&self) -> bool {
         let now = self.connection.now;
-        let mut calls = self.connection.calls.iter();
-        calls.any(|call| !call.is_over && call.has_been_whole(now, TOGETHER))
+        for call in self.connection.calls.as_slice() {
+            if !call.is_over && call.has_been_whole(now, TOGETHER) {
+                return true;
+            }
+        }
+        false
     }
 
     /// How many calls were answered to their end.
     fn answered(&self) -> usize {
-        self.connection
-            .calls
-            .iter()
-            .filter(|call| call.is_over)
-            .count()
+        let mut count: usize = 0;
+        for call in self.connection.calls.as_slice() {
+            if call.is_over {
+                count = count.saturating_add(1);
+            }
+        }
+        count
     }
+}
+
+/// How the client reset the first of the calls that it reset.
+fn first_reset(calls: &[Call]) -> Option<Ending> {
+    for call in calls {
+        if call.reset.is_some() {
+            return call.reset;
+        }
+    }
+    None
+}
+
+/// Whether the server has said all of these calls, but for those that the client reset.
+fn are_over(calls: &[Call]) -> bool {
+    for call in calls {
+        if !call.is_over && call.reset.is_none() {
+            return false;
+        }
+    }
+    true
+}
+
+/// Whether the first call that no step is about and that came after this many acknowledgements
+/// begins with the change of the table's size, if one came.
+fn next_update(calls: &[Call], acks: u32) -> Option<bool> {
+    for call in calls {
+        if !call.is_played && call.acks >= acks {
+            return Some(call.is_updated);
+        }
+    }
+    None
 }

@@ -95,10 +95,10 @@ impl<R: Net + Clock + Drop> Port<R> {
 
 /// A host without brackets.
 fn bare(host: &str) -> &str {
-    let inner = host
-        .strip_prefix('[')
-        .and_then(|rest| rest.strip_suffix(']'));
-    inner.unwrap_or(host)
+    match host.strip_prefix('[') {
+        Some(rest) => rest.strip_suffix(']').unwrap_or(host),
+        None => host,
+    }
 }
 
 /// Listens on the first of a host's addresses where that can be.

@@ -42,31 +42,52 @@ pub fn outcome_of<W: World>(
     play: &Misbehaviour,
     host: &Host<W>,
 ) -> Result<Outcome, AllocError> {
-    let judgement = host.judgement();
-    let mut outcome = Outcome::new(alloc, Suite::Misbehave, play.name, judgement.verdict())?;
+    let verdict = host.judgement().verdict();
+    let mut outcome = Outcome::new(alloc, Suite::Misbehave, play.name, verdict)?;
+    note_play(alloc, &mut outcome, play, host)?;
+    note_judgement(alloc, &mut outcome, play, host)?;
+    Ok(outcome)
+}
+
+/// Notes what was played, and what was sent and read.
+fn note_play<W: World>(
+    alloc: Global,
+    outcome: &mut Outcome,
+    play: &Misbehaviour,
+    host: &Host<W>,
+) -> Result<(), AllocError> {
     outcome.title = Some(title_of(alloc, play)?);
     outcome.wanted = Some(String::from_str(alloc, play.wants)?);
     outcome.came = Some(came_of(alloc, play, host)?);
-    match judgement {
-        Judgement::Right => outcome.passed = 1,
-        Judgement::Wrong(fault) => {
-            let mut reason = String::new(alloc);
-            push_fault(&mut reason, &fault, &host.deeds())?;
-            outcome.reason = Some(reason);
-            outcome.rule = Some(told_rule(alloc, fault.rule())?);
-        }
-        Judgement::Untested(lack) => {
-            let mut reason = String::new(alloc);
-            push_lack(&mut reason, lack, play)?;
-            outcome.reason = Some(reason);
-        }
-    }
-    let (read, written) = host.bytes();
     outcome.read = Some(Vec::from_slice(alloc, host.heard())?);
+    let (read, written) = host.bytes();
     outcome.read_count = Some(read);
     outcome.sent_count = Some(written);
     outcome.milliseconds = host.milliseconds;
-    Ok(outcome)
+    Ok(())
+}
+
+/// Notes what is to be said of the client.
+fn note_judgement<W: World>(
+    alloc: Global,
+    outcome: &mut Outcome,
+    play: &Misbehaviour,
+    host: &Host<W>,
+) -> Result<(), AllocError> {
+    let mut reason = String::new(alloc);
+    match host.judgement() {
+        Judgement::Right => {
+            outcome.passed = 1;
+            return Ok(());
+        }
+        Judgement::Wrong(fault) => {
+            push_fault(&mut reason, &fault, &host.deeds())?;
+            outcome.rule = Some(told_rule(alloc, fault.rule())?);
+        }
+        Judgement::Untested(lack) => push_lack(&mut reason, lack, play)?,
+    }
+    outcome.reason = Some(reason);
+    Ok(())
 }
 
 fn title_of(alloc: Global, play: &Misbehaviour) -> Result<String, AllocError> {

@@ -96,12 +96,17 @@ impl Rules {
 
     /// Whether the PING of this number isn't answered.
     pub fn is_waiting(&self, number: u64) -> bool {
-        self.pings.iter().any(|ping| ping.number == number)
+        for ping in self.pings.as_slice() {
+            if ping.number == number {
+                return true;
+            }
+        }
+        false
     }
 
     /// What the client has owed for a long time.
     pub fn overdue(&self, now: u64) -> Option<Breach> {
-        if self.pings.iter().any(|ping| is_overdue(ping.at, now)) {
+        if self.has_overdue_ping(now) {
             return Some(if self.has_other_pong {
                 OTHER_PONG
             } else {
@@ -112,6 +117,15 @@ impl Rules {
             Some(waiting) if is_overdue(waiting.at, now) => Some(NO_ACK),
             _ => None,
         }
+    }
+
+    fn has_overdue_ping(&self, now: u64) -> bool {
+        for ping in self.pings.as_slice() {
+            if is_overdue(ping.at, now) {
+                return true;
+            }
+        }
+        false
     }
 
     /// SETTINGS were sent. By how much the windows of calls grow.

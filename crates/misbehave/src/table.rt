@@ -45,5 +45,10 @@ fn push_closing(plays: &mut Vec<Misbehaviour>) -> Result<(), AllocError> {
 pub fn named(plays: &[Misbehaviour], name: &str) -> Option<Misbehaviour>
     ensures { IfSome result (λ play. play.name.now ≡ name.now) }
 {
-    plays.iter().find(|play| play.name == name).copied()
+    for play in plays {
+        if play.name == name {
+            return Some(*play);
+        }
+    }
+    None
 }
