@@ -1,1 +1,3 @@
 pub mod StepLemmas
+pub mod Noting
+pub mod UseLemmas

@@ -8,16 +8,24 @@
 //! writer that of the bytes that were announced. So when they meet again, each share is what the
 //! book has.
 //!
+//! Each thread also holds its `Deeds`: in the proofs the list of all that it did to the book, each
+//! with the book's answer. The methods that the threads call add to it, and nothing else does. So a
+//! thread's contract says what it did under the lock by what it says of its deeds. A running
+//! program has one word of them all, their number.
+//!
 //! - `answers`: what the book answers, `Receipt` and `AdmitFault`.
 //! - `steps`: the steps on the credit book alone.
+//! - `deeds`: what each thread did to the book, and the log that counts it.
 //! - `conn_book`: the value under the lock.
 //! - `uses::three_threads`: a reader, a worker and a writer over one lock.
 #![tactic(auto)]
 
 mod answers;
 mod conn_book;
+mod deeds;
 mod steps;
 pub mod uses;
 
 pub use answers::{AdmitFault, Receipt};
 pub use conn_book::ConnBook;
+pub use deeds::{Deed, DeedLog, Deeds, LogNaming, NewLog};

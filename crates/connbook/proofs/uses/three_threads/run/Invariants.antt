@@ -8,3 +8,6 @@ ghosts-run_over-B-Ledger g a = record { name = a.blanks.1.name; parts = a.blanks
 
 abbrev pub ghosts-run_over-C-Ledger : goal.ghosts-run_over-C-Ledger
 ghosts-run_over-C-Ledger g a = record { name = a.blanks.2.name; parts = a.blanks.2.parts }
+
+abbrev pub ghosts-run_over-D-LogNaming : goal.ghosts-run_over-D-LogNaming
+ghosts-run_over-D-LogNaming g a = record { log = a.log.table.shared.table_id }
