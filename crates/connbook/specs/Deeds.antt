@@ -9,8 +9,8 @@ abbrev pub deeds_in : List (List Deed) → ℕ
 deeds_in [] = 0
 deeds_in (deeds ∷ others) = length deeds + deeds_in others
 
--- A log: its one word is how many deeds all threads did (modulo 2^64). So no list can get longer
--- unless the word is written.
+-- A log: its one word is how many deeds all threads did, modulo 2^64. It counts deeds and doesn't say
+-- what they are: that is the view of each thread, which only steps on the log change.
 abbrev pub IsCounted : State (Unit {0}) (List Deed) → Type 0
 IsCounted log = log.words ≡ (deeds_in log.views % 2 ^ 64) ∷ []
 

@@ -267,10 +267,10 @@ impl<A: Ledger, B: Ledger, C: Ledger, D: LogNaming> ConnBook<A, B, C, D> {
         } = self;
         received.audit(mine);
         steps::count(book, id, flow, padding, receipt);
+        log.note(deeds, Deed::Received(id, flow, padding, receipt));
         if receipt != Receipt::Overrun {
             received.add(mine, u64::from(flow));
         }
-        log.note(deeds, Deed::Received(id, flow, padding, receipt));
         receipt
     }
 

@@ -140,8 +140,13 @@ fn run_over<
     let (received, came) = blanks.0.open::<A>();
     let (admitted, calls) = blanks.1.open::<B>();
     let (announced, told) = blanks.2.open::<C>();
-    let (book, reader, writer) =
-        ConnBook::new(alloc, received, admitted, announced, log.named::<D>());
+    let (book, reader, writer) = ConnBook::new(
+        alloc,
+        received,
+        admitted,
+        announced,
+        log.named::<D>(),
+    );
     let mut reader = reader;
     let worker = book.hire(&mut reader);
     let book = Mutex::new(book);
