@@ -9,10 +9,8 @@ use Rattle.std.proofs.Common.{
   [],
   ◌∷◌,
   ◌++◌,
-  Bool,
   Err,
   ap,
-  false,
   append-nil,
   arith,
   length,
@@ -21,7 +19,6 @@ use Rattle.std.proofs.Common.{
   true,
   true≢false,
 }
-use Rattle.callparts.specs.declared.report.Ending.{Ending}
 use Rattle.callparts.specs.declared.report.Ending.TheVariants.{OutOfMemory, ReadFailed}
 use Rattle.session.specs.declared.event.InEvent.{InEvent}
 use Rattle.readerloop.specs.Steps.{Lacks, Step, events_of}
@@ -114,9 +111,8 @@ returns-in-Err-Device-clause-read g c = λ sent carried none.
 pub returns-in-Err-Device-clause-grows : goal.returns-in-Err-Device-clause-grows
 returns-in-Err-Device-clause-grows g c = c.pieces.invariant.0
 
-is_read_failure : Ending → Bool
-is_read_failure ReadFailed = true
-is_read_failure _ = false
+not-unread : ¬ (OutOfMemory ≡ ReadFailed)
+not-unread failed = cc
 
 pub returns-in-Err-OutOfMemory-clause-read : goal.returns-in-Err-OutOfMemory-clause-read
 returns-in-Err-OutOfMemory-clause-read g c = λ sent carried none.
@@ -131,7 +127,7 @@ returns-in-Err-OutOfMemory-clause-read g c = λ sent carried none.
         told = Lacks ∷ h.2;
         read = none-read sent h.1 h.2 h.0 some.0 _ _ _ h.4 h.5 (c.lack.ensures.kept sent h.2 h.7);
         covered = covers-more _ (Lacks ∷ []) h.2 h.8;
-        failed = λ failed. absurd (true≢false (sym (ap is_read_failure failed)));
+        failed = λ failed. absurd (not-unread failed);
         over = λ input going. absurd (true≢false (sym (input-out OutOfMemory input)));
       },
     )
