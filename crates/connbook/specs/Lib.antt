@@ -1,3 +1,4 @@
 pub mod Receipts
 pub mod Ledgers
 pub mod ReceiptExamples
+pub mod Words

@@ -1,7 +1,21 @@
 -- What the reader of a connection has followed: the words of `Heard`, of the reader before and
 -- after.
 use mathlib.Core.List.{IsPrefix}
-use Rattle.std.specs.Prelude.{◌≡◌, ℕ, Bool, true, false, List, [], IfSome, Option, Some}
+use Rattle.std.specs.Prelude.{
+  ◌≡◌,
+  ◌⊎◌,
+  ℕ,
+  Bool,
+  true,
+  false,
+  List,
+  [],
+  IfSome,
+  IsSome,
+  Option,
+  None,
+  Some,
+}
 use Rattle.std.specs.Io.KnownBytes.{IsAtEnd}
 use Rattle.lane.specs.Ring.{in_name, out_name, put_in, taken}
 use Rattle.lane.specs.RingEnds.{RingName}
@@ -12,7 +26,7 @@ use Rattle.callparts.specs.declared.order.OpeningCall.{OpeningCall}
 use Rattle.callparts.specs.declared.order.ReturningCall.{ReturningCall}
 use Rattle.callparts.specs.declared.register.Naming.{Ghosts as Naming}
 use Rattle.callparts.specs.declared.report.Ending.{Ending}
-use Rattle.callparts.specs.declared.report.Ending.TheVariants.{ReadFailed}
+use Rattle.callparts.specs.declared.report.Ending.TheVariants.{Drained, ReadFailed}
 use Rattle.handlers.specs.declared.step.MethodStep.{MethodStep as Answer}
 use Rattle.outwriter.specs.declared.control.WriterOrder.{WriterOrder}
 use Rattle.session.specs.declared.event.InEvent.{InEvent}
@@ -82,15 +96,21 @@ module _ {A B C J M N R G : Type 0} {book : Naming J} {route : Ghosts N}
     pub failed : end ≡ ReadFailed → read_failed ≡ true
     -- the input is at its end where the connection ended with it, and the writer didn't stop
     pub over : IsOfInput end → reader.orders.has_stopped ≡ false → IsAtEnd rest
+    -- it ended since the server drains only at the end of its input, or where the book said that no
+    -- call was live, if the writer didn't stop
+    pub drained : end ≡ Drained → reader.orders.has_stopped ≡ false
+        → IsAtEnd rest ⊎ IsSome reader.drained_book
 
-  -- A connection has begun: its reader has followed nothing yet, and counted nothing; it shares this
-  -- ring of orders and this ring of senders with the writer. The device is as it was before.
+  -- A connection has begun: its reader has followed nothing yet, and counted nothing, and the book
+  -- didn't say yet that no call is live; the reader shares this ring of orders and this ring of
+  -- senders with the writer. The device is as it was before.
   pub record HasBegun (ring : Option RingName) (before now : Option (List ℕ))
       (taking : RingOut (WriterOrder (OpeningCall J book))) (home : RingIn (ReturningCall J book))
       (tally : Tally) (reader : Reader A B C J M N R G book route) : Type 0 where
     pub kept : (sent : List SentItems) → HasFollowed sent [] reader
     pub none_home : taken reader.reading.home ≡ []
     pub uncounted : (tally.calls ≡ 0) × (tally.came ≡ 0)
+    pub unasked : reader.drained_book ≡ None
     pub device : now ≡ before
     pub orders : ring ≡ Some (out_name taking)
     pub way : out_name reader.reading.home ≡ in_name home

@@ -1,5 +1,6 @@
 pub mod Blamed
 pub mod Done
+pub mod Ended
 pub mod Endings
 pub mod Keys
 pub mod Left

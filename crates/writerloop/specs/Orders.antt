@@ -199,6 +199,11 @@ module _ {S : Type 0} where
   abbrev pub TakesNoWindow : WriterOrder S → Type 0
   TakesNoWindow order = (id : ℕ) → Concerns (PeerWindow id) order → ⊥
 
+  -- an order was set aside to which the writer's answer won't be a GOAWAY of its own
+  abbrev pub WaitsWithoutWindow : Inbox S → Type 0
+  WaitsWithoutWindow inbox =
+      (order : WriterOrder S) × (inbox.set_aside ≡ Some order) × TakesNoWindow order
+
 -- whether an order is lost, or the answer to it
 abbrev pub loses_by : {S : Type 0} → OrderOutcome S → Bool
 loses_by Done = false
