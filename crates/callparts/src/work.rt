@@ -1,8 +1,11 @@
 //! A call that is to be answered.
 
+ghost use Rattle.std.specs.Prelude.{◌≡◌};
+
 use account::OutItem;
 use callbox::{Giver, InPiece, Taker};
 use callhead::CallHead;
+use connbook::CallKey;
 use h2frame::StreamId;
 use lane::RingLane;
 
@@ -23,10 +26,13 @@ pub struct Request {
     pub opened: u64,
 }
 
-/// A call that a worker is to answer, with its two ends of the call's lanes.
+/// A call that a worker is to answer, with its two ends of the call's lanes, and the call's key of
+/// the credit book.
 #[derive(Drop)]
 pub struct Work {
     pub request: Request,
     pub taker: Taker<InLane>,
     pub giver: Giver<OutLane>,
+    pub key: CallKey,
+    pub ghost own: { key.id ≡ request.id },
 }

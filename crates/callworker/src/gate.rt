@@ -1,6 +1,7 @@
 //! When a call may go on, and when a connection's last byte is written.
 
 use callparts::CallAccount;
+use connbook::StoppedBook;
 use h2frame::StreamId;
 
 /// Says when a call goes on, and hears when one was answered. A server's calls go on at once
@@ -17,8 +18,8 @@ pub trait Gate {
 
     /// The writer has ended the connection and writes nothing more. The connection's input is to
     /// end now, so that it can be closed (RFC 9113, section 5.4.1). The writing thread calls this,
-    /// maybe more than once.
-    fn writing_ended(&self);
+    /// maybe more than once, and only once the book was stopped.
+    fn writing_ended(&self, stopped: &StoppedBook);
 
     /// A call was settled, with this account. The reading thread calls this after a read, before a
     /// call that begins, or at the end.
@@ -36,5 +37,5 @@ impl Gate for OpenGate {
 
     fn trailers_written(&self, _id: StreamId) {}
 
-    fn writing_ended(&self) {}
+    fn writing_ended(&self, _stopped: &StoppedBook) {}
 }

@@ -3,7 +3,19 @@
 //! `Worker::work` answers one call after another, and hands each back, with its ends, as soon as it
 //! is over.
 
-ghost use Rattle.std.specs.Prelude.{◌≡◌, ◌<◌, [], ◌∷◌, ◌++◌, false, length, None, Some};
+ghost use Rattle.std.specs.Prelude.{
+  ◌≡◌,
+  ◌≢◌,
+  ◌<◌,
+  [],
+  ◌∷◌,
+  ◌++◌,
+  false,
+  length,
+  IfSome,
+  None,
+  Some,
+};
 ghost use Rattle.lane.specs.End.{of_end};
 ghost use Rattle.lane.specs.RingEnds.{consumer_name, producer_name};
 ghost use Rattle.lane.specs.RingLane.{got, in_name, out_name, put_in, put_shut, shut_name};
@@ -19,6 +31,8 @@ ghost use Rattle.callparts.specs.Workers.{
   IsKnown,
   answers_by,
 };
+ghost use Rattle.callworker.specs.declared.worker.AfterTurn.TheVariants as after;
+ghost use Rattle.callworker.specs.Leaving.{MayBeLeft, word_in};
 ghost use Rattle.callworker.specs.Runs.{EndsAs, GoesOn, IsOneCall, giver_name};
 ghost use Rattle.callworker.specs.Works.{HasHandedBack, IsUnused};
 
@@ -32,7 +46,7 @@ use callparts::{
     Answering, DoneIn, FinishedJob, InLane, Job, Line, Naming, OutLane, Request, Traffic, Work,
 };
 use callrun::{CallRun, Turn};
-use h2frame::StreamId;
+use connbook::{CallKey, NotLive};
 use handlers::{Method, Methods};
 use lane::End;
 use rtrb::PushError;
@@ -51,6 +65,17 @@ pub struct Worker<A: Ledger, B: Ledger, C: Ledger, G: Drop> {
     pub gate: Arc<G>,
     /// When the connection began; nothing where the clock didn't tell.
     pub start: Option<Instant>,
+}
+
+/// What a turn of a call came to.
+#[derive(Drop)]
+enum AfterTurn {
+    /// The call goes on.
+    GoesOn,
+    /// It is over.
+    Over,
+    /// It was left, since the book said that it is no longer live.
+    NotLive(NotLive),
 }
 
 /// What is left of a call that was answered.
@@ -164,27 +189,28 @@ impl<A: Ledger, B: Ledger, C: Ledger, G: Gate + Drop> Worker<A, B, C, G> {
             request,
             taker,
             giver,
+            key,
         } = work;
         let Request {
-            id,
             index,
             head,
             opened,
+            ..
         } = request;
         if methods.get(index).is_none() {
-            return self.pass_over(rt, id, taker, giver);
+            return self.pass_over(rt, &key, taker, giver);
         }
         let mut run = CallRun::new(self.alloc, methods, index, head, taker, giver, opened);
         let mut pace = Pace::new();
-        self.run(rt, methods, id, &mut run, &mut pace);
-        self.end(rt, id, run, pace)
+        let not_live = self.run(rt, methods, &key, &mut run, &mut pace);
+        self.end(rt, &key, run, pace, not_live)
     }
 
     /// Leaves a call from which nothing was taken.
     fn pass_over(
         &self,
         rt: &impl Wait,
-        id: StreamId,
+        key: &CallKey,
         taker: Taker<InLane>,
         giver: Giver<OutLane>,
     ) -> AnsweredCall
@@ -194,7 +220,7 @@ impl<A: Ledger, B: Ledger, C: Ledger, G: Gate + Drop> Worker<A, B, C, G> {
         ensures status { result.status ≡ None }
     {
         let given = giver.leave();
-        self.settle(rt, id, 0, false);
+        self.settle(rt, key, 0, false);
         AnsweredCall {
             taker,
             given,
@@ -203,63 +229,69 @@ impl<A: Ledger, B: Ledger, C: Ledger, G: Gate + Drop> Worker<A, B, C, G> {
         }
     }
 
-    /// Gives the call turns until its end.
+    /// Gives the call turns until its end. Where it was left because it was no longer live, answers
+    /// the book's word for that.
     fn run<R: Wait + Clock>(
         &self,
         rt: &R,
         methods: &Methods,
-        id: StreamId,
+        key: &CallKey,
         run: &mut CallRun<InLane, OutLane>,
         pace: &mut Pace,
-    )
+    ) -> Option<NotLive>
         requires index { run.old.index < length (listed methods.now) }
         ensures goes_on { GoesOn (λ m. answers (m.vtable, m.value))
             (λ m. stands (m.vtable, m.value))
             (listed methods.now) run.old run.new }
         ensures same { IsOneCall run.old run.new }
         ensures over { is_open run.new.response ≡ false }
+        ensures left { MayBeLeft run.old None → MayBeLeft run.new result }
     {
         'turns: for _ in rt.forever() {
-            self.pass_gate(rt, id, pace);
-            if !self.step(rt, methods, id, run, pace) {
-                return;
+            self.pass_gate(rt, key, pace);
+            match self.step(rt, methods, key, run, pace) {
+                AfterTurn::GoesOn => {}
+                AfterTurn::Over => return None,
+                AfterTurn::NotLive(word) => return Some(word),
             }
         }
+        unreachable!()
     }
 
     /// Waits until the gate lets the call go on, or the call is no longer live.
-    fn pass_gate(&self, rt: &impl Wait, id: StreamId, pace: &mut Pace) {
+    fn pass_gate(&self, rt: &impl Wait, key: &CallKey, pace: &mut Pace) {
         'refusals: for _ in 0..pace.refusals() {
             let mark = self.line.bell.mark();
-            if self.gate.may_go(id) {
+            if self.gate.may_go(key.id()) {
                 return;
             }
             pace.refused();
             self.line
                 .bell
                 .wait_past(rt, mark, Duration::from_millis(STEP));
-            if !self.shared.book.lock(rt).is_live(id) {
+            if self.shared.book.lock(rt).not_live(key).is_some() {
                 return;
             }
         }
     }
 
     /// Gives the call a turn, and waits where there was nothing to do. A call that is no longer
-    /// live ends. Answers whether it goes on.
+    /// live ends.
     fn step<R: Wait + Clock>(
         &self,
         rt: &R,
         methods: &Methods,
-        id: StreamId,
+        key: &CallKey,
         run: &mut CallRun<InLane, OutLane>,
         pace: &mut Pace,
-    ) -> bool
+    ) -> AfterTurn
         requires index { run.old.index < length (listed methods.now) }
         ensures goes_on { GoesOn (λ m. answers (m.vtable, m.value))
             (λ m. stands (m.vtable, m.value))
             (listed methods.now) run.old run.new }
         ensures same { IsOneCall run.old run.new }
-        ensures over { result ≡ false → is_open run.new.response ≡ false }
+        ensures over { result ≢ after.GoesOn → is_open run.new.response ≡ false }
+        ensures left { MayBeLeft run.old None → MayBeLeft run.new (word_in result) }
     {
         let came = self.line.bell.mark();
         let now = self.now(rt, run);
@@ -269,18 +301,18 @@ impl<A: Ledger, B: Ledger, C: Ledger, G: Gate + Drop> Worker<A, B, C, G> {
                 if pace.went() {
                     self.shared.writer.ring();
                 }
-                true
+                AfterTurn::GoesOn
             }
-            Turn::Over => false,
+            Turn::Over => AfterTurn::Over,
             Turn::Nothing | Turn::Full => {
-                if !self.is_live(rt, id, run, pace) {
+                if let Some(word) = self.look_if_live(rt, key, run, pace) {
                     self.give_up(rt, methods, run);
-                    return false;
+                    return AfterTurn::NotLive(word);
                 }
                 let most = limit(run.time_left(now));
                 self.line.bell.wait_past(rt, came, most);
                 pace.waited(turn);
-                true
+                AfterTurn::GoesOn
             }
         }
     }
@@ -294,6 +326,7 @@ impl<A: Ledger, B: Ledger, C: Ledger, G: Gate + Drop> Worker<A, B, C, G> {
             (listed methods.now) run.old run.new }
         ensures same { IsOneCall run.old run.new }
         ensures over { result ≡ turn.Over → is_open run.new.response ≡ false }
+        ensures left { MayBeLeft run.old None → MayBeLeft run.new None }
     {
         let turn = run.turn(methods, now);
         if turn != Turn::Full {
@@ -303,15 +336,17 @@ impl<A: Ledger, B: Ledger, C: Ledger, G: Gate + Drop> Worker<A, B, C, G> {
         run.turn(methods, now)
     }
 
-    /// Returns the bytes that were taken, and answers whether the call is still live. It rings the
-    /// writer if bytes were returned, or if something was given since the last ring.
-    fn is_live(
+    /// Returns the bytes that were taken. Where the call is no longer live, answers the book's word
+    /// for that. It rings the writer if bytes were returned, or if something was given since the
+    /// last ring.
+    fn look_if_live(
         &self,
         rt: &impl Wait,
-        id: StreamId,
+        key: &CallKey,
         run: &mut CallRun<InLane, OutLane>,
         pace: &mut Pace,
-    ) -> bool
+    ) -> Option<NotLive>
+        ensures whose { IfSome result (λ word. word.id ≡ key.now.id) }
         ensures none { run.new.taker.progress ≡ record run.old.taker.progress { owed = 0 } }
         ensures rx { run.new.taker.rx ≡ run.old.taker.rx }
         ensures same { (run.new.index ≡ run.old.index) × (run.new.call ≡ run.old.call)
@@ -319,19 +354,19 @@ impl<A: Ledger, B: Ledger, C: Ledger, G: Gate + Drop> Worker<A, B, C, G> {
     {
         let credit = run.credit();
         pace.came(credit);
-        let is_live = {
+        let not_live = {
             let mut book = self.shared.book.lock(rt);
             if credit > 0 {
                 // The bytes of a call that is no longer live were returned already.
-                let _ = book.return_credit(id, credit);
+                let _ = book.return_credit(key, credit);
             }
-            book.is_live(id)
+            book.not_live(key)
         };
         // Only now, so that the writer sees the bytes that were returned.
         if credit > 0 || !pace.is_told() {
             self.shared.writer.ring();
         }
-        is_live
+        not_live
     }
 
     /// Gives a call that is no longer live turns as long as they do something, and then leaves it.
@@ -362,14 +397,17 @@ impl<A: Ledger, B: Ledger, C: Ledger, G: Gate + Drop> Worker<A, B, C, G> {
         }
     }
 
-    /// Ends a call that is over, by its last item, and hands back its ends.
+    /// Ends a call that is over, by its last item, and hands back its ends. It was left only for
+    /// want of memory, or with the book's word that it was no longer live.
     fn end(
         &self,
         rt: &impl Wait,
-        id: StreamId,
+        key: &CallKey,
         run: CallRun<InLane, OutLane>,
         pace: Pace,
+        _not_live: Option<NotLive>,
     ) -> AnsweredCall
+        requires left { MayBeLeft run _not_live }
         ensures rx { result.taker.rx ≡ run.taker.rx }
         ensures progress { result.taker.progress ≡ record run.taker.progress { owed = 0 } }
         ensures name { Some (shut_name result.given.shut) ≡ giver_name run.response }
@@ -382,7 +420,7 @@ impl<A: Ledger, B: Ledger, C: Ledger, G: Gate + Drop> Worker<A, B, C, G> {
         let (replies, reply_bytes) = run.given();
         let (taker, end, status) = run.into_ends();
         let given = shut_of(end);
-        self.settle(rt, id, credit, status.is_some());
+        self.settle(rt, key, credit, status.is_some());
         AnsweredCall {
             taker,
             given,
@@ -396,14 +434,14 @@ impl<A: Ledger, B: Ledger, C: Ledger, G: Gate + Drop> Worker<A, B, C, G> {
     }
 
     /// Returns the bytes that were taken of a call that is over, whose last item was given before.
-    /// A call without trailers is cut.
-    fn settle(&self, rt: &impl Wait, id: StreamId, credit: u32, has_trailers: bool) {
+    /// A call without trailers is left.
+    fn settle(&self, rt: &impl Wait, key: &CallKey, credit: u32, has_trailers: bool) {
         let mut book = self.shared.book.lock(rt);
         if credit > 0 {
-            let _ = book.return_credit(id, credit);
+            let _ = book.return_credit(key, credit);
         }
         if !has_trailers {
-            book.cut(id);
+            book.leave(key);
         }
     }
 

@@ -8,7 +8,8 @@
 //! writer that of the bytes that were announced. So when they meet again, each share is what the
 //! book has.
 //!
-//! - `answers`: what the book answers, `Receipt` and `AdmitFault`.
+//! - `answers`: what the book answers, `Receipt` and `AdmitFault`; `words`: what it said, as values
+//!   that nobody else makes; `keys`: who may end a call.
 //! - `steps`: the steps on the credit book alone.
 //! - `conn_book`: the value under the lock.
 //! - `uses::three_threads`: a reader, a worker and a writer over one lock.
@@ -16,8 +17,15 @@
 
 mod answers;
 mod conn_book;
+mod keys;
 mod steps;
 pub mod uses;
+mod words;
 
 pub use answers::{AdmitFault, Receipt};
-pub use conn_book::ConnBook;
+pub use conn_book::{ConnBook, OpenedBook};
+pub use keys::{BookKey, CallKey, DrainKey};
+pub use words::{
+    ClosedBook, CountedData, DrainedBook, DueCredit, LastAdmitted, NotLive, RefusedCall,
+    StoppedBook,
+};

@@ -273,6 +273,18 @@ module _ {A B C J M N : Type 0} {book : Naming J} {route : Ghosts N}
       let more = reads.1 sent carried told kept covers in
       true≢false (sym (input-out end is) ∙ ended-harsh end more.0 more.1.ended)
 
+  pub some-undrained : (sent : List SentItems) (tally tally_new : Tally) (end : Ending)
+      (given : List InEvent) (told : List Step) (reading reading_new : Reading J M book)
+      (orders orders_new : Orders A B C J N book route)
+      → AreCarried sent (taken reading_new.home)
+      → ReadsWith known names tally tally_new given (Some end) reading orders reading_new orders_new
+      → KeptFor known names sent told reading orders → Covers told tally → end ≢ Drained
+  some-undrained sent tally tally_new end given told reading reading_new orders orders_new carried
+      reads kept covers is =
+      let more = reads.1 sent carried told kept covers in
+      true≢false
+      (sym (ap (λ (e : Ending). is_heard_out e) is) ∙ ended-harsh end more.0 more.1.ended)
+
   -- the connection ends for want of memory
   pub kept-lack : (sent : List SentItems) (told : List Step) (decided : Decision J book)
       (one two three : Reading J M book) (old new : Orders A B C J N book route)

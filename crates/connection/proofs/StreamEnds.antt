@@ -435,3 +435,15 @@ open-windows run id items (WasReset was) flows = inr (inl was)
 open-windows run id items (WasHeldBack none shut) flows =
     absurd (omega (arith, flows shut.0 shut.1, shut.2))
 open-windows run id items (WasLeftOpen none has) flows = inr (inr (none, has))
+
+-- in the words of the call's account
+pub answered : (run : List Step) (id : ℕ) (items : List OutItem) (trailers_sent : Bool)
+    → trailers_sent ≡ has_trailers items → StreamEnd run id items
+    → ((history : List WindowStep) → HasHistory run history → 0 < room_after history id)
+    → (list_any (ends id) (frames_of run) ≡ true)
+    ⊎ ((was_reset id run ≡ true) ⊎ (trailers_sent ≡ false))
+answered run id items trailers_sent is (WasEnded ended) flows = inl ended
+answered run id items trailers_sent is (WasReset was) flows = inr (inl was)
+answered run id items trailers_sent is (WasHeldBack none shut) flows =
+    absurd (omega (arith, flows shut.0 shut.1, shut.2))
+answered run id items trailers_sent is (WasLeftOpen none has) flows = inr (inr (is ∙ none))

@@ -15,6 +15,7 @@ use Rattle.std.proofs.Common.{
   Option,
   None,
   Some,
+  ap,
   arith,
   length,
   length-append,
@@ -27,6 +28,8 @@ use Rattle.std.specs.Prelude.{IfErr, Result, Ok, Err}
 use Rattle.std.proofs.lemmas.List.Sums.{sum_by-append}
 use Rattle.callhead.specs.declared.head.CallHead.{CallHead}
 use Rattle.callparts.specs.declared.report.Ending.{Ending}
+use Rattle.connbook.specs.Words.{answer_in}
+use Rattle.connbook.specs.declared.words.RefusedCall.{RefusedCall}
 use Rattle.connbook.specs.declared.answers.AdmitFault.{AdmitFault}
 use Rattle.connbook.specs.declared.answers.AdmitFault.TheVariants as refused
 use Rattle.connbook.specs.declared.answers.Receipt.{Receipt}
@@ -179,14 +182,18 @@ may-turn refused.NotNew calls more draining may few = tt
 may-turn refused.OutOfMemory calls more draining may few = tt
 
 -- by what the lock says
-pub turns-so : (result : Result (Unit {0}) AdmitFault) (calls : ℕ)
-    → (result ≡ Err refused.TooMany → 64 ≤ calls)
-    → IfErr result (λ fault. MayTurnAway calls true fault)
+turns : (fault : AdmitFault) (calls : ℕ) → (fault ≡ refused.TooMany → 64 ≤ calls)
+    → MayTurnAway calls true fault
+turns refused.TooMany calls many = many refl
+turns refused.Draining calls many = refl
+turns refused.NotNew calls many = tt
+turns refused.OutOfMemory calls many = tt
+
+pub turns-so : (result : Result (Unit {0}) RefusedCall) (calls : ℕ)
+    → (answer_in result ≡ Err refused.TooMany → 64 ≤ calls)
+    → IfErr result (λ call. MayTurnAway calls true call.fault)
 turns-so (Ok done) calls many = tt
-turns-so (Err refused.TooMany) calls many = many refl
-turns-so (Err refused.Draining) calls many = refl
-turns-so (Err refused.NotNew) calls many = tt
-turns-so (Err refused.OutOfMemory) calls many = tt
+turns-so (Err call) calls many = turns call.fault calls (λ is. many (ap Err is))
 
 -- a call that isn't for the lock
 pub refused-justified : (id : ℕ) (head : CallHead) (told : List Step) (draining : Bool)

@@ -4,7 +4,7 @@ ghost use Rattle.std.specs.Prelude.{◌≡◌, ◌<◌, IfOk};
 ghost use Rattle.connection.specs.Begins.{IsUnused};
 
 use callworker::SharedConn;
-use connbook::ConnBook;
+use connbook::{BookKey, ConnBook, DrainKey, OpenedBook};
 use std::alloc::{AllocError, Global};
 use std::sync::ledger::{Blank, Ledger, Share};
 use std::sync::{Arc, Wait};
@@ -13,16 +13,19 @@ use std::sync::{Arc, Wait};
 #[derive(Drop)]
 pub struct Drainer<A: Ledger, B: Ledger, C: Ledger> {
     shared: Arc<SharedConn<A, B, C>>,
+    key: DrainKey,
 }
 
 /// What `serve_connection` takes so that a drainer can end the connection: what its threads share,
-/// and the shares of its credit book.
+/// and the shares and keys of its credit book.
 #[derive(Drop)]
 pub struct DrainHandle<A: Ledger, B: Ledger, C: Ledger> {
     pub(crate) shared: Arc<SharedConn<A, B, C>>,
     pub(crate) came: Share<A>,
     pub(crate) calls: Share<B>,
     pub(crate) announced: Share<C>,
+    pub(crate) reader_key: BookKey,
+    pub(crate) writer_key: BookKey,
 }
 
 impl<A: Ledger, B: Ledger, C: Ledger> Drainer<A, B, C> {
@@ -42,20 +45,32 @@ impl<A: Ledger, B: Ledger, C: Ledger> Drainer<A, B, C> {
         let (received, came) = blanks.0.open::<A>();
         let (admitted, calls) = blanks.1.open::<B>();
         let (announced, share) = blanks.2.open::<C>();
-        let shared = SharedConn::new(alloc, ConnBook::new(alloc, received, admitted, announced))?;
+        let OpenedBook {
+            book,
+            reader_key,
+            writer_key,
+            drain_key,
+        } = ConnBook::new(alloc, received, admitted, announced);
+        let shared = SharedConn::new(alloc, book)?;
         let handle = DrainHandle {
             shared: Arc::try_clone(&shared)?,
             came,
             calls,
             announced: share,
+            reader_key,
+            writer_key,
         };
-        Ok((Drainer { shared }, handle))
+        let drainer = Drainer {
+            shared,
+            key: drain_key,
+        };
+        Ok((drainer, handle))
     }
 
     /// Admits no more calls. The writer warns the peer, and GOAWAY names the last call that goes
     /// on; the connection ends after the last of them. A second drain changes nothing.
     pub fn drain(&self, rt: &impl Wait) {
-        self.shared.book.lock(rt).close();
+        self.shared.book.lock(rt).close(&self.key);
         self.shared.writer.ring();
     }
 

@@ -5,7 +5,7 @@ ghost use Rattle.connection.specs.Limits.{MayRefuse, MayTurnAway, Tally, one_mor
 ghost use Rattle.connbook.specs.Receipts.{counted_of};
 
 use callworker::SharedConn;
-use connbook::{AdmitFault, Receipt};
+use connbook::{CountedData, RefusedCall};
 use h2frame::StreamId;
 use std::marker::Model;
 use std::sync::ledger::{Ledger, Share};
@@ -49,10 +49,12 @@ impl<A: Ledger, B: Ledger, C: Ledger> Intake<A, B, C> {
     }
 
     /// Admits a call.
-    pub(crate) fn admit(&mut self, rt: &impl Wait, id: StreamId) -> Result<(), AdmitFault>
+    pub(crate) fn admit(&mut self, rt: &impl Wait, id: StreamId) -> Result<(), RefusedCall>
+        ensures whose { IfErr result (λ refused. refused.id ≡ id) }
         ensures counted { OnOk result (self.new ≡ one_more self.old) }
         ensures uncounted { OnErr result (self.new ≡ self.old) }
-        ensures justified { IfErr result (λ fault. MayTurnAway self.old.calls true fault) }
+        ensures justified { IfErr result
+            (λ refused. MayTurnAway self.old.calls true refused.fault) }
     {
         let Intake { shared, calls, .. } = self;
         shared.book.lock(rt).admit(id, calls)
@@ -65,11 +67,12 @@ impl<A: Ledger, B: Ledger, C: Ledger> Intake<A, B, C> {
         id: StreamId,
         flow: u32,
         padding: u32,
-    ) -> Receipt
+    ) -> CountedData
         requires padding { padding ≤ flow }
+        ensures whose { (result.id ≡ id) × (result.flow ≡ flow) × (result.padding ≡ padding) }
         ensures calls { self.new.calls ≡ self.old.calls }
-        ensures counted { self.new.came ≡ self.old.came + counted_of flow result }
-        ensures justified { MayRefuse (self.old.came + flow) result }
+        ensures counted { self.new.came ≡ self.old.came + counted_of flow result.receipt }
+        ensures justified { MayRefuse (self.old.came + flow) result.receipt }
     {
         let Intake { shared, came, .. } = self;
         shared.book.lock(rt).receive(id, flow, padding, came)

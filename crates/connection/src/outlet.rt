@@ -5,7 +5,7 @@ ghost use Rattle.writerloop.specs.Written.{LeadsTo};
 
 use callparts::Naming;
 use callworker::SharedConn;
-use connbook::ConnBook;
+use connbook::{ClosedBook, ConnBook, LastAdmitted};
 use device::ConnWrite;
 use h2frame::StreamId;
 use limits::MAX_LIVE;
@@ -53,22 +53,22 @@ impl<A: Ledger, B: Ledger, C: Ledger> Outlet<A, B, C> {
     }
 
     /// The greatest stream that was admitted.
-    pub(crate) fn last(&self, rt: &impl Wait) -> StreamId {
+    pub(crate) fn last(&self, rt: &impl Wait) -> LastAdmitted {
         self.shared.book.lock(rt).last()
     }
 
-    /// Whether no more calls are admitted.
-    pub(crate) fn is_closing(&self, rt: &impl Wait) -> bool {
-        self.shared.book.lock(rt).closing()
+    /// The book's word that no more calls are admitted; None where they are.
+    pub(crate) fn closed(&self, rt: &impl Wait) -> Option<ClosedBook> {
+        self.shared.book.lock(rt).closed()
     }
 
     /// Grants the peer all credit that is due, which the writer then owes. What is granted on the
-    /// connection counts in the share. Answers whether no more calls are admitted.
+    /// connection counts in the share. Answers the book's word, where no more calls are admitted.
     pub(crate) fn grant_due<J: Naming, W: ConnWrite + Drop>(
         &mut self,
         rt: &impl Wait,
         writing: &mut Writing<J, W>,
-    ) -> bool
+    ) -> Option<ClosedBook>
         ensures { LeadsTo W.contents W.failed self.old writing.old self.new writing.new }
     {
         let Outlet {
@@ -84,7 +84,7 @@ impl<A: Ledger, B: Ledger, C: Ledger> Outlet<A, B, C> {
             grant_due_on(&mut book, announced, writing, id);
         }
         grant_due_on(&mut book, announced, writing, 0);
-        book.closing()
+        book.closed()
     }
 }
 
@@ -111,8 +111,7 @@ where
     if !writing.takes_credit(id) {
         return;
     }
-    let increment = book.take_due_credit(id, announced);
-    if increment > 0 {
-        writing.grant(id, increment);
+    if let Some(credit) = book.take_due_credit(id, announced) {
+        writing.grant(credit);
     }
 }

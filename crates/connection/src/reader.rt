@@ -1,7 +1,7 @@
 //! The reading thread of a connection. It reads, asks the lock, and does what the reading side
 //! decides (the crate `readerloop`).
 
-ghost use Rattle.std.specs.Prelude.{◌≡◌, ◌∷◌, ℕ, List, [], IfSome, false, true};
+ghost use Rattle.std.specs.Prelude.{◌≡◌, ◌∷◌, ℕ, List, [], None, IfSome, IsSome, false, true};
 ghost use Rattle.std.specs.Io.KnownBytes.{Consumes};
 ghost use Rattle.lane.specs.Ring.{taken};
 ghost use Rattle.handlers.specs.Listed.{listed};
@@ -30,7 +30,7 @@ use bytes::Bytes;
 use callhead::HeadFault;
 use callparts::{Answering, Ending, Front, Naming, Order, Register, ReturningCall};
 use callworker::{Gate, WorkerThread};
-use connbook::Receipt;
+use connbook::{BookKey, ClosedBook, DrainedBook};
 use device::{ConnRead, ReadFault};
 use h2frame::{ErrorCode, StreamId};
 use handlers::{Method, Methods};
@@ -80,6 +80,8 @@ pub(crate) struct Reader<
     /// How the reader's bell stood when the reader last looked for what came back. None where a
     /// half was shut since.
     looked: Option<u64>,
+    /// The book's word that no call is live, and that no more are admitted.
+    drained_book: Option<DrainedBook>,
     gate: Arc<G>,
     /// When the connection began; nothing where the clock didn't tell.
     start: Option<Instant>,
@@ -100,6 +102,7 @@ where
         rt: R,
         alloc: Global,
         orders: Orders<A, B, C, J, N>,
+        key: BookKey,
         register: Register<J>,
         front: Front<J>,
         home: RingOut<ReturningCall<J>>,
@@ -110,14 +113,16 @@ where
             → Reads M.known M.names (carried_in sent) [] result.reading }
         ensures home { result.reading.home ≡ home }
         ensures orders { result.orders ≡ orders }
+        ensures unasked { result.drained_book ≡ None }
     {
         Reader {
             rt,
             alloc,
             orders,
-            reading: Reading::new(alloc, register, front, home),
+            reading: Reading::new(alloc, key, register, front, home),
             hands: Vec::new(alloc),
             looked: None,
+            drained_book: None,
             gate,
             start,
         }
@@ -134,6 +139,7 @@ where
         requires methods { AreKnownBy ⟦<dyn Method as Method>⟧ (listed methods.now.value)
             M.known M.names }
         requires uncounted { (intake.old.calls ≡ 0) × (intake.old.came ≡ 0) }
+        requires unasked { self.old.drained_book ≡ None }
         ensures grows { Grows self.old.reading self.new.reading }
         ensures read { (sent : List SentItems) → AreCarried sent (taken self.new.reading.home)
             → HasFollowed M.known M.names sent [] self.old
@@ -175,35 +181,39 @@ where
     }
 
     /// Looks whether the server drains, and if so orders the GOAWAY for it. Answers whether no call
-    /// is live then: the connection ends.
+    /// is live then, by the book's word: the connection ends.
     fn heed_drain(&mut self) -> bool
         ensures cuts { ActsAlone M.known M.names false self.old self.new }
         ensures draining { result ≡ true → self.new.reading.is_draining ≡ true }
+        ensures word { result ≡ true → IsSome self.new.drained_book }
+        ensures undrained { self.new.reading.is_draining ≡ false
+            → self.new.drained_book ≡ self.old.drained_book }
     {
-        let (is_closing, is_live) = self.look();
-        if !is_closing {
+        let (closed, drained) = self.look();
+        let Some(word) = closed else {
             return false;
-        }
-        self.drain();
-        !is_live
+        };
+        self.drain(&word);
+        self.drained_book = drained;
+        self.drained_book.is_some()
     }
 
-    /// Whether no more calls are admitted, and whether one is live.
-    fn look(&self) -> (bool, bool) {
+    /// The book's words that no more calls are admitted, and that none is live either.
+    fn look(&self) -> (Option<ClosedBook>, Option<DrainedBook>) {
         let book = self.orders.shared.book.lock(&self.rt);
-        (book.closing(), book.live_id(0).is_some())
+        (book.closed(), book.drained())
     }
 
     /// The server drains: orders the GOAWAY that names the last call which goes on, unless it was
     /// ordered.
-    fn drain(&mut self)
+    fn drain(&mut self, word: &ClosedBook)
         ensures cuts { ActsAlone M.known M.names false self.old self.new }
         ensures draining { self.new.reading.is_draining ≡ true }
     {
         if self.reading.is_draining() {
             return;
         }
-        let decided = self.reading.drain();
+        let decided = self.reading.drain(word);
         self.act(decided);
         self.orders.wake_writer();
     }
@@ -378,8 +388,8 @@ where
         self.orders.put_some(&rt, order);
         if let Some(half) = to_shut {
             self.looked = None;
-            self.reading.shut(half);
-            self.orders.shared.book.lock(&rt).cut(half.id);
+            let mut book = self.orders.shared.book.lock(&rt);
+            self.reading.shut(&mut book, half);
         }
         ends
     }
@@ -397,9 +407,9 @@ where
     {
         let rt = self.rt;
         let padding = flow.saturating_sub(u32::try_from(bytes.len()).unwrap_or(u32::MAX));
-        let receipt = intake.receive(&rt, id, flow, padding);
-        self.note_credit(padding > 0 || receipt == Receipt::Discard);
-        let decided = self.reading.data(id, bytes, receipt);
+        let counted = intake.receive(&rt, id, flow, padding);
+        self.note_credit(counted.are_returned());
+        let decided = self.reading.data(bytes, counted);
         self.act(decided)
     }
 
@@ -408,9 +418,9 @@ where
         ensures reads { FollowsWith M.known M.names intake.old intake.new
             (events.Loose flow ∷ []) result self.old self.new }
     {
-        let receipt = intake.receive(&self.rt, 0, flow, 0);
-        self.note_credit(true);
-        let decided = self.reading.loose(receipt);
+        let counted = intake.receive(&self.rt, 0, flow, 0);
+        self.note_credit(counted.are_returned());
+        let decided = self.reading.loose(counted);
         self.act(decided)
     }
 
@@ -428,9 +438,9 @@ where
         ensures reads { Follows M.known M.names (events.End id ∷ []) result self.old self.new }
     {
         let rt = self.rt;
-        self.orders.shared.book.lock(&rt).end_remote(id);
         self.looked = None;
-        self.reading.end_half(id);
+        let mut book = self.orders.shared.book.lock(&rt);
+        self.reading.end_half(&mut book, id);
         None
     }
 }

@@ -74,6 +74,18 @@ pub fn trailers_end_streams()
         → (list_any (ends id) (frames_of run) ≡ true) ⊎ (was_reset id run ≡ true) }
 {}
 
+/// And where its windows were open, a call that a worker served was answered with END_STREAM, or
+/// its stream was reset; or its account says that no trailers of it were sent.
+pub fn answered_calls<M: Answering>()
+    ensures { (end : EndingOf) (told : List Step) (run : List RunStep) (account : CallAccount)
+        (on : IsSettled M.known M.names (CarriesWhatWasSent (is_heard_out end) run) told account)
+        → StreamEnd run account.id on.whole.sent
+        → ((history : List WindowStep) → HasHistory run history
+        → 0 < room_after history account.id)
+        → (list_any (ends account.id) (frames_of run) ≡ true)
+        ⊎ ((was_reset account.id run ≡ true) ⊎ (account.output.trailers_sent ≡ false)) }
+{}
+
 /// And a call whose windows let DATA through, of which no trailers were sent, has all that was sent
 /// on its stream, unless that ended or was reset.
 pub fn open_windows_hold_nothing()

@@ -26,7 +26,7 @@ ghost use Rattle.handlers.specs.Listed.{listed};
 ghost use Rattle.lane.specs.Ring.{in_name, out_name, taken};
 ghost use Rattle.readerloop.specs.Calls.{SentItems};
 ghost use Rattle.connection.specs.Begins.{AreNew, IsUnused};
-ghost use Rattle.connection.specs.Endings.{EndsAs, ended_by, unless_lacked};
+ghost use Rattle.connection.specs.Endings.{EndsAs, HasMet, ended_by, unless_lacked};
 ghost use Rattle.connection.specs.Heard.{AreCarried, Hears};
 ghost use Rattle.connection.specs.Methods.{AreKnownBy, answers_of, paths_of};
 ghost use Rattle.connection.specs.Puts.{put_of};
@@ -369,6 +369,8 @@ where
         came,
         calls,
         announced,
+        reader_key,
+        writer_key,
     } = handle;
     let Ok(common) = Common::new(&rt, shared, &gate) else {
         return Err(unserved(alloc, output));
@@ -386,12 +388,23 @@ where
         giving,
         outlet,
         common.gate,
+        writer_key,
         output,
         &mut orders,
     ) {
         Ok(writing) => {
             Ok(BegunConn {
-                reader: Reader::new(rt, alloc, orders, register, front, home, gate, common.start),
+                reader: Reader::new(
+                    rt,
+                    alloc,
+                    orders,
+                    reader_key,
+                    register,
+                    front,
+                    home,
+                    gate,
+                    common.start,
+                ),
                 intake,
                 writing,
             })
@@ -471,13 +484,9 @@ where
     requires route { N.ring ≡ Some (out_name written.orders) }
     requires way { out_name reader.reading.home ≡ in_name written.senders.sends.home }
     requires none_left { reader.orders.backlog.items ≡ [] }
-    // The orders that the run obeyed begin those that were put.
-    ensures obeyed { IsPrefix (taken written.orders) (put_of reader.orders) }
     ensures back { HasTakenBack M.known M.names written.senders
         (items_of result.report.calls.full result.report.calls.last) reader }
-    ensures output { result.output ≡ written.device }
-    ensures ends { EndsAs read written.ending reader.orders.has_stopped reader.orders.has_dropped
-        result.report.ending }
+    ensures met { HasMet read written reader.orders result }
 {
     let WriterResult {
         ending,

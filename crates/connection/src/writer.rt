@@ -10,14 +10,20 @@ ghost use Rattle.std.specs.Prelude.{
   Option,
   IfErr,
   IfOk,
+  None,
   OnErr,
   OnOk,
+  OnSome,
+  ◌≢◌,
   true,
 };
 ghost use Rattle.lane.specs.Ring.{in_name, out_name, put_in, taken};
 ghost use Rattle.writerloop.specs.declared.fill_end.FillEnd.TheVariants as filling;
 ghost use Rattle.outwriter.specs.declared.control.WriterOrder.TheVariants as controls;
+ghost use Rattle.writerloop.specs.declared.steps.WaitingOrder.TheVariants as waits;
+ghost use Rattle.writerloop.specs.Ended.{HasStopped};
 ghost use Rattle.writerloop.specs.Endings.{ending_told};
+ghost use Rattle.writerloop.specs.Orders.{WaitsWithoutWindow};
 ghost use Rattle.writerloop.specs.Written.{
   HasSent,
   IsFlushed,
@@ -34,8 +40,8 @@ use crate::orders::{Orders, Route};
 use crate::outlet::Outlet;
 use callparts::{Naming, Order, ReturningCall};
 use callworker::{Gate, STACK};
+use connbook::{BookKey, LastAdmitted, StoppedBook};
 use device::ConnWrite;
-use h2frame::StreamId;
 use lane::{RingIn, RingOut};
 use outwriter::WriterOrder;
 use std::alloc::Global;
@@ -44,7 +50,9 @@ use std::sync::ledger::{Ledger, Share};
 use std::sync::{Arc, Wait};
 use std::thread::{Builder, Promise, PromisedHandle, Threads};
 use std::time::Duration;
-use writerloop::{AfterWrite, FillEnd, OrderStep, WaitingOrder, WriterResult, Writing};
+use writerloop::{
+    AfterWrite, EndedStream, FillEnd, MarkedEnds, OrderStep, WaitingOrder, WriterResult, Writing,
+};
 
 /// How long the writer waits at most before it looks again, in milliseconds.
 const STEP: u64 = 1000;
@@ -59,6 +67,8 @@ struct Writer<A: Ledger, B: Ledger, C: Ledger, J: Naming, W: ConnWrite, G: Drop>
     outlet: Outlet<A, B, C>,
     gate: Arc<G>,
     writing: Writing<J, W>,
+    /// The book's word that the writer has stopped it, once it has.
+    stopped: Option<StoppedBook>,
     /// How many more turns that write something come before the next look for calls that were left.
     turns: u32,
 }
@@ -139,12 +149,12 @@ where
             AfterWrite::Over => return true,
             AfterWrite::StoppedOver => {
                 self.stop(rt);
-                self.gate.writing_ended();
+                self.tell_ended();
                 return true;
             }
             AfterWrite::Stopped => {
                 self.stop(rt);
-                self.gate.writing_ended();
+                self.tell_ended();
             }
             AfterWrite::Idle => {
                 self.idle(rt);
@@ -246,9 +256,11 @@ where
         ensures outlet { self.new.outlet ≡ self.old.outlet }
         ensures leads { LeadsOn W.contents W.failed self.old.writing self.new.writing }
     {
-        let Some(last) = self.look(rt) else {
+        let waiting = self.writing.look();
+        if waiting == WaitingOrder::Nothing {
             return false;
-        };
+        }
+        let last = self.prepare(rt, waiting);
         match self.writing.take_next(last) {
             OrderStep::Nothing => return false,
             OrderStep::Early => {
@@ -256,45 +268,55 @@ where
                 return false;
             }
             OrderStep::One => {}
-            OrderStep::Ends(id) => self.cut(rt, id),
+            OrderStep::Ends(ended) => self.cut(rt, ended),
             OrderStep::Stops => self.stop(rt),
             OrderStep::Lost => self.give_up(rt),
         }
         true
     }
 
-    /// Looks at the next order, where one waits. Answers the stream that a GOAWAY of the writer's
-    /// own would name, if the order may lead to one.
-    fn look(&mut self, rt: &impl Wait) -> Option<StreamId>
+    /// Before an order is taken: warns the peer where it is a GOAWAY. Answers the greatest stream
+    /// that was admitted, which a GOAWAY of the writer's own would name, where the order may lead to
+    /// one.
+    fn prepare(&mut self, rt: &impl Wait, waiting: WaitingOrder) -> Option<LastAdmitted>
+        requires plain { waiting ≢ waits.Window → WaitsWithoutWindow self.old.writing.inbox }
+        ensures asked { result ≡ None → WaitsWithoutWindow self.new.writing.inbox }
         ensures outlet { self.new.outlet ≡ self.old.outlet }
         ensures leads { LeadsOn W.contents W.failed self.old.writing self.new.writing }
     {
-        match self.writing.look() {
-            WaitingOrder::Nothing => None,
+        match waiting {
             WaitingOrder::Window => Some(self.outlet.last(rt)),
             WaitingOrder::Goaway => {
                 self.warn(rt);
-                Some(0)
+                None
             }
-            WaitingOrder::Other => Some(0),
+            WaitingOrder::Nothing | WaitingOrder::Other => None,
         }
     }
 
     /// Warns the peer, where the server drains, before the GOAWAY that names the last call.
     fn warn(&mut self, rt: &impl Wait)
         ensures outlet { self.new.outlet ≡ self.old.outlet }
+        ensures inbox { self.new.writing.inbox ≡ self.old.writing.inbox }
         ensures leads { LeadsOn W.contents W.failed self.old.writing self.new.writing }
     {
-        if self.outlet.is_closing(rt) {
-            self.writing.warn();
+        if let Some(word) = self.outlet.closed(rt) {
+            self.writing.warn(&word);
         }
     }
 
     /// The writer has ended a stream. Cuts its call, and only then wakes its worker, which so sees
     /// the cut.
-    fn cut(&self, rt: &impl Wait, id: StreamId) {
-        self.outlet.shared().book.lock(rt).cut(id);
-        self.writing.wake(id);
+    fn cut(&self, rt: &impl Wait, ended: EndedStream) {
+        self.cut_in_book(rt, ended);
+        self.writing.wake(ended.id());
+    }
+
+    /// Cuts the call of a stream that the writer has ended.
+    fn cut_in_book(&self, rt: &impl Wait, ended: EndedStream) {
+        let outlet = &self.outlet;
+        let mut book = outlet.shared().book.lock(rt);
+        self.writing.cut(&mut book, ended);
     }
 
     /// An order was lost for want of memory: nothing more is written but a GOAWAY.
@@ -318,8 +340,8 @@ where
             writing,
             ..
         } = self;
-        if outlet.grant_due(rt, writing) {
-            writing.warn();
+        if let Some(word) = outlet.grant_due(rt, writing) {
+            writing.warn(&word);
         }
     }
 
@@ -351,20 +373,20 @@ where
         ensures stays { Stays W.contents W.failed self.old.writing self.new.writing }
         ensures flushed { IsFlushed self.new.writing }
     {
-        self.end_local(rt);
-        match self.writing.flush() {
+        let marked = self.mark_ends(rt);
+        match self.writing.flush(marked) {
             Ok(()) => self.tell_gate(),
             Err(_fault) => self.stop(rt),
         }
     }
 
     /// The calls whose last frame is in the buffer take no more DATA.
-    fn end_local(&self, rt: &impl Wait) {
+    fn mark_ends(&self, rt: &impl Wait) -> MarkedEnds
+        ensures marked { result.streams.value.items ≡ self.now.writing.frames.ended.items }
+    {
         let outlet = &self.outlet;
         let mut book = outlet.shared().book.lock(rt);
-        for id in self.writing.ended() {
-            book.end_local(*id);
-        }
+        self.writing.mark_ends(&mut book)
     }
 
     /// Reports to the gate the streams whose last frame was in the buffer.
@@ -378,28 +400,39 @@ where
     /// for one are cut. Where the writer has ended the connection, it reports to the gate that all
     /// is written.
     fn idle(&self, rt: &impl Wait) {
-        if self.outlet.shared().has_stopped() {
-            self.gate.writing_ended();
-        }
+        self.tell_ended();
         let outlet = &self.outlet;
         let mut book = outlet.shared().book.lock(rt);
-        for place in 0..self.writing.calls() {
-            let Some(id) = self.writing.stuck(place) else {
-                continue;
-            };
-            if book.is_live(id) {
-                book.cut(id);
-                self.writing.wake(id);
-            }
+        self.writing.cut_stuck(&mut book);
+    }
+
+    /// Reports to the gate that the writer has ended the connection, once it has.
+    fn tell_ended(&self) {
+        if let Some(stopped) = &self.stopped {
+            self.gate.writing_ended(stopped);
         }
     }
 
-    /// Nothing more is written: no call is live, and the workers that wait for room are woken to
-    /// see that.
-    fn stop(&self, rt: &impl Wait) {
-        self.outlet.shared().book.lock(rt).stop();
+    /// Where the writer has ended nothing more is written: no call is live, and the workers that
+    /// wait for room are woken to see that.
+    fn stop(&mut self, rt: &impl Wait)
+        ensures rest { self.new ≡ record self.old { stopped = self.new.stopped } }
+    {
+        let Some(stopped) = self.stop_book(rt) else {
+            return;
+        };
         self.outlet.shared().stop();
         self.writing.wake_all();
+        self.stopped = Some(stopped);
+    }
+
+    /// Stops the book, where the writer has ended.
+    fn stop_book(&self, rt: &impl Wait) -> Option<StoppedBook>
+        ensures over { OnSome result (HasStopped self.now.writing) }
+    {
+        let outlet = &self.outlet;
+        let mut book = outlet.shared().book.lock(rt);
+        self.writing.stop(&mut book)
     }
 }
 
@@ -445,6 +478,7 @@ pub(crate) fn start<A, B, C, J, N, W, G, R>(
     home: RingIn<ReturningCall<J>>,
     outlet: Outlet<A, B, C>,
     gate: Arc<G>,
+    key: BookKey,
     device: W,
     orders: &mut Orders<A, B, C, J, N>,
 ) -> Result<WriterHand<C, J, W>, WriterParts<C, J, W>>
@@ -475,11 +509,12 @@ where
         orders: Snapshot::of(&taking),
         home: Snapshot::of(&home),
     };
-    let writing = Writing::new(alloc, taking, home, device, &begun.device);
+    let writing = Writing::new(alloc, key, taking, home, device, &begun.device);
     let writer = Writer {
         outlet,
         gate,
         writing,
+        stopped: None,
         turns: TURNS,
     };
     let write = move || -> WriterParts<C, J, W>

@@ -19,6 +19,7 @@ ghost use Rattle.callparts.specs.Blocks.{items_of};
 ghost use Rattle.callparts.specs.declared.report.Ending.TheVariants as ending;
 ghost use Rattle.reasons.specs.declared.Reason.TheVariants as reason;
 ghost use Rattle.reasons.specs.Codes.{code_of};
+ghost use Rattle.connbook.specs.Receipts.{after_stop};
 ghost use Rattle.outwriter.specs.Steps.{order_of};
 ghost use Rattle.outwriter.specs.declared.control.WriterOrder.TheVariants as orders;
 ghost use Rattle.session.specs.declared.event.InEvent.TheVariants as events;
@@ -48,17 +49,21 @@ use crate::worker_pool::WorkerPool;
 use callparts::{
     Accounts, Answering, DoneIn, Ending, Front, Naming, Order, Register, ReturningCall, TasksOut,
 };
+use connbook::{BookKey, ClosedBook, ConnBook, StoppedBook};
 use h2frame::{ErrorCode, StreamId};
 use lane::{Ring, RingIn, RingOut};
 use outwriter::WriterOrder;
 use reasons::Reason;
 use session::PeerControl;
 use std::alloc::Global;
+use std::sync::ledger::Ledger;
 
 /// The reading side of a connection: its calls, its workers, and which streams were begun.
 #[derive(Drop)]
 pub struct Reading<J: Naming, M: Answering> {
     alloc: Global,
+    /// By which it ends calls in the book.
+    key: BookKey,
     pub(crate) calls: Calls<J>,
     pub(crate) workers: WorkerPool<J, M>,
     /// All calls whose lanes were opened, ever.
@@ -82,6 +87,7 @@ impl<J: Naming, M: Answering> Reading<J, M> {
     /// come back. It takes no memory.
     pub fn new(
         alloc: Global,
+        key: BookKey,
         register: Register<J>,
         front: Front<J>,
         home: RingOut<ReturningCall<J>>,
@@ -93,6 +99,7 @@ impl<J: Naming, M: Answering> Reading<J, M> {
     {
         Reading {
             alloc,
+            key,
             calls: Calls::new::<M>(alloc),
             workers: WorkerPool::new(alloc),
             register,
@@ -166,9 +173,9 @@ impl<J: Naming, M: Answering> Reading<J, M> {
 
     // ---- the end while calls go on
 
-    /// The server drains: no more calls are admitted, and GOAWAY names the greatest stream whose
-    /// call was (RFC 9113, section 6.8).
-    pub fn drain(&mut self) -> Decision<J>
+    /// The server drains: no more calls are admitted, as the book says, and GOAWAY names the greatest
+    /// stream whose call was (RFC 9113, section 6.8).
+    pub fn drain(&mut self, _word: &ClosedBook) -> Decision<J>
         ensures decides { DecidesOn M.known M.names Drains result self.old self.new }
         ensures ends { result.ends ≡ None }
         ensures draining { self.new.is_draining ≡ true }
@@ -209,6 +216,14 @@ impl<J: Naming, M: Answering> Reading<J, M> {
         } else {
             Ending::InputEnded
         }
+    }
+
+    /// The connection ends: in the book no call is live any more.
+    pub fn stop<A: Ledger, B: Ledger, C: Ledger>(&self, book: &mut ConnBook<A, B, C>) -> StoppedBook
+        ensures book { book.new.book ≡ after_stop book.old.book }
+        ensures stopped { book.new.stopped ≡ true }
+    {
+        book.stop(&self.key)
     }
 
     /// Rings the bells of the workers for which something came.

@@ -3,6 +3,7 @@ pub mod CallSteps
 pub mod CreditSteps
 pub mod DoneSteps
 pub mod EndSteps
+pub mod EndedSteps
 pub mod OpeningSteps
 pub mod OrderSteps
 pub mod RestSteps

@@ -13,15 +13,17 @@
 //! - `frames`: core, buffer and device, with `standing`, `order_outcome` and `fill_end` for its
 //!   answers.
 //! - `writing`: the machine, with `writing::orders` for how it takes orders, `writing::left_calls`
-//!   for calls that were left, and `writing::warning` for the end while calls go on.
-//! - `steps`: what a step answers; `senders`: what is handed back at the end; `writer_ending`: how
-//!   the writing side ends by itself.
+//!   for calls that were left, `writing::warning` for the end while calls go on, and
+//!   `writing::in_book` for what it does in the credit book.
+//! - `steps`: what a step answers; `ended`: streams that it has ended; `senders`: what is handed
+//!   back at the end; `writer_ending`: how the writing side ends by itself.
 //!
 //! `specs/Orders.antt` says when a run of the core obeys orders, `specs/Spelled.antt` and
 //! `specs/Wrote.antt` what of its frames was written, and `specs/Sent.antt` where each call's
 //! sender is. `specs/Written.antt` puts them together: each step keeps what it says.
 #![tactic(auto)]
 
+mod ended;
 mod fill_end;
 mod frames;
 pub mod inbox;
@@ -34,6 +36,7 @@ pub mod steps;
 mod writer_ending;
 pub mod writing;
 
+pub use ended::{EndedStream, MarkedEnds};
 pub use fill_end::FillEnd;
 pub use frames::Frames;
 pub use inbox::Inbox;

@@ -1,6 +1,6 @@
 //! What the steps of the writing side answer: what its owner is to do.
 
-use h2frame::StreamId;
+use crate::ended::EndedStream;
 
 /// Which order waits to be taken.
 #[derive(Clone, Copy, PartialEq, Eq, Debug)]
@@ -26,9 +26,9 @@ pub enum OrderStep {
     Early,
     /// It was taken; or passed over, because one before it was lost.
     One,
-    /// It was taken, and the writer ended this stream: its call is to be cut, and then its worker
-    /// is to be woken (`wake`).
-    Ends(StreamId),
+    /// It was taken, and the writer ended this stream: its call is to be cut (`cut`), and then its
+    /// worker is to be woken (`wake`).
+    Ends(EndedStream),
     /// It was taken, and the writer ended the connection, which is to be stopped.
     Stops,
     /// The order, or the writer's answer to it, was lost for want of memory: the writer is to give
@@ -41,8 +41,8 @@ pub enum OrderStep {
 pub enum AfterWrite {
     /// More may be written at once.
     None,
-    /// Nothing can be written now: what waits for a window that won't open is to be cut (`stuck`),
-    /// and the owner waits.
+    /// Nothing can be written now: what waits for a window that won't open is to be cut
+    /// (`cut_stuck`), and the owner waits.
     Idle,
     /// Nothing is written any more, and orders may still come: the connection is to be stopped, and
     /// the owner waits.

@@ -4,10 +4,12 @@ ghost use Rattle.std.specs.Prelude.{◌≡◌};
 ghost use Rattle.writerloop.specs.Keys.{Keys_set};
 ghost use Rattle.writerloop.specs.Sent.{core_keys, keys};
 
+mod in_book;
 mod left_calls;
 mod orders;
 mod warning;
 
+use crate::ended::MarkedEnds;
 use crate::fill_end::FillEnd;
 use crate::frames::Frames;
 use crate::inbox::Inbox;
@@ -17,6 +19,7 @@ use crate::standing::Standing;
 use crate::steps::AfterWrite;
 use crate::writer_ending::WriterEnding;
 use callparts::{Naming, OpeningCall, Order, OutLane, ReturningCall};
+use connbook::{BookKey, DueCredit, LastAdmitted};
 use device::{ConnWrite, DeviceFault};
 use h2frame::{ErrorCode, StreamId};
 use lane::{RingIn, RingOut};
@@ -26,6 +29,8 @@ use std::snapshot::Snapshot;
 /// What the writing side of a connection has.
 #[derive(Drop)]
 pub struct Writing<J: Naming, W: ConnWrite> {
+    /// By which it ends calls in the book.
+    key: BookKey,
     inbox: Inbox<OpeningCall<J>>,
     frames: Frames<OutLane, W>,
     /// The calls whose senders the core has.
@@ -65,9 +70,7 @@ impl<J: Naming, W: ConnWrite + Drop> Writing<J, W> {
     ghost use Rattle.lane.specs.Ring.{put_in, taken};
     ghost use Rattle.h2frame.specs.declared.error_code.ErrorCode.{ErrorCode as Code};
     ghost use Rattle.h2frame.specs.declared.error_code.ErrorCode.TheVariants.{FlowControlError};
-    ghost use Rattle.outwriter.specs.Cores.{open_stream, takes_credit};
-    ghost use Rattle.outwriter.specs.RunState.{is_held};
-    ghost use Rattle.sendwindows.specs.Windows.{room};
+    ghost use Rattle.outwriter.specs.Cores.{takes_credit};
     ghost use Rattle.callparts.specs.declared.report.Ending.TheVariants as ending;
     ghost use Rattle.writerloop.specs.declared.fill_end.FillEnd.TheVariants as filling;
     ghost use Rattle.writerloop.specs.declared.standing.Standing.TheVariants as stands;
@@ -83,12 +86,12 @@ impl<J: Naming, W: ConnWrite + Drop> Writing<J, W> {
       LeadsTo,
       Stays,
       rest_of,
-      stream_at,
     };
 
     /// A writer that has taken no order, handed no sender back, and written nothing to the device.
     pub fn new(
         alloc: Global,
+        key: BookKey,
         orders: RingOut<Order<J>>,
         home: RingIn<ReturningCall<J>>,
         device: W,
@@ -103,6 +106,7 @@ impl<J: Naming, W: ConnWrite + Drop> Writing<J, W> {
     {
         let frames = Frames::new(alloc, device);
         Writing {
+            key,
             inbox: Inbox::new(orders),
             frames,
             sends: Sends::new(alloc, home),
@@ -122,13 +126,14 @@ impl<J: Naming, W: ConnWrite + Drop> Writing<J, W> {
         self.frames.core.takes_credit(id)
     }
 
-    /// Owes the peer n bytes more of credit, on a stream, or on the connection where it is 0.
-    pub fn grant(&mut self, id: StreamId, n: u32)
+    /// Owes the peer the credit that the book announces.
+    pub fn grant(&mut self, credit: DueCredit)
         // On the connection just that much more credit was granted.
-        ensures leads { (had has : ℕ) → has ≡ had + (if nat_eq id 0 then n else 0)
+        ensures leads { (had has : ℕ)
+            → has ≡ had + (if nat_eq credit.id 0 then credit.increment else 0)
             → LeadsTo W.contents W.failed had self.old has self.new }
     {
-        self.frames.grant(id, n);
+        self.frames.grant(credit.id(), credit.increment());
     }
 
     /// Puts frames into the buffer, until none comes or the longest might not fit.
@@ -143,10 +148,10 @@ impl<J: Naming, W: ConnWrite + Drop> Writing<J, W> {
 
     /// Puts the last word of a core that had no memory for a frame into the buffer: a GOAWAY of the
     /// writer's own.
-    pub fn say_last(&mut self, last: StreamId)
+    pub fn say_last(&mut self, last: LastAdmitted)
         ensures stays { Stays W.contents W.failed self.old self.new }
     {
-        if self.frames.part(last) {
+        if self.frames.part(last.id()) {
             self.inbox.has_lost = true;
         }
     }
@@ -236,17 +241,10 @@ impl<J: Naming, W: ConnWrite + Drop> Writing<J, W> {
         }
     }
 
-    /// The streams whose END_STREAM is in the buffer: their calls take no more DATA, and from the
-    /// next flush on they may have left.
-    pub fn ended(&self) -> &[StreamId]
-        ensures { result.now ≡ self.now.frames.ended.items }
-    {
-        self.frames.ended.as_slice()
-    }
-
-    /// Writes what is in the buffer. After a fault nothing more is written, and the connection is
-    /// to be stopped.
-    pub fn flush(&mut self) -> Result<(), DeviceFault>
+    /// Writes what is in the buffer, once the ends of the calls that it ends are marked
+    /// (`mark_ends`). After a fault nothing more is written, and the connection is to be stopped.
+    pub fn flush(&mut self, marked: MarkedEnds) -> Result<(), DeviceFault>
+        requires marked { marked.streams.value.items ≡ self.old.frames.ended.items }
         ensures stays { Stays W.contents W.failed self.old self.new }
         ensures flushed { IsFlushed self.new }
         ensures went { OnOk result (self.new.frames.standing ≢ stands.Broken) }
@@ -278,37 +276,6 @@ impl<J: Naming, W: ConnWrite + Drop> Writing<J, W> {
             FillEnd::Stopped if self.closed => AfterWrite::StoppedOver,
             FillEnd::Stopped => AfterWrite::Stopped,
             FillEnd::Over => AfterWrite::Over,
-        }
-    }
-
-    /// How many calls' senders the core has.
-    pub fn calls(&self) -> usize
-        ensures { result ≡ length self.now.sends.calls.items }
-    {
-        self.sends.len()
-    }
-
-    /// The stream of the call at this place that waits for a window which won't open, since the
-    /// input has ended: the call is to be cut.
-    pub fn stuck(&self, place: usize) -> Option<StreamId>
-        ensures ended { IfSome result (λ id. self.now.input_ended ≡ true) }
-        ensures held { IfSome result (λ id. is_held (open_stream self.now.frames.core id)
-            (room self.now.frames.core.sending.outbound.states.windows id) ≡ true) }
-        ensures whose { IfSome result (λ id. stream_at place self.now ≡ Some id) }
-        // It is None only where the call doesn't wait for such a window.
-        ensures none { IfNone result (self.now.input_ended ≡ true → (id : ℕ)
-            → stream_at place self.now ≡ Some id
-            → is_held (open_stream self.now.frames.core id)
-            (room self.now.frames.core.sending.outbound.states.windows id) ≡ false) }
-    {
-        if !self.input_ended {
-            return None;
-        }
-        let id = self.sends.stream_at(place)?;
-        if self.frames.core.held(id) {
-            Some(id)
-        } else {
-            None
         }
     }
 

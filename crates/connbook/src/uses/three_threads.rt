@@ -6,7 +6,8 @@
 
 ghost use Rattle.std.specs.Prelude.{◌≡◌, ℕ, ◌+◌, ◌*◌, ◌^◌, ◌<◌, ◌≤◌, sum, length};
 
-use crate::conn_book::ConnBook;
+use crate::conn_book::{ConnBook, OpenedBook};
+use crate::keys::{BookKey, CallKey};
 use h2frame::StreamId;
 use std::alloc::Global;
 use std::marker::Brand;
@@ -46,10 +47,11 @@ fn read<A: Ledger, B: Ledger, C: Ledger, R: Wait>(
 fn work<A: Ledger, B: Ledger, C: Ledger, R: Wait>(
     rt: &R,
     book: &Mutex<ConnBook<A, B, C>>,
+    call: &CallKey,
     pieces: &[u32],
 ) {
     for piece in pieces {
-        let _ = book.lock(rt).return_credit(CALL, *piece);
+        let _ = book.lock(rt).return_credit(call, *piece);
     }
 }
 
@@ -57,6 +59,7 @@ fn work<A: Ledger, B: Ledger, C: Ledger, R: Wait>(
 fn write<A: Ledger, B: Ledger, C: Ledger, R: Wait>(
     rt: &R,
     book: &Mutex<ConnBook<A, B, C>>,
+    key: &BookKey,
     told: Share<C>,
     times: u32,
 ) -> (Share<C>, u64)
@@ -68,9 +71,11 @@ fn write<A: Ledger, B: Ledger, C: Ledger, R: Wait>(
     let mut told = told;
     let mut credit = 0;
     for _i in 0..times {
-        credit += u64::from(book.lock(rt).take_due_credit(0, &mut told));
+        if let Some(due) = book.lock(rt).take_due_credit(0, &mut told) {
+            credit += u64::from(due.increment());
+        }
     }
-    book.lock(rt).stop();
+    let _stopped = book.lock(rt).stop(key);
     (told, credit)
 }
 
@@ -89,8 +94,14 @@ fn run_over<
     let (received, came) = blanks.0.open::<A>();
     let (admitted, calls) = blanks.1.open::<B>();
     let (announced, told) = blanks.2.open::<C>();
-    let book = Mutex::new(ConnBook::new(alloc, received, admitted, announced));
-    let shared = &book;
+    let OpenedBook {
+        book,
+        reader_key,
+        writer_key,
+        ..
+    } = ConnBook::new(alloc, received, admitted, announced);
+    let book = Mutex::new(book);
+    let (shared, call, key) = (&book, &reader_key.of_call(CALL), &writer_key);
     let (read_all, written) = thread::join(
         rt,
         || -> (Share<A>, Share<B>)
@@ -105,7 +116,7 @@ fn run_over<
             requires none { told.amount ≡ 0 }
             ensures parts { result.0.parts ≡ told.parts }
             ensures amount { result.0.amount ≡ result.1 }
-        { work_and_write(rt, shared, told, pieces, times) },
+        { work_and_write(rt, shared, call, key, told, pieces, times) },
     );
     let (mut came, mut calls) = read_all;
     let (mut told, credit) = written;
@@ -122,6 +133,8 @@ fn work_and_write<
 >(
     rt: &R,
     book: &Mutex<ConnBook<A, B, C>>,
+    call: &CallKey,
+    key: &BookKey,
     told: Share<C>,
     pieces: &[u32],
     times: u32,
@@ -133,13 +146,13 @@ fn work_and_write<
 {
     let ((), written) = thread::join(
         rt,
-        || work(rt, book, pieces),
+        || work(rt, book, call, pieces),
         || -> (Share<C>, u64)
             requires some { 0 < told.parts }
             requires none { told.amount ≡ 0 }
             ensures parts { result.0.parts ≡ told.parts }
             ensures amount { result.0.amount ≡ result.1 }
-        { write(rt, book, told, times) },
+        { write(rt, book, key, told, times) },
     );
     written
 }

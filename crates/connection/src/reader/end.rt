@@ -214,6 +214,7 @@ where
 
     /// The connection ends: no call is live.
     pub(super) fn stop(&self) {
-        self.orders.shared.book.lock(&self.rt).stop();
+        let mut book = self.orders.shared.book.lock(&self.rt);
+        let _stopped = self.reading.stop(&mut book);
     }
 }

@@ -4,6 +4,7 @@ ghost use Rattle.callhead.specs.declared.head.CallHead.{CallHead as Head};
 ghost use Rattle.std.specs.Prelude.{◌≡◌, ◌∷◌, [], IfSome, true};
 ghost use Rattle.callparts.specs.Workers.{IsWithin};
 ghost use Rattle.handlers.specs.Listed.{listed};
+ghost use Rattle.connbook.specs.declared.answers.AdmitFault.TheVariants as faults;
 ghost use Rattle.session.specs.declared.event.InEvent.TheVariants as events;
 ghost use Rattle.readerloop.specs.Readings.{IsNext, KeepsNext};
 ghost use Rattle.readerloop.specs.WorkerHandles.{HasPlacesAt};
@@ -19,7 +20,7 @@ use crate::orders::{Route, STEP};
 use callhead::CallHead;
 use callparts::{Answering, CallAccount, Ending, Naming, Request};
 use callworker::{Gate, moment};
-use connbook::AdmitFault;
+use connbook::{ClosedBook, RefusedCall};
 use h2frame::StreamId;
 use handlers::{Method, Methods};
 use std::alloc::AllocError;
@@ -84,40 +85,42 @@ where
         let rt = self.rt;
         match intake.admit(&rt, request.id) {
             Ok(()) => self.start(request, methods),
-            Err(fault) => self.turn_away(request.id, fault),
+            Err(refused) => self.turn_away(&refused),
         }
     }
 
     /// A call isn't admitted. If that is because the server drains, GOAWAY is ordered first.
-    fn turn_away(&mut self, id: StreamId, fault: AdmitFault) -> Option<Ending>
-        ensures reads { (head : Head) (tally : Tally) → MayTurnAway tally.calls true fault
-            → FollowsWith M.known M.names tally tally (events.Open id head ∷ []) result
-            self.old self.new }
+    fn turn_away(&mut self, refused: &RefusedCall) -> Option<Ending>
+        ensures reads { (head : Head) (tally : Tally)
+            → MayTurnAway tally.calls true refused.now.fault
+            → FollowsWith M.known M.names tally tally (events.Open refused.now.id head ∷ [])
+            result self.old self.new }
     {
-        match fault {
-            AdmitFault::Draining => self.turn_away_drained(id),
-            _ => self.decline(id, fault),
+        match refused.closed() {
+            Some(word) => self.turn_away_drained(refused, &word),
+            None => self.decline(refused),
         }
     }
 
     /// A call isn't admitted because the server drains. GOAWAY is ordered first.
-    fn turn_away_drained(&mut self, id: StreamId) -> Option<Ending>
+    fn turn_away_drained(&mut self, refused: &RefusedCall, word: &ClosedBook) -> Option<Ending>
+        requires drained { refused.now.fault ≡ faults.Draining }
         ensures reads { (head : Head) (tally : Tally)
-            → FollowsWith M.known M.names tally tally (events.Open id head ∷ []) result
-            self.old self.new }
+            → FollowsWith M.known M.names tally tally (events.Open refused.now.id head ∷ [])
+            result self.old self.new }
     {
-        self.drain();
-        self.decline(id, AdmitFault::Draining)
+        self.drain(word);
+        self.decline(refused)
     }
 
-    /// A call isn't admitted, for this fault.
-    fn decline(&mut self, id: StreamId, fault: AdmitFault) -> Option<Ending>
+    /// A call isn't admitted.
+    fn decline(&mut self, refused: &RefusedCall) -> Option<Ending>
         ensures reads { (head : Head) (tally : Tally)
-            → MayTurnAway tally.calls self.old.reading.is_draining fault
-            → FollowsWith M.known M.names tally tally (events.Open id head ∷ []) result
-            self.old self.new }
+            → MayTurnAway tally.calls self.old.reading.is_draining refused.now.fault
+            → FollowsWith M.known M.names tally tally (events.Open refused.now.id head ∷ [])
+            result self.old self.new }
     {
-        let decided = self.reading.turn_away(id, fault);
+        let decided = self.reading.turn_away(refused);
         self.act(decided)
     }
 

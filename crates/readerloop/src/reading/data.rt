@@ -1,6 +1,7 @@
 //! What the reading side decides of DATA and of all else that comes on a stream.
 
-ghost use Rattle.std.specs.Prelude.{◌≡◌, ℕ, List, ◌∷◌};
+ghost use Rattle.std.specs.Prelude.{◌≡◌, ◌-◌, ℕ, List, ◌∷◌, length};
+ghost use Rattle.creditbook.specs.Books.{after_cut, after_end_remote};
 ghost use Rattle.connbook.specs.declared.answers.Receipt.TheVariants.{Discard, Feed};
 ghost use Rattle.session.specs.declared.event.InEvent.TheVariants as events;
 ghost use Rattle.readerloop.specs.Calls.{SentItems, carried_in};
@@ -21,22 +22,25 @@ use account::Shut;
 use bytes::Bytes;
 use callbox::FeedFault;
 use callparts::{Answering, Naming};
-use connbook::Receipt;
+use connbook::{ConnBook, CountedData, Receipt};
 use h2frame::{ErrorCode, StreamId};
 use reasons::Reason;
+use std::sync::ledger::Ledger;
 
 impl<J: Naming, M: Answering> Reading<J, M> {
-    /// DATA came on a stream, and `receipt` is what the lock said of it.
-    pub fn data(&mut self, id: StreamId, piece: Bytes, receipt: Receipt) -> Decision<J>
-        ensures decides { (counted : ℕ) → DecidesOn M.known M.names
-            (Told (events.Data id piece counted) (fate_of receipt result.order result.ends))
-            result self.old self.new }
+    /// DATA came on a stream, and the book has counted it.
+    pub fn data(&mut self, piece: Bytes, counted: CountedData) -> Decision<J>
+        requires padded { counted.padding ≡ counted.flow - length piece }
+        ensures decides { DecidesOn M.known M.names
+            (Told (events.Data counted.id piece counted.flow)
+            (fate_of counted.receipt result.order result.ends)) result self.old self.new }
         ensures missed { (sent : List SentItems) (told : List Step)
             → Reads M.known M.names (carried_in sent) told self.old
-            → MayMiss id piece (fate_of receipt result.order result.ends) told }
+            → MayMiss counted.id piece (fate_of counted.receipt result.order result.ends) told }
         ensures home { self.new.home ≡ self.old.home }
     {
-        match receipt {
+        let id = counted.id();
+        match counted.receipt() {
             Receipt::Feed => self.feed(id, piece),
             Receipt::Discard => self.miss(id, &piece),
             Receipt::CallWindow => {
@@ -117,22 +121,31 @@ impl<J: Naming, M: Answering> Reading<J, M> {
         self.calls.miss::<M>(id);
     }
 
-    /// Bytes came that count on the connection alone, and `receipt` is what the lock said of them.
-    pub fn loose(&self, receipt: Receipt) -> Decision<J>
-        ensures decides { (counted : ℕ) → DecidesOn M.known M.names
-            (Told (events.Loose counted) (Received receipt)) result self.now self.now }
+    /// Bytes came that count on the connection alone, and the book has counted them.
+    pub fn loose(&self, counted: CountedData) -> Decision<J>
+        requires none { (counted.id ≡ 0) × (counted.padding ≡ 0) }
+        ensures decides { DecidesOn M.known M.names
+            (Told (events.Loose counted.flow) (Received counted.receipt))
+            result self.now self.now }
     {
-        match receipt {
+        match counted.receipt() {
             Receipt::Overrun => self.fatal(Reason::Overrun),
             _ => Decision::nothing(),
         }
     }
 
-    /// The client has ended its half of a stream.
-    pub fn end_half(&mut self, id: StreamId)
+    /// The client has ended its half of a stream. The book marks that.
+    pub fn end_half<A: Ledger, B: Ledger, C: Ledger>(
+        &mut self,
+        book: &mut ConnBook<A, B, C>,
+        id: StreamId,
+    )
         ensures reads { ReadsOn M.known M.names (Told (events.End id) Plain) self.old self.new }
         ensures home { self.new.home ≡ self.old.home }
+        ensures book { book.new.book ≡ after_end_remote book.old.book id }
+        ensures stopped { book.new.stopped ≡ book.old.stopped }
     {
+        book.end_remote(id, &self.key);
         let worker = self.calls.shut::<M>(id, Shut::End);
         self.workers.note(worker);
     }
@@ -153,16 +166,23 @@ impl<J: Naming, M: Answering> Reading<J, M> {
         Decision::reset(id, code, true)
     }
 
-    /// Shuts the half of a call, as was decided.
-    pub fn shut(&mut self, half: HalfToShut)
+    /// Shuts the half of a call, as was decided, and cuts the call in the book.
+    pub fn shut<A: Ledger, B: Ledger, C: Ledger>(
+        &mut self,
+        book: &mut ConnBook<A, B, C>,
+        half: HalfToShut,
+    )
         ensures heard { (sent : List SentItems) (told : List Step) (step : Step)
             → Awaits M.known M.names (carried_in sent) told step half self.old
             → Reads M.known M.names (carried_in sent) (step ∷ told) self.new }
         ensures next { KeepsNext self.old self.new }
         ensures draining { self.new.is_draining ≡ self.old.is_draining }
         ensures home { self.new.home ≡ self.old.home }
+        ensures book { book.new.book ≡ after_cut book.old.book half.id }
+        ensures stopped { book.new.stopped ≡ book.old.stopped }
     {
         let worker = self.calls.shut::<M>(half.id, half.kind);
         self.workers.note(worker);
+        book.cut(half.id, &self.key);
     }
 }

@@ -82,7 +82,7 @@ use callparts::{
     Answering, Ending, Front, InLane, Job, Line, Naming, OpeningCall, Order, OutLane, Register,
     Request, SendingEnd, Work,
 };
-use connbook::AdmitFault;
+use connbook::{AdmitFault, CallKey, RefusedCall};
 use h2frame::{ErrorCode, StreamId};
 use limits::MAX_STREAMS;
 use lists::Sequence;
@@ -134,7 +134,7 @@ impl<J: Naming, M: Answering> Reading<J, M> {
             return Err(self.lack(id));
         }
         if self.is_draining {
-            return Err(self.turn_away(id, AdmitFault::Draining));
+            return Err(self.decline(id, AdmitFault::Draining));
         }
         let Some(index) = index else {
             return Err(self.refuse_unknown(id));
@@ -163,9 +163,19 @@ impl<J: Naming, M: Answering> Reading<J, M> {
         }
     }
 
-    /// The lock didn't admit a call. Want of memory ends the connection, and so does a stream whose
-    /// id isn't greater than those before it (RFC 9113, section 5.1.1).
-    pub fn turn_away(&mut self, id: StreamId, fault: AdmitFault) -> Decision<J>
+    /// The lock didn't admit a call.
+    pub fn turn_away(&mut self, refused: &RefusedCall) -> Decision<J>
+        ensures decides { (head : Head) → DecidesOn M.known M.names
+            (Told (events.Open refused.now.id head) (TurnedAway refused.now.fault)) result
+            self.old self.new }
+        ensures home { self.new.home ≡ self.old.home }
+    {
+        self.decline(refused.id(), refused.fault())
+    }
+
+    /// A call isn't admitted, for this fault. Want of memory ends the connection, and so does a
+    /// stream whose id isn't greater than those before it (RFC 9113, section 5.1.1).
+    fn decline(&mut self, id: StreamId, fault: AdmitFault) -> Decision<J>
         ensures decides { (head : Head) → DecidesOn M.known M.names
             (Told (events.Open id head) (TurnedAway fault)) result self.old self.new }
         ensures home { self.new.home ≡ self.old.home }
@@ -278,7 +288,8 @@ impl<J: Naming, M: Answering> Reading<J, M> {
         ensures rest { HasSameRest self.old self.new }
     {
         let line = self.line(worker)?;
-        let ends = open_lanes(self.alloc, &self.register, &mut self.front, request)?;
+        let key = self.key.of_call(request.id);
+        let ends = open_lanes(self.alloc, &self.register, &mut self.front, request, key)?;
         let Ends {
             feeder,
             job,
@@ -450,7 +461,9 @@ fn open_lanes<J: Naming>(
     register: &Register<J>,
     front: &mut Front<J>,
     request: Request,
+    key: CallKey,
 ) -> Result<Ends<J>, AllocError>
+    requires own { key.id ≡ request.id }
     ensures request { IfOk result (λ ends. ends.job.work.request ≡ request) }
     ensures fresh { IfOk result (λ ends. IsFreshWork ends.job.work) }
     ensures one_lane { IfOk result
@@ -467,6 +480,7 @@ fn open_lanes<J: Naming>(
         request,
         taker,
         giver,
+        key,
     };
     let Some(job) = draw(register, front, work) else {
         return Err(AllocError);

@@ -18,9 +18,10 @@ ghost use Rattle.lane.specs.Ring.{in_name, put_in};
 ghost use Rattle.lane.specs.RingLane.{got};
 ghost use Rattle.outwriter.specs.declared.control.WriterOrder.TheVariants as orders;
 ghost use Rattle.outwriter.specs.Steps.{Step, order_of};
+ghost use Rattle.writerloop.specs.declared.ended.EndedStream.{EndedStream};
 ghost use Rattle.writerloop.specs.declared.steps.OrderStep.TheVariants as took;
 ghost use Rattle.writerloop.specs.declared.steps.WaitingOrder.TheVariants as waiting;
-ghost use Rattle.writerloop.specs.Orders.{OpensNone, TakesNoWindow, closes, waiting_of};
+ghost use Rattle.writerloop.specs.Orders.{OpensNone, WaitsWithoutWindow, closes, waiting_of};
 ghost use Rattle.writerloop.specs.OwnOrders.{Blamed, steps_of};
 ghost use Rattle.writerloop.specs.Sent.{SameCalls};
 ghost use Rattle.writerloop.specs.Wrote.{WritesOn, Wrote};
@@ -36,11 +37,13 @@ ghost use Rattle.writerloop.specs.Written.{
 };
 
 use super::Writing;
+use crate::ended::EndedStream;
 use crate::opening::{begin, split};
 use crate::order_outcome::OrderOutcome;
 use crate::steps::{OrderStep, WaitingOrder};
 use callbox::Sender;
 use callparts::{Naming, OpeningCall, Order, OutLane};
+use connbook::LastAdmitted;
 use device::ConnWrite;
 use h2frame::StreamId;
 use outwriter::WriterOrder;
@@ -53,7 +56,8 @@ impl<J: Naming, W: ConnWrite + Drop> Writing<J, W> {
         ensures rest { self.new ≡ record self.old { inbox = self.new.inbox } }
         ensures waiting { result ≡ waiting_of self.new.inbox.set_aside }
         ensures nothing { result ≡ waiting.Nothing → self.new.inbox.set_aside ≡ None }
-        ensures other { result ≡ waiting.Other → IfSome self.new.inbox.set_aside TakesNoWindow }
+        ensures plain { result ≡ waiting.Other → WaitsWithoutWindow self.new.inbox }
+        ensures leaves { result ≡ waiting.Goaway → WaitsWithoutWindow self.new.inbox }
     {
         self.inbox.look();
         self.waiting()
@@ -63,7 +67,8 @@ impl<J: Naming, W: ConnWrite + Drop> Writing<J, W> {
     fn waiting(&self) -> WaitingOrder
         ensures waiting { result ≡ waiting_of self.now.inbox.set_aside }
         ensures nothing { result ≡ waiting.Nothing → self.now.inbox.set_aside ≡ None }
-        ensures other { result ≡ waiting.Other → IfSome self.now.inbox.set_aside TakesNoWindow }
+        ensures plain { result ≡ waiting.Other → WaitsWithoutWindow self.now.inbox }
+        ensures leaves { result ≡ waiting.Goaway → WaitsWithoutWindow self.now.inbox }
     {
         match &self.inbox.set_aside {
             None => WaitingOrder::Nothing,
@@ -73,9 +78,10 @@ impl<J: Naming, W: ConnWrite + Drop> Writing<J, W> {
         }
     }
 
-    /// Takes the next order. `last` is the greatest stream that was admitted, which a GOAWAY of the
-    /// writer's own names (RFC 9113, section 6.8). Once an order was lost only Close is taken.
-    pub fn take_next(&mut self, last: StreamId) -> OrderStep
+    /// Takes the next order. A GOAWAY of the writer's own names `last` (RFC 9113, section 6.8).
+    /// Once an order was lost only Close is taken.
+    pub fn take_next(&mut self, last: Option<LastAdmitted>) -> OrderStep
+        requires asked { last ≡ None → WaitsWithoutWindow self.old.inbox }
         ensures leads { LeadsOn W.contents W.failed self.old self.new }
         ensures lost { result ≡ took.Lost → self.new.inbox.has_lost ≡ true }
         ensures stops { result ≡ took.Stops → self.new.blames ≡ true }
@@ -83,6 +89,7 @@ impl<J: Naming, W: ConnWrite + Drop> Writing<J, W> {
         let Some(order) = self.inbox.next() else {
             return OrderStep::Nothing;
         };
+        let last = named(last);
         if self.inbox.has_lost {
             return self.pass_over(order, last);
         }
@@ -263,13 +270,14 @@ impl<J: Naming, W: ConnWrite + Drop> Writing<J, W> {
         ensures spares { self.new.blames ≡ false → (id ≢ 0) × (self.old.blames ≡ false) }
         ensures stops { result ≡ took.Stops → self.new.blames ≡ true }
         ensures ends { result ≢ took.Lost }
+        ensures whose { (ended : EndedStream) → result ≡ took.Ends ended → ended.id ≡ id }
     {
         if id == 0 {
             self.blames = true;
             return OrderStep::Stops;
         }
         self.sends.note_through(id);
-        OrderStep::Ends(id)
+        OrderStep::Ends(EndedStream { id })
     }
 
     /// An order was lost, or the answer to it.
@@ -284,11 +292,11 @@ impl<J: Naming, W: ConnWrite + Drop> Writing<J, W> {
 
     /// Ends the connection once an order was lost: by GOAWAY, if there is memory for it. Nothing is
     /// written after that.
-    pub fn give_up(&mut self, last: StreamId)
+    pub fn give_up(&mut self, last: LastAdmitted)
         requires lost { self.old.inbox.has_lost ≡ true }
         ensures leads { LeadsOn W.contents W.failed self.old self.new }
     {
-        if !self.part(last) {
+        if !self.part(last.id()) {
             self.frames.stop();
         }
     }
@@ -323,5 +331,15 @@ impl<J: Naming, W: ConnWrite + Drop> Writing<J, W> {
     /// Wakes all workers that wait for room. No call is live then, and they see that.
     pub fn wake_all(&self) {
         self.sends.wake_all();
+    }
+}
+
+/// The stream that a GOAWAY of the writer's own names. Where it is None, none is made.
+fn named(last: Option<LastAdmitted>) -> StreamId
+    ensures { IfSome last (λ admitted. result ≡ admitted.id) }
+{
+    match last {
+        Some(last) => last.id(),
+        None => 0,
     }
 }

@@ -11,6 +11,7 @@ use super::Writing;
 use crate::order_outcome::OrderOutcome;
 use callbox::Sender;
 use callparts::{Naming, OutLane};
+use connbook::ClosedBook;
 use device::ConnWrite;
 use h2frame::{ErrorCode, StreamId};
 use outwriter::WriterOrder;
@@ -23,12 +24,13 @@ const GREATEST_STREAM: StreamId = 2_147_483_647;
 const DRAINING: [u8; 8] = [100, 114, 97, 105, 110, 105, 110, 103];
 
 impl<J: Naming, W: ConnWrite + Drop> Writing<J, W> {
-    /// Warns the peer, once, that this side is to end the connection while calls go on (RFC 9113,
-    /// section 6.8). The warning is a GOAWAY without an error that names stream 2^31 - 1, unless a
+    /// Warns the peer, once, that this side is to end the connection while calls go on, since the
+    /// book says that no more are admitted (RFC 9113, section 6.8). The warning is a GOAWAY without an error that names stream 2^31 - 1, unless a
     /// GOAWAY was ordered before, and a PING. Without memory, or once an order was lost, it may be
     /// left out.
-    pub fn warn(&mut self)
+    pub fn warn(&mut self, _word: &ClosedBook)
         ensures leads { LeadsOn W.contents W.failed self.old self.new }
+        ensures inbox { self.new.inbox ≡ self.old.inbox }
     {
         if !self.inbox.has_lost {
             self.warn_by_goaway();

@@ -44,6 +44,7 @@ returns-in-Ok-start-clause-begun g c =
         c.new-intake.ensures.calls ∙ handle.calls.2,
         c.new-intake.ensures.came ∙ handle.came.2,
       );
+      unasked = c.new-in-Ok-start.ensures.unasked;
       device = begun.2;
       orders = c.requires.rings.0 ∙ ap Some (rings.orders ∙ sym (ap out_name begun.0));
       way =

@@ -43,30 +43,30 @@ returns g c =
       served = (
         gave known names (λ (calls : Accounts). items_of calls.full calls.last) contents failed
             reading mid old orders c.end.ensures.finishes.grows c.end.ensures.finishes.ended c.requires.heard before
-            amount took written.senders told written.device sent is.back.came is.obeyed,
+            amount took written.senders told written.device sent is.back.came is.met.obeyed,
         gave-there known names (λ (calls : Accounts). items_of calls.full calls.last) contents
             failed reading mid old orders c.end.ensures.finishes.grows c.end.ensures.finishes.ended c.requires.heard
-            before amount took written.senders told written.device sent is.back.came is.obeyed,
+            before amount took written.senders told written.device sent is.back.came is.met.obeyed,
         λ came rest read_failed has. (
           served-by known names (λ (calls : Accounts). items_of calls.full calls.last) contents
               failed came rest before read_failed report.ending report.calls written.device
-              c.meet_writer.result.output is.output
+              c.meet_writer.result.output is.met.output
               (ended-served known names
               (λ (calls : Accounts). items_of calls.full calls.last) contents failed reading
               mid old orders c.end.ensures.finishes.grows c.end.ensures.finishes.ended c.requires.heard before
-              amount took written.senders told written.device sent is.back.came is.obeyed
+              amount took written.senders told written.device sent is.back.came is.met.obeyed
               c.args.read report.ending report.calls came rest has.told read_failed
               (λ (unbroken : c.args.read ≢ WriteFailed).
               subst (λ (ending : Ending). Meets c.args.read ending told orders.has_dropped)
-              (sym is.ends.ending) (meets c.args.read written.ending orders.has_dropped unbroken))
+              (sym is.met.ends.ending) (meets c.args.read written.ending orders.has_dropped unbroken))
               is.back.accounts has.read (omega (arith, c.audit.ensures.within, has.covered.came))
               has.failed has.over
-              (λ stopped none. is.ends.halted stopped (untold written.ending none))),
+              (λ stopped none. is.met.ends.halted stopped (untold written.ending none))),
           le_trans has.covered.calls
               (ended-accounted known names
               (λ (calls : Accounts). items_of calls.full calls.last) contents failed reading mid
               old orders c.end.ensures.finishes.grows c.end.ensures.finishes.ended c.requires.heard before amount
-              took written.senders told written.device sent is.back.came is.obeyed
+              took written.senders told written.device sent is.back.came is.met.obeyed
               report.calls has.told is.back.accounts has.read.reads),
         ),
       );

@@ -1,4 +1,6 @@
+use Rattle.std.proofs.Common.{None}
 use Rattle.handlers.specs.Listed.{listed}
+use Rattle.callworker.specs.Leaving.{MayBeLeft}
 use Rattle.callworker.specs.Runs.{GoesOn, IsOneCall}
 use Rattle.callworker.proofs.worker.Worker.run.Given as goal
 
@@ -11,4 +13,5 @@ invariant-turns g l =
           (λ m. (goal.Method-dyn g (m.vtable, m.value)).stands m.value)
           (listed l.methods) l.fn.run l.run;
       same : IsOneCall l.fn.run l.run;
+      left : MayBeLeft l.fn.run None → MayBeLeft l.run None;
     }

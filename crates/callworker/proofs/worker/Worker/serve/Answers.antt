@@ -18,14 +18,14 @@ returns-clause-answers g c =
     (subst (λ (items : List InPiece). TakesMessages items work.taker.progress [])
     (sym fresh.0) fresh.1) in
     let untold : c.new-run.result.taker.progress.told ≡ None = rw c.new-run.ensures.taker fresh.2 in
-    call_answers _ _ (listed c.args.methods.now) _ work.request c.run.new.run _ _ _ _ refl
+    call_answers _ _ (listed c.args.methods.now) _ work.request c.run-not_live.new.run _ _ _ _ refl
     (λ none. absurd (search rules))
-    (c.run.ensures.same.3 ∙ c.new-run.ensures.head) (ap got c.end.ensures.rx) c.end.ensures.progress
-    (overdue_timed c.new-run.result c.run.new.run work.request.head _ c.new-run.ensures.early
-    c.new-run.ensures.deadline c.run.ensures.same)
-    (run_all _ _ (listed c.args.methods.now) work.request.index c.new-run.result c.run.new.run _ _
+    (c.run-not_live.ensures.same.3 ∙ c.new-run.ensures.head) (ap got c.end.ensures.rx) c.end.ensures.progress
+    (overdue_timed c.new-run.result c.run-not_live.new.run work.request.head _ c.new-run.ensures.early
+    c.new-run.ensures.deadline c.run-not_live.ensures.same)
+    (run_all _ _ (listed c.args.methods.now) work.request.index c.new-run.result c.run-not_live.new.run _ _
     c.new-run.ensures.index_is untouched untold fresh.2 fresh.3 c.new-run.ensures.hand
-    c.run.ensures.over c.new-run.ensures.run c.run.ensures.goes_on)
+    c.run-not_live.ensures.over c.new-run.ensures.run c.run-not_live.ensures.goes_on)
     c.end.ensures.given
 
 pub returns-then-is_none-clause-answers : goal.returns-then-is_none-clause-answers

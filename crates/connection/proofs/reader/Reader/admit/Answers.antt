@@ -1,3 +1,4 @@
+use Rattle.std.proofs.Common.{sym}
 use Rattle.connection.proofs.HeardActs.{with-tally}
 use Rattle.connection.proofs.reader.Reader.admit.Goals as goal
 
@@ -10,5 +11,6 @@ pub returns-in-Err : goal.returns-in-Err
 returns-in-Err g c = record {
   reads =
       with-tally _ _ _ _ _ _ _ _ _ c.in-Err.ensures.uncounted
-      (c.turn_away.ensures.reads c.args.request.head _ c.in-Err.ensures.justified);
+      (rw (sym c.in-Err.ensures.whose)
+      (c.turn_away.ensures.reads c.args.request.head _ c.in-Err.ensures.justified));
 }

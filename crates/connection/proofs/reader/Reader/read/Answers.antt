@@ -19,7 +19,7 @@ use Rattle.std.proofs.Common.{
   true,
   true≢false,
 }
-use Rattle.callparts.specs.declared.report.Ending.TheVariants.{OutOfMemory, ReadFailed}
+use Rattle.callparts.specs.declared.report.Ending.TheVariants.{Drained, OutOfMemory, ReadFailed}
 use Rattle.session.specs.declared.event.InEvent.{InEvent}
 use Rattle.readerloop.specs.Steps.{Lacks, Step, events_of}
 use Rattle.readerloop.proofs.LetGo.{events-append}
@@ -51,6 +51,7 @@ use Rattle.connection.proofs.HeardBytes.{
   some-harsh,
   some-read,
   some-sound,
+  some-undrained,
 }
 use Rattle.connection.proofs.reader.Reader.read.Goals as goal
 
@@ -65,6 +66,9 @@ all-told told more before given is all =
 not-of-read : IsOfInput ReadFailed → ⊥
 not-of-read (inl is) = cc
 not-of-read (inr is) = cc
+
+not-drained-read : ¬ (ReadFailed ≡ Drained)
+not-drained-read drained = cc
 
 none-above : (n : ℕ) → n ≡ 0 → n ≤ 0
 none-above n none = omega (arith, none)
@@ -105,6 +109,7 @@ returns-in-Err-Device-clause-read g c = λ sent carried none.
         covered = h.8;
         failed = λ failed. c.in-Err-Device.ensures.marked (ap Err c.in-Err-Device.field-0-is);
         over = λ input going. absurd (not-of-read input);
+        drained = λ drained going. absurd (not-drained-read drained);
       },
     )
 
@@ -113,6 +118,9 @@ returns-in-Err-Device-clause-grows g c = c.pieces.invariant.0
 
 not-unread : ¬ (OutOfMemory ≡ ReadFailed)
 not-unread failed = cc
+
+not-drained-lack : ¬ (OutOfMemory ≡ Drained)
+not-drained-lack drained = cc
 
 pub returns-in-Err-OutOfMemory-clause-read : goal.returns-in-Err-OutOfMemory-clause-read
 returns-in-Err-OutOfMemory-clause-read g c = λ sent carried none.
@@ -129,6 +137,7 @@ returns-in-Err-OutOfMemory-clause-read g c = λ sent carried none.
         covered = covers-more _ (Lacks ∷ []) h.2 h.8;
         failed = λ failed. absurd (not-unread failed);
         over = λ input going. absurd (true≢false (sym (input-out OutOfMemory input)));
+        drained = λ drained going. absurd (not-drained-lack drained);
       },
     )
 
@@ -153,6 +162,7 @@ returns-then-has_stopped-clause-read g c = λ sent carried none.
         covered = h.8;
         failed = λ failed. absurd (not-by-fault _ ending.input failed);
         over = λ input going. absurd (true≢false going);
+        drained = λ drained going. absurd (true≢false going);
       },
     )
 
@@ -179,6 +189,7 @@ returns-then-count-eq0-clause-read g c = λ sent carried none.
         covered = b.4;
         failed = λ failed. absurd (not-by-fault _ ending.input failed);
         over = λ input going. c.in-Ok.ensures.end c.if-count-eq0.true;
+        drained = λ drained going. inl (c.in-Ok.ensures.end c.if-count-eq0.true);
       },
     )
 
@@ -219,6 +230,7 @@ returns-then-heed_drain-clause-read g c = λ sent carried none.
         over = λ input going.
             absurd (not-drained _ (ending.draining
             (c.heed_drain-in-pieces.ensures.draining c.if-heed_drain.true)) input);
+        drained = λ drained going. inr (c.heed_drain-in-pieces.ensures.word c.if-heed_drain.true);
       },
     )
 
@@ -288,6 +300,9 @@ returns-in-Some-take-clause-read g c = λ sent carried none.
         over = λ input going.
             absurd (some-harsh sent _ _ c.in-Some-take.ending _ h.2 _ _ _ _ carried ended kept h.8
             input);
+        drained = λ drained going.
+            absurd (some-undrained sent _ _ c.in-Some-take.ending _ h.2 _ _ _ _ carried ended kept
+            h.8 drained);
       },
     )
 

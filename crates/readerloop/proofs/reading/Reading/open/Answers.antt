@@ -16,10 +16,10 @@ pub returns-then-self-clause-refused : goal.returns-then-self-clause-refused
 returns-then-self-clause-refused g c =
     subst (λ (b : Bool).
     DecidesOn g.M.Answering.known g.M.Answering.names
-    (Told (events.Open c.args.id c.args.head) (unless_ended c.turn_away.result.ends (refused_by b)))
-    c.turn_away.result c.args.self.now c.turn_away.new.self)
+    (Told (events.Open c.args.id c.args.head) (unless_ended c.decline.result.ends (refused_by b)))
+    c.decline.result c.args.self.now c.decline.new.self)
     (sym c.if-self.true) (calm-as (events.Open c.args.id c.args.head) (TurnedAway Draining) _ _ _
-    refl (c.turn_away.ensures.decides c.args.head))
+    refl (c.decline.ensures.decides c.args.head))
 
 pub returns-in_default-clause-refused : goal.returns-in_default-clause-refused
 returns-in_default-clause-refused g c =

@@ -12,10 +12,10 @@ returns-then-part g c = record {
   stays =
       stays-by g.W.ConnWrite.contents g.W.ConnWrite.failed c.args.self.now _ refl
       (λ kept. absurd (true≢false kept)) (record { input = refl; closed = refl; way = refl })
-      (parts-on g.W.ConnWrite.contents g.W.ConnWrite.failed c.args.last
+      (parts-on g.W.ConnWrite.contents g.W.ConnWrite.failed c.id.result
       c.args.self.now.inbox.has_lost c.args.self.now _
       (subst (λ (said : Bool).
-      WritesOn got g.W.ConnWrite.contents g.W.ConnWrite.failed (parting c.args.last said)
+      WritesOn got g.W.ConnWrite.contents g.W.ConnWrite.failed (parting c.id.result said)
       c.args.self.now.frames c.part.new.self) c.if-part.true c.part.ensures.wrote)
       (ap (λ senders. senders.items) c.part.ensures.senders) (record { numbers = refl; way = refl })
       refl (c.part.ensures.dead c.if-part.true).0 (ap (λ w. w.standing) c.part.ensures.rest));
@@ -29,7 +29,7 @@ returns-else-part g c = record {
       (still-on g.W.ConnWrite.contents g.W.ConnWrite.failed c.args.self.now.inbox.has_lost
       c.args.self.now _
       (subst (λ (said : Bool).
-      WritesOn got g.W.ConnWrite.contents g.W.ConnWrite.failed (parting c.args.last said)
+      WritesOn got g.W.ConnWrite.contents g.W.ConnWrite.failed (parting c.id.result said)
       c.args.self.now.frames c.part.new.self) c.if-part.false c.part.ensures.wrote)
       (goes-none c.args.self.now _ (record { numbers = refl; way = refl }) refl
       (ap (λ senders. senders.items) c.part.ensures.senders)) c.part.ensures.lives

@@ -1,3 +1,4 @@
+use Rattle.std.proofs.Common.{◌∙◌, refl}
 use Rattle.writerloop.proofs.WrittenInbox.{leads-here, leads-then}
 use Rattle.writerloop.proofs.writing.Writing.warn.Goals as goal
 
@@ -6,8 +7,11 @@ returns-then-not-self g c = record {
   leads =
       leads-then g.W.ConnWrite.contents g.W.ConnWrite.failed _ _ _ c.warn_by_goaway.ensures.leads
       c.warn_by_ping.ensures.leads;
+  inbox = c.warn_by_ping.ensures.inbox ∙ c.warn_by_goaway.ensures.inbox;
 }
 
 pub returns-else-not-self : goal.returns-else-not-self
-returns-else-not-self g c =
-    record { leads = leads-here g.W.ConnWrite.contents g.W.ConnWrite.failed c.args.self.now }
+returns-else-not-self g c = record {
+  leads = leads-here g.W.ConnWrite.contents g.W.ConnWrite.failed c.args.self.now;
+  inbox = refl;
+}

@@ -1,6 +1,6 @@
 use Rattle.std.proofs.Common.{◌∙◌, sym, arith}
 use Rattle.connbook.proofs.StepLemmas.{past_call}
-use Rattle.connbook.proofs.conn_book.ConnBook.receive.Goals as goal
+use Rattle.connbook.proofs.conn_book.ConnBook.count.Goals as goal
 
 pub returns-then-ne-clause-over_call : goal.returns-then-ne-clause-over_call
 returns-then-ne-clause-over_call g c = λ is.
