@@ -5,6 +5,7 @@ ghost use Rattle.std.specs.Prelude.{◌≡◌, ◌<◌};
 use crate::log::LoggedConn;
 use crate::reporting::Report;
 use crate::stopping::{Stop, stand_by};
+use connbook::StoppedBook;
 use connection::{
     CallAccount, ConnReport, Drainer, Ending, Gate, ServedConn, serve_connection, serve_undrained,
 };
@@ -169,7 +170,7 @@ impl<R: Wait + Clock, P: Report> Gate for Door<R, P> {
 
     fn trailers_written(&self, _id: StreamId) {}
 
-    fn writing_ended(&self) {
+    fn writing_ended(&self, _stopped: &StoppedBook) {
         self.link.shut();
     }
 

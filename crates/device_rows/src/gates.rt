@@ -1,6 +1,7 @@
 //! Gates that hold the first call of a connection back until its second was answered, or that have
 //! the connection drained.
 
+use connbook::StoppedBook;
 use connection::Gate;
 use h2frame::StreamId;
 use lane::Bell;
@@ -52,7 +53,7 @@ impl Gate for RefuseGate {
         }
     }
 
-    fn writing_ended(&self) {}
+    fn writing_ended(&self, _stopped: &StoppedBook) {}
 }
 
 /// Keeps the first call's worker until the second call was answered.
@@ -105,7 +106,7 @@ impl<R: Wait + Drop> Gate for KeepGate<R> {
         }
     }
 
-    fn writing_ended(&self) {}
+    fn writing_ended(&self, _stopped: &StoppedBook) {}
 }
 
 /// At one of its turns another thread drains the connection, and the turn waits for that.
@@ -181,5 +182,5 @@ impl<R: Wait + Drop> Gate for DrainGate<R> {
 
     fn trailers_written(&self, _id: StreamId) {}
 
-    fn writing_ended(&self) {}
+    fn writing_ended(&self, _stopped: &StoppedBook) {}
 }

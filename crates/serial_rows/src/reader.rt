@@ -50,17 +50,17 @@ impl<'a, R: Wait + Clock> Serial<'a, R> {
             InEvent::Data(id, bytes, flow) => {
                 let padding = flow.saturating_sub(u32::try_from(bytes.len())?);
                 let mut book = self.shared.book.lock(self.rt);
-                let receipt = book.receive(id, flow, padding, &mut self.came);
-                self.reading.data(id, bytes, receipt)
+                let counted = book.receive(id, flow, padding, &mut self.came);
+                self.reading.data(bytes, counted)
             }
             InEvent::Loose(flow) => {
                 let mut book = self.shared.book.lock(self.rt);
-                let receipt = book.receive(0, flow, 0, &mut self.came);
-                self.reading.loose(receipt)
+                let counted = book.receive(0, flow, 0, &mut self.came);
+                self.reading.loose(counted)
             }
             InEvent::End(id) => {
-                self.shared.book.lock(self.rt).end_remote(id);
-                self.reading.end_half(id);
+                let mut book = self.shared.book.lock(self.rt);
+                self.reading.end_half(&mut book, id);
                 return Ok(());
             }
             InEvent::Reset(id, code) => self.reading.reset(id, code),
@@ -88,8 +88,8 @@ impl<'a, R: Wait + Clock> Serial<'a, R> {
                 self.admitted += 1;
                 self.start(request)
             }
-            Err(fault) => {
-                let decided = self.reading.turn_away(id, fault);
+            Err(refused) => {
+                let decided = self.reading.turn_away(&refused);
                 self.act(decided)
             }
         }
@@ -165,14 +165,15 @@ impl<'a, R: Wait + Clock> Serial<'a, R> {
         if let Some(order) = decided.order {
             self.put(order)?;
         }
-        if let Some(cut) = decided.to_shut {
-            self.reading.shut(cut);
-            self.shared.book.lock(self.rt).cut(cut.id);
+        if let Some(half) = decided.to_shut {
+            let mut book = self.shared.book.lock(self.rt);
+            self.reading.shut(&mut book, half);
         }
         if decided.ends.is_some() {
             self.ended = decided.ends;
             self.events.clear();
-            self.shared.book.lock(self.rt).stop();
+            let mut book = self.shared.book.lock(self.rt);
+            let _stopped = self.reading.stop(&mut book);
         }
         Ok(())
     }

@@ -176,7 +176,7 @@ impl<'a, R: Wait + Clock> Serial<'a, R> {
             }
         }
         if let Some((id, turn)) = self.course.reset {
-            if turns >= turn && self.last() >= id && self.is_reading() {
+            if turns >= turn && self.last().id() >= id && self.is_reading() {
                 self.course.reset = None;
                 let mut frame = CANCEL;
                 frame[5..9].copy_from_slice(&id.to_be_bytes());

@@ -6,7 +6,7 @@ use crate::runs::Course;
 use crate::worker::InTurns;
 use anyhow::Result;
 use callparts::{Accounts, Ending, NewRegister, Request};
-use connbook::ConnBook;
+use connbook::{ConnBook, OpenedBook};
 use device::StdDevice;
 use h2frame::StreamId;
 use handlers::Methods;
@@ -107,7 +107,12 @@ impl<'a, R: Wait + Clock> Serial<'a, R> {
         let (received, came) = Blank::new(1).open::<Brand>();
         let (admitted, admits) = Blank::new(1).open::<Brand>();
         let (announced, told) = Blank::new(1).open::<Brand>();
-        let book = ConnBook::new(alloc, received, admitted, announced);
+        let OpenedBook {
+            book,
+            reader_key,
+            writer_key,
+            ..
+        } = ConnBook::new(alloc, received, admitted, announced);
         let (orders, taking) = Ring::open(alloc, course.orders)?;
         let (going, home) = Ring::open(alloc, course.home)?;
         let (register, front) = NewRegister::new().named::<Brand>();
@@ -126,7 +131,7 @@ impl<'a, R: Wait + Clock> Serial<'a, R> {
             admits,
             core: InCore::new(alloc),
             events: VecDeque::new(alloc),
-            reading: Reading::new(alloc, register, front, home),
+            reading: Reading::new(alloc, reader_key, register, front, home),
             waiting: None,
             admitted: 0,
             unserved: 0,
@@ -140,7 +145,7 @@ impl<'a, R: Wait + Clock> Serial<'a, R> {
             turns: 0,
             ran_out: false,
             told,
-            writing: Writing::new(alloc, taking, going, device, &was),
+            writing: Writing::new(alloc, writer_key, taking, going, device, &was),
             filled: None,
             is_idle: false,
             is_over: false,
@@ -166,6 +171,8 @@ impl<'a, R: Wait + Clock> Serial<'a, R> {
     /// What came of it. What workers and writer had of calls comes back, and all are settled.
     pub fn into_ran(self) -> Result<RunOutcome> {
         let Serial {
+            rt,
+            shared,
             mut reading,
             mut writing,
             mut orders,
@@ -179,7 +186,11 @@ impl<'a, R: Wait + Clock> Serial<'a, R> {
             turns,
             ..
         } = self;
-        let _ = writing.flush();
+        let marked = {
+            let mut book = shared.book.lock(rt);
+            writing.mark_ends(&mut book)
+        };
+        let _ = writing.flush(marked);
         let mut written = writing.into_end();
         let hired = workers.len();
         while let Some(worker) = workers.pop() {

@@ -9,6 +9,7 @@ use callparts::{
 };
 use callrun::{CallRun, Turn};
 use callworker::{OpenGate, Ways, Worker};
+use connbook::CallKey;
 use h2frame::StreamId;
 use handlers::Methods;
 use lane::End;
@@ -68,7 +69,7 @@ impl InTurns {
 /// A call that is being answered.
 #[derive(Drop)]
 struct RunningCall {
-    id: StreamId,
+    key: CallKey,
     number: CallNumber<Brand>,
     run: CallRun<InLane, OutLane>,
     turns: u64,
@@ -78,10 +79,10 @@ struct RunningCall {
 impl RunningCall {
     fn new(alloc: Global, methods: &Methods, job: Job<Brand>) -> RunningCall {
         let (work, number) = (job.work, job.number);
-        let (request, taker, giver) = (work.request, work.taker, work.giver);
-        let (id, index, head) = (request.id, request.index, request.head);
+        let (request, taker, giver, key) = (work.request, work.taker, work.giver, work.key);
+        let (index, head) = (request.index, request.head);
         RunningCall {
-            id,
+            key,
             number,
             run: CallRun::new(alloc, methods, index, head, taker, giver, request.opened),
             turns: 0,
@@ -92,7 +93,7 @@ impl RunningCall {
     /// A turn; one that finds no memory, not even for trailers that say so, leaves the call.
     fn turn(&mut self, methods: &Methods, clock: u64, lacks: Option<(StreamId, u64)>) -> Turn {
         if let Some((id, turns)) = lacks {
-            if self.id == id && self.turns >= turns {
+            if self.key.id() == id && self.turns >= turns {
                 self.run.leave(methods);
                 return Turn::Over;
             }
@@ -102,16 +103,16 @@ impl RunningCall {
         self.run.turn(methods, now)
     }
 
-    /// What its worker hands back.
-    fn into_finished(self) -> FinishedJob<Brand> {
-        let (number, run, bytes) = (self.number, self.run, self.bytes);
+    /// What its worker hands back, and the key by which the call is left.
+    fn into_finished(self) -> (FinishedJob<Brand>, CallKey) {
+        let (number, run, bytes, key) = (self.number, self.run, self.bytes, self.key);
         let (replies, reply_bytes) = run.given();
         let (taker, end, status) = run.into_ends();
         let given = match end {
             End::Open(giver) => giver.leave(),
             End::Shut(shut) => shut,
         };
-        FinishedJob {
+        let finished = FinishedJob {
             number,
             taker,
             given,
@@ -121,7 +122,8 @@ impl RunningCall {
                 replies,
                 reply_bytes,
             },
-        }
+        };
+        (finished, key)
     }
 }
 
@@ -151,20 +153,19 @@ impl<'a, R: Wait + Clock> Serial<'a, R> {
         let mut book = self.shared.book.lock(self.rt);
         if credit > 0 {
             // Where the call is no longer live, its bytes were returned already.
-            let _ = book.return_credit(call.id, credit);
+            let _ = book.return_credit(&call.key, credit);
         }
         if turn != Turn::Over {
-            if book.is_live(call.id) {
+            if book.not_live(&call.key).is_none() {
                 worker.call = Some(call);
                 return Ok(false);
             }
             while call.run.turn(self.methods, 0) == Turn::Went {}
             call.run.leave(self.methods);
         }
-        let id = call.id;
-        let finished = call.into_finished();
+        let (finished, key) = call.into_finished();
         if finished.status.is_none() {
-            book.cut(id);
+            book.leave(&key);
         }
         worker.hand_back(finished)?;
         Ok(true)

@@ -1,8 +1,9 @@
 //! The steps of the writer, as its thread takes them.
 
 use crate::serial::Serial;
-use limits::MAX_LIVE;
+use connbook::LastAdmitted;
 use h2frame::StreamId;
+use limits::MAX_LIVE;
 use std::sync::Wait;
 use std::time::Clock;
 use writerloop::{AfterWrite, FillEnd, OrderStep, WaitingOrder};
@@ -24,13 +25,16 @@ impl<'a, R: Wait + Clock> Serial<'a, R> {
         }
         let last = match self.writing.look() {
             WaitingOrder::Nothing => return false,
-            WaitingOrder::Window => self.last(),
-            WaitingOrder::Goaway | WaitingOrder::Other => 0,
+            WaitingOrder::Window => Some(self.last()),
+            WaitingOrder::Goaway | WaitingOrder::Other => None,
         };
         match self.writing.take_next(last) {
             OrderStep::Nothing | OrderStep::Early => return false,
             OrderStep::One => {}
-            OrderStep::Ends(id) => self.shared.book.lock(self.rt).cut(id),
+            OrderStep::Ends(ended) => {
+                let mut book = self.shared.book.lock(self.rt);
+                self.writing.cut(&mut book, ended);
+            }
             OrderStep::Stops => self.stop(),
             OrderStep::Lost => {
                 let last = self.last();
@@ -43,7 +47,7 @@ impl<'a, R: Wait + Clock> Serial<'a, R> {
     }
 
     /// The greatest stream that was admitted.
-    pub fn last(&self) -> StreamId {
+    pub fn last(&self) -> LastAdmitted {
         self.shared.book.lock(self.rt).last()
     }
 
@@ -69,9 +73,8 @@ impl<'a, R: Wait + Clock> Serial<'a, R> {
             return;
         }
         let mut book = self.shared.book.lock(self.rt);
-        let increment = book.take_due_credit(id, &mut self.told);
-        if increment > 0 {
-            self.writing.grant(id, increment);
+        if let Some(credit) = book.take_due_credit(id, &mut self.told) {
+            self.writing.grant(credit);
         }
     }
 
@@ -102,10 +105,11 @@ impl<'a, R: Wait + Clock> Serial<'a, R> {
             return;
         }
         self.release();
-        for id in self.writing.ended() {
-            self.shared.book.lock(self.rt).end_local(*id);
-        }
-        if self.writing.flush().is_err() {
+        let marked = {
+            let mut book = self.shared.book.lock(self.rt);
+            self.writing.mark_ends(&mut book)
+        };
+        if self.writing.flush(marked).is_err() {
             self.stop();
         }
         if let Some((filled, is_silent)) = self.filled.take() {
@@ -121,10 +125,9 @@ impl<'a, R: Wait + Clock> Serial<'a, R> {
         match rest {
             AfterWrite::None => {}
             AfterWrite::Idle => {
-                for place in 0..self.writing.calls() {
-                    if let Some(id) = self.writing.stuck(place) {
-                        self.shared.book.lock(self.rt).cut(id);
-                    }
+                {
+                    let mut book = self.shared.book.lock(self.rt);
+                    self.writing.cut_stuck(&mut book);
                 }
                 self.is_idle = !self.writing.reset_left();
             }
@@ -139,7 +142,9 @@ impl<'a, R: Wait + Clock> Serial<'a, R> {
 
     /// Nothing more is written: no call is live.
     fn stop(&mut self) {
-        self.shared.book.lock(self.rt).stop();
-        self.shared.stop();
+        let mut book = self.shared.book.lock(self.rt);
+        if self.writing.stop(&mut book).is_some() {
+            self.shared.stop();
+        }
     }
 }
