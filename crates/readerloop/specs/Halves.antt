@@ -15,11 +15,15 @@ use Rattle.std.specs.Prelude.{
   Some,
   None,
   All,
+  ◌≤◌,
+  length,
 }
 use Rattle.callbox.specs.declared.piece.InPiece.{InPiece}
 use Rattle.callbox.specs.declared.piece.InPiece.TheVariants as in_piece
 use Rattle.callbox.specs.InSides.{bytes_of, pieces_of}
-use Rattle.lane.specs.RingLane.{LaneName, in_name, put_in, put_shut, shut_name}
+use Rattle.lane.specs.RingLane.{LaneName, in_name, put_in, put_shut, room_of, shut_name}
+use Rattle.lane.specs.declared.fault.PutFault.{PutFault}
+use Rattle.lane.specs.declared.fault.PutFault.TheVariants.{Full, NotTaken, OutOfMemory}
 use Rattle.readerloop.specs.declared.feeder_half.FeederHalf.{FeederHalf}
 use Rattle.readerloop.specs.declared.feeder_half.FeederHalf.TheVariants.{
   Open,
@@ -50,6 +54,17 @@ lane_of (Open feeder) = Some (in_name feeder.tx)
 lane_of (ShutHalf end) = Some (shut_name end.shut)
 lane_of (Missed feeder) = Some (in_name feeder.tx)
 lane_of Moving = None
+
+-- A piece is refused only for want of memory, or where as many pieces were put as the lane has room
+-- for.
+abbrev pub MayRefuse : {T : Type 0} → FeederHalf → PutFault T → Type 0
+MayRefuse half (OutOfMemory item) = Unit {0}
+MayRefuse half (NotTaken item) = ⊥
+MayRefuse (Open feeder) (Full item waiting) =
+    room_of (in_name feeder.tx) ≤ length (put_in feeder.tx)
+MayRefuse (ShutHalf end) (Full item waiting) = ⊥
+MayRefuse (Missed feeder) (Full item waiting) = ⊥
+MayRefuse Moving (Full item waiting) = ⊥
 
 -- whether more may be fed
 abbrev pub is_open : FeederHalf → Bool

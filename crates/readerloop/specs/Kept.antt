@@ -30,7 +30,8 @@ use Rattle.handlers.specs.declared.step.MethodStep.{MethodStep as Answer}
 use Rattle.readerloop.specs.declared.call.Call.{Call}
 use Rattle.readerloop.specs.declared.calls.Calls.{Calls}
 use Rattle.readerloop.specs.Calls.{IsCall}
-use Rattle.readerloop.specs.Halves.{is_open, shown, unfed}
+use Rattle.lane.specs.declared.fault.PutFault.{PutFault}
+use Rattle.readerloop.specs.Halves.{MayRefuse, is_open, shown, unfed}
 use Rattle.readerloop.specs.Orders.{greatest}
 use Rattle.readerloop.specs.Reports.{IsAccounted}
 use Rattle.readerloop.specs.Steps.{AdmitsNoMore, IsRising, Step, last_of, reported}
@@ -58,6 +59,12 @@ module _ {J : Type 0} {book : Ghosts J} where
 
   abbrev pub fed_at : ℕ → Calls J book → Option ℕ
   fed_at place calls = fed_in (slice_get (unsettled calls) place)
+
+  -- a call of this stream may refuse a piece so
+  abbrev pub MayRefuseOn : {T : Type 0} → ℕ → Calls J book → PutFault T → Type 0
+  MayRefuseOn id calls fault =
+      (place : ℕ) × (call : Call J book) × (slice_get (unsettled calls) place ≡ Some call)
+      × (call.id ≡ id) × MayRefuse call.half fault
 
   -- no more may be fed to any of them
   abbrev pub AreCut : List (Call J book) → Type 0

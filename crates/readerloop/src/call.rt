@@ -13,6 +13,7 @@ ghost use Rattle.std.specs.Prelude.{
   false,
   None,
   Some,
+  IfErr,
   IsSome,
   OnErr,
   OnOk,
@@ -25,7 +26,7 @@ ghost use Rattle.connbook.specs.declared.answers.Receipt.TheVariants.{Feed};
 ghost use Rattle.lane.specs.RingLane.{put_shut};
 ghost use Rattle.session.specs.declared.event.InEvent.TheVariants as events;
 ghost use Rattle.callparts.specs.Numbers.{OptionalName_set, in_lane_at};
-ghost use Rattle.readerloop.specs.Halves.{is_open, lane_of};
+ghost use Rattle.readerloop.specs.Halves.{MayRefuse, is_open, lane_of};
 ghost use Rattle.readerloop.specs.Steps.{Misses, Received, ShutAs, Step, Told, closing_at};
 
 use crate::feeder_half::FeederHalf;
@@ -126,6 +127,7 @@ impl<J: Naming> Call<J> {
             → IsCall M.known M.names (carried_in sent) told self.old
             → IsCall M.known M.names (carried_in sent) told self.new) }
         ensures due { OnErr result ((piece ≢ []) × (is_open self.old.half ≡ true)) }
+        ensures refused { IfErr result (λ fault. MayRefuse self.old.half fault) }
         ensures id { self.new.id ≡ self.old.id }
         ensures place { self.new.place ≡ self.old.place }
         ensures ends { HasSameEnds self.old self.new }

@@ -16,6 +16,7 @@ ghost use Rattle.std.specs.Prelude.{
   None,
   Some,
   All,
+  IfErr,
   IfNone,
   IfSome,
   OnErr,
@@ -40,6 +41,7 @@ ghost use Rattle.readerloop.specs.Kept.{
   IsFresh,
   Keeps,
   Kept,
+  MayRefuseOn,
   accounts_of,
   fed_at,
   fed_but,
@@ -190,6 +192,7 @@ impl<J: Naming> Calls<J> {
             → Keeps M.known M.names (carried_in sent) self.old self.new) }
         ensures due { OnErr result ((sent : List SentItems) (told : List Step)
             → Kept M.known M.names (carried_in sent) told self.old → IsDue id piece told) }
+        ensures refused { IfErr result (λ fault. MayRefuseOn id self.old fault) }
         ensures awaits { AwaitsAll (unsettled self.old) (unsettled self.new) }
     {
         let Some(place) = self.find(id) else {

@@ -11,6 +11,7 @@ ghost use Rattle.std.specs.Prelude.{
   false,
   None,
   Some,
+  IfErr,
   IsSome,
   OnOk,
   OnErr,
@@ -42,7 +43,7 @@ pub enum FeederHalf {
 
 impl FeederHalf {
     ghost use Rattle.lane.specs.End.{of_end};
-    ghost use Rattle.readerloop.specs.Halves.{IsHalf, grown, is_closed, is_open, lane_of, shown};
+    ghost use Rattle.readerloop.specs.Halves.{IsHalf, MayRefuse, grown, is_closed, is_open, lane_of, shown};
 
     /// Whether the client may send more.
     pub fn is_open(&self) -> bool
@@ -68,6 +69,7 @@ impl FeederHalf {
         ensures kept { OnErr result (shown self.new ≡ shown self.old) }
         ensures open { OnErr result (is_open self.old ≡ true) }
         ensures some { OnErr result (piece ≢ []) }
+        ensures refused { IfErr result (λ fault. MayRefuse self.old fault) }
     {
         if piece.is_empty() {
             return Ok(());

@@ -25,7 +25,7 @@ ghost use Rattle.std.specs.Prelude.{
 };
 ghost use Rattle.callhead.specs.declared.head.CallHead.{CallHead as Head};
 ghost use Rattle.callhead.specs.StatusFields.{refusal_of, unknown_method as unknown_fields};
-ghost use Rattle.lane.specs.RingLane.{got, in_name, out_name, put_in};
+ghost use Rattle.lane.specs.RingLane.{got, in_name, out_name, put_in, room_of};
 ghost use Rattle.callparts.specs.Workers.{IsFreshWork};
 ghost use Rattle.callparts.specs.declared.report.Ending.TheVariants as ending;
 ghost use Rattle.outwriter.specs.Steps.{order_of};
@@ -465,6 +465,7 @@ fn open_lanes<J: Naming>(
 ) -> Result<Ends<J>, AllocError>
     requires own { key.id ≡ request.id }
     ensures request { IfOk result (λ ends. ends.job.work.request ≡ request) }
+    ensures room { IfOk result (λ ends. room_of (in_name ends.feeder.tx) ≡ 65536) }
     ensures fresh { IfOk result (λ ends. IsFreshWork ends.job.work) }
     ensures one_lane { IfOk result
         (λ ends. in_name ends.feeder.tx ≡ out_name ends.job.work.taker.rx) }

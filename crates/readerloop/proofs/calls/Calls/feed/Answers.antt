@@ -1,4 +1,6 @@
-use Rattle.std.proofs.Common.{◌∷◌, subst, sym}
+use Rattle.std.proofs.Common.{◌∷◌, length, refl, subst, sym}
+use Rattle.std.proofs.lemmas.Option.{slice_get_read}
+use Rattle.std.proofs.lemmas.Result.{err_from_is_err_and}
 use Rattle.connbook.specs.declared.answers.Receipt.TheVariants.{Feed}
 use Rattle.session.specs.declared.event.InEvent.TheVariants as events
 use Rattle.readerloop.specs.Calls.{IsCall, carried_in}
@@ -67,3 +69,18 @@ returns-in_err-feed-clause-awaits g c =
     awaits-same (unsettled c.args.self.now) c.in-Some.place c.in-Some-get_mut.call.now
     c.feed.new.self c.in-Some-get_mut.ensures.item.3.0 c.in-Some-get_mut.ensures.value
     c.feed.ensures.ends
+
+pub returns-in_err-feed-clause-refused : goal.returns-in_err-feed-clause-refused
+returns-in_err-feed-clause-refused g c =
+    let passed = err_from_is_err_and c.from_residual.result c.from_residual.ensures.1 in
+    let calls = c.args.self.now in
+    let call = c.in-Some-get_mut.call.now in
+    rw (passed.1, passed.2) (
+      c.in-Some.place,
+      call,
+      slice_get_read (unsettled calls) (length (unsettled calls)) c.in-Some.place call refl
+          c.in-Some-get_mut.ensures.item.3.0 c.in-Some-get_mut.ensures.value,
+      found-id (unsettled calls) c.in-Some.place c.args.id call (sym c.in-Some.ensures)
+          c.in-Some-get_mut.ensures.value,
+      c.in_err-feed.ensures.refused,
+    )
